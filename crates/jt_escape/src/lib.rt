@@ -1,0 +1,6 @@
+//! Framing: check octets, escapes and frames.
+#![tactic(auto)]
+
+mod framing;
+
+pub use framing::check;
