@@ -1,6 +1,13 @@
-//! Framing: check octets, escapes and frames.
+//! Framing: check octets, escapes, frames, and the contents of a stream.
 #![tactic(auto)]
 
 mod framing;
+mod laws;
+mod splitter;
 
-pub use framing::check;
+pub use framing::{check, escape_into};
+pub use laws::{law_first_frame, law_frames, law_front, law_one_end, law_one_list, law_one_octet};
+pub use splitter::{Split, Splitter};
+
+#[cfg(test)]
+mod tests;

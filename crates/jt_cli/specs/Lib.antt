@@ -1,0 +1,4 @@
+pub mod Answer
+pub mod Fill
+pub mod Line
+pub mod View

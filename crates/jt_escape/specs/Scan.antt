@@ -1,0 +1,88 @@
+-- Going through a stream octet by octet: the state that is kept, the next state, and the events on the way. A step
+-- function for the proofs.
+use Rattle.std.specs.Prelude.{Option, Some, None, ℕ, ◌+◌, List, [], ◌∷◌, ◌++◌, length, ◌==◌, if◌then◌else◌}
+use Rattle.jt_value.specs.declared.refusal.Why.TheVariants as why
+use Rattle.jt_value.specs.declared.refusal.Refusal.{Refusal}
+use Rattle.jt_escape.specs.declared.splitter.Mode.{Mode}
+use Rattle.jt_escape.specs.declared.splitter.Mode.TheVariants.{Outside, Straying, Inside, Escaping, Skipping}
+use Rattle.jt_escape.specs.Span.{Event, Whole, refusal_at, refused_at}
+
+-- where the stream stands, the content that is kept, how many octets came, and the place of the last opening flag
+pub record State : Type 0 where
+  pub mode : Mode
+  pub content : List ℕ
+  pub place : ℕ
+  pub opened : ℕ
+
+abbrev pub start : State
+start = record { mode = Outside; content = []; place = 0; opened = 0 }
+
+-- a frame opens with this octet
+abbrev pub opening : State → State
+opening state = record { mode = Inside; content = []; place = state.place + 1; opened = state.place }
+
+-- the octet is in no content
+abbrev pub passing : State → Mode → State
+passing state mode = record { mode = mode; content = state.content; place = state.place + 1; opened = state.opened }
+
+-- a content octet is kept
+abbrev pub keeping : State → ℕ → State
+keeping state octet =
+    record { mode = Inside; content = state.content ++ octet ∷ []; place = state.place + 1; opened = state.opened }
+
+abbrev pub after_in : Mode → State → ℕ → State
+after_in Outside state octet = if octet == 0x7E then opening state else passing state Straying
+after_in Straying state octet = if octet == 0x7E then opening state else passing state Straying
+after_in Inside state octet =
+    if octet == 0x7E then (if length state.content == 0 then opening state else passing state Outside)
+    else if length state.content == 1045 then passing state Skipping
+    else if octet == 0x7D then passing state Escaping
+    else keeping state octet
+after_in Escaping state octet =
+    if octet == 0x01 then keeping state 0x7D
+    else if octet == 0x02 then keeping state 0x7E
+    else if octet == 0x7E then passing state Outside
+    else passing state Skipping
+after_in Skipping state octet = if octet == 0x7E then passing state Outside else passing state Skipping
+
+-- the state after one more octet
+unfoldable pub after : State → ℕ → State
+after state octet = after_in state.mode state octet
+
+abbrev pub events_in : Mode → State → ℕ → List Event
+events_in Outside state octet = if octet == 0x7E then [] else refused_at why.Stray state.place ∷ []
+events_in Straying state octet = []
+events_in Inside state octet =
+    if octet == 0x7E
+    then (if length state.content == 0 then refused_at why.EmptyFrame state.opened ∷ [] else Whole state.opened state.content ∷ [])
+    else if length state.content == 1045 then refused_at why.TooLong state.place ∷ []
+    else []
+events_in Escaping state octet =
+    if octet == 0x01 then [] else if octet == 0x02 then [] else refused_at why.BadEscape state.place ∷ []
+events_in Skipping state octet = []
+
+-- the events of one more octet, at most one
+unfoldable pub events_of : State → ℕ → List Event
+events_of state octet = events_in state.mode state octet
+
+-- the state after these octets
+abbrev pub run : State → List ℕ → State
+run state [] = state
+run state (octet ∷ more) = run (after state octet) more
+
+-- the events of these octets
+abbrev pub scan : State → List ℕ → List Event
+scan state [] = []
+scan state (octet ∷ more) = events_of state octet ++ scan (after state octet) more
+
+-- the events of a stream, as a function
+abbrev pub all_events : List ℕ → List Event
+all_events stream = scan start stream
+
+-- the refusal of a stream that ends here
+abbrev pub end_in : Mode → ℕ → Option Refusal
+end_in Outside place = None
+end_in Straying place = None
+end_in Inside place = Some (refusal_at why.Truncated place)
+end_in Escaping place = Some (refusal_at why.Truncated place)
+end_in Skipping place = None

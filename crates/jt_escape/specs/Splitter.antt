@@ -1,0 +1,24 @@
+-- What a splitter stands for, and what a call did to it. To be believed.
+use Rattle.std.specs.Prelude.{◌≡◌, ℕ, List, [], ◌∷◌, ◌++◌}
+use Rattle.jt_escape.specs.declared.splitter.Split.{Split}
+use Rattle.jt_escape.specs.declared.splitter.Split.TheVariants as split
+use Rattle.jt_escape.specs.Span.{Event, Whole, Refused, Events}
+use Rattle.jt_escape.specs.Scan.{State, start, run}
+
+-- The octets of this stream were taken. Nothing that is promised of the answers rests on this definition: it holds of
+-- a new splitter and the empty stream, and each call carries it on.
+pub record StandsFor (state : State) (stream : List ℕ) : Type 0 where
+  pub taken : state ≡ run start stream
+
+-- These octets were taken: whatever stream the splitter stood for, it now stands for that stream and then the octets,
+-- and to the events of that stream these were added.
+pub record Takes (old new : State) (octets : List ℕ) (gained : List Event) : Type 0 where
+  pub stands : (stream : List ℕ) → StandsFor old stream → StandsFor new (stream ++ octets)
+  pub events : (stream : List ℕ) (before : List Event) → StandsFor old stream → Events stream before
+      → Events (stream ++ octets) (before ++ gained)
+
+-- the events that an answer tells of the splitter that gave it
+abbrev pub told : Split → State → List Event
+told split.More state = []
+told split.Content state = Whole state.opened state.content ∷ []
+told (split.Refused refusal) state = Refused refusal ∷ []

@@ -1,0 +1,264 @@
+//! Contents and refusals of a stream that comes octet by octet.
+
+ghost use Rattle.std.specs.Prelude.{◌≡◌, ◌<◌, ◌≤◌, ◌+◌, ◌^◌, [], ◌∷◌, List, ℕ, length};
+ghost use Rattle.jt_value.specs.declared.refusal.Refusal.{Refusal};
+ghost use Rattle.jt_escape.specs.declared.splitter.Mode.TheVariants.{Outside, Inside, Escaping};
+ghost use Rattle.jt_escape.specs.Span.{Ends, refusal_at};
+ghost use Rattle.jt_escape.specs.Scan.{opening, passing, keeping, after_in, after, events_in, events_of, end_in};
+ghost use Rattle.jt_escape.specs.Splitter.{StandsFor, Takes, told};
+
+use crate::framing::{CONTENT_LIMIT, ESCAPE, ESCAPE_CODE, FLAG, FLAG_CODE};
+use arrayvec::ArrayVec;
+use jt_value::{Refusal, Why};
+use std::marker::Model;
+
+/// Where in its stream a splitter stands.
+#[derive(Clone, Copy, Debug, PartialEq, Eq)]
+pub enum Mode {
+    /// Outside all frames.
+    Outside,
+    /// Outside all frames, in a run of octets that was refused.
+    Straying,
+    /// Inside a frame.
+    Inside,
+    /// Inside a frame, with an escape begun.
+    Escaping,
+    /// In a refused frame, up to the next flag.
+    Skipping,
+}
+
+/// What an octet completes.
+#[derive(Clone, Copy, Debug, PartialEq, Eq)]
+pub enum Split {
+    /// Nothing yet.
+    More,
+    /// A content, which `content` and `opened` give.
+    Content,
+    /// A refusal, at its place in the stream and with `inside` 0: `Stray`, `EmptyFrame`, `BadEscape` or `TooLong`.
+    Refused(Refusal),
+}
+
+/// Cuts a stream into contents and refusals. The rules are this project's own, over the standard's frames. Places count
+/// the stream's octets from 0.
+///
+/// Between two flags stands a content of 1 to 1,045 octets. A run of octets outside all frames is refused once, at the
+/// first of them. A flag directly after an opening flag refuses the first and opens a frame itself. A wrong octet after
+/// an escape, and an octet of content past 1,045, is refused at its place, and what follows is skipped up to the next
+/// flag, which opens no frame.
+#[derive(Drop)]
+pub struct Splitter {
+    mode: Mode,
+    content: ArrayVec<u8, CONTENT_LIMIT>,
+    place: u64,
+    opened: u64,
+}
+
+impl Model for Splitter {
+    ghost use Rattle.std.specs.Prelude.{◌≡◌, ◌<◌, length};
+    ghost use Rattle.jt_escape.specs.declared.splitter.Mode.TheVariants.{Escaping};
+    ghost use Rattle.jt_escape.specs.Scan.{State};
+
+    ghost Value = { State };
+
+    ghost view = { λ splitter. record {
+      mode = splitter.mode;
+      content = splitter.content.items;
+      place = splitter.place;
+      opened = splitter.opened;
+    } };
+
+    ghost invariant = { λ splitter. splitter.mode ≡ Escaping → length splitter.content.items < 1045 };
+}
+
+fn refused(why: Why, at: u64) -> Split
+    ensures { result ≡ Split.Refused (refusal_at why at) }
+{
+    Split::Refused(Refusal { at, inside: 0, why })
+}
+
+impl Splitter {
+    /// A splitter at the beginning of a stream.
+    pub fn new() -> Splitter
+        ensures stream { StandsFor result [] }
+        ensures place { result.place ≡ 0 }
+    {
+        Splitter {
+            mode: Mode::Outside,
+            content: ArrayVec::new(),
+            place: 0,
+            opened: 0,
+        }
+    }
+
+    fn open(&mut self)
+        requires { self.old.place < 2 ^ 63 }
+        ensures { self.new ≡ opening self.old }
+    {
+        self.mode = Mode::Inside;
+        self.content.clear();
+        self.opened = self.place;
+        self.place += 1;
+    }
+
+    fn pass(&mut self, mode: Mode)
+        requires place { self.old.place < 2 ^ 63 }
+        requires room { mode ≡ Escaping → length self.old.content < 1045 }
+        ensures { self.new ≡ passing self.old mode }
+    {
+        self.mode = mode;
+        self.place += 1;
+    }
+
+    fn keep(&mut self, octet: u8)
+        requires place { self.old.place < 2 ^ 63 }
+        requires room { length self.old.content < 1045 }
+        ensures { self.new ≡ keeping self.old octet }
+    {
+        self.mode = Mode::Inside;
+        self.content.push(octet);
+        self.place += 1;
+    }
+
+    fn take_inside(&mut self, octet: u8) -> Split
+        requires { self.old.place < 2 ^ 63 }
+        ensures next { self.new ≡ after_in Inside self.old octet }
+        ensures told { told result self.new ≡ events_in Inside self.old octet }
+    {
+        let at = self.place;
+        if octet == FLAG {
+            if self.content.is_empty() {
+                let opened = self.opened;
+                self.open();
+                refused(Why::EmptyFrame, opened)
+            } else {
+                self.pass(Mode::Outside);
+                Split::Content
+            }
+        } else if self.content.is_full() {
+            self.pass(Mode::Skipping);
+            refused(Why::TooLong, at)
+        } else if octet == ESCAPE {
+            self.pass(Mode::Escaping);
+            Split::More
+        } else {
+            self.keep(octet);
+            Split::More
+        }
+    }
+
+    fn take_escaped(&mut self, octet: u8) -> Split
+        requires place { self.old.place < 2 ^ 63 }
+        requires mode { self.old.mode ≡ Escaping }
+        ensures next { self.new ≡ after_in Escaping self.old octet }
+        ensures told { told result self.new ≡ events_in Escaping self.old octet }
+    {
+        let at = self.place;
+        match octet {
+            ESCAPE_CODE => {
+                self.keep(ESCAPE);
+                Split::More
+            }
+            FLAG_CODE => {
+                self.keep(FLAG);
+                Split::More
+            }
+            FLAG => {
+                self.pass(Mode::Outside);
+                refused(Why::BadEscape, at)
+            }
+            _ => {
+                self.pass(Mode::Skipping);
+                refused(Why::BadEscape, at)
+            }
+        }
+    }
+
+    fn take_outside(&mut self, octet: u8) -> Split
+        requires { self.old.place < 2 ^ 63 }
+        ensures next { self.new ≡ after_in Outside self.old octet }
+        ensures told { told result self.new ≡ events_in Outside self.old octet }
+    {
+        let at = self.place;
+        if octet == FLAG {
+            self.open();
+            Split::More
+        } else {
+            self.pass(Mode::Straying);
+            refused(Why::Stray, at)
+        }
+    }
+
+    #[tactic(auto, unfolding(crate::specs::Scan::after, crate::specs::Scan::events_of))]
+    fn step(&mut self, octet: u8) -> Split
+        requires { self.old.place < 2 ^ 63 }
+        ensures next { self.new ≡ after self.old octet }
+        ensures told { told result self.new ≡ events_of self.old octet }
+    {
+        match self.mode {
+            Mode::Outside => self.take_outside(octet),
+            Mode::Straying => {
+                if octet == FLAG {
+                    self.open();
+                } else {
+                    self.pass(Mode::Straying);
+                }
+                Split::More
+            }
+            Mode::Inside => self.take_inside(octet),
+            Mode::Escaping => self.take_escaped(octet),
+            Mode::Skipping => {
+                self.pass(if octet == FLAG {
+                    Mode::Outside
+                } else {
+                    Mode::Skipping
+                });
+                Split::More
+            }
+        }
+    }
+
+    /// Takes the stream's next octet. Fewer than 2^63 octets may have been taken.
+    pub fn push(&mut self, octet: u8) -> Split
+        requires { self.old.place < 2 ^ 63 }
+        ensures place { self.new.place ≡ self.old.place + 1 }
+        ensures events { Takes self.old self.new (octet ∷ []) (told result self.new) }
+        ensures content { result ≡ Split.Content → 0 < length self.new.content }
+    {
+        self.step(octet)
+    }
+
+    /// The last whole content, from the push that completed it until the next push.
+    pub fn content(&self) -> &[u8]
+        ensures octets { result.now ≡ self.now.content }
+        ensures length { length result.now ≤ 1045 }
+    {
+        self.content.as_slice()
+    }
+
+    /// The place of that content's opening flag.
+    pub fn opened(&self) -> u64
+        ensures { result ≡ self.now.opened }
+    {
+        self.opened
+    }
+
+    fn end(&self) -> Option<Refusal>
+        ensures { result ≡ end_in self.now.mode self.now.place }
+    {
+        match self.mode {
+            Mode::Inside | Mode::Escaping => Some(Refusal {
+                at: self.place,
+                inside: 0,
+                why: Why::Truncated,
+            }),
+            Mode::Outside | Mode::Straying | Mode::Skipping => None,
+        }
+    }
+
+    /// Judges the stream's end: `Truncated` at the stream's length where it ends inside a frame.
+    pub fn finish(&self) -> Option<Refusal>
+        ensures { (stream : List ℕ) → StandsFor self.now stream → Ends stream result }
+    {
+        self.end()
+    }
+}

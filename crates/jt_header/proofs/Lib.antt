@@ -1,0 +1,5 @@
+pub mod Bits
+pub mod NoReason
+pub mod Pieces
+pub mod Rows
+pub mod WholeContents

@@ -1,0 +1,48 @@
+-- The pieces of a list, words of two octets, and the bits of the attributes.
+use Rattle.std.proofs.Common.{◌≡◌, ℕ, ◌+◌, ◌-◌, ◌*◌, ◌/◌, ◌%◌, ◌^◌, ◌<◌, ◌≤◌, List, [], ◌∷◌, ◌++◌, length, get_or, take, drop, sym, ap, ◌∙◌, refl, arith, inl, inr, add-zero, length-take, length-drop, get_or-drop, get_or-take}
+use Rattle.std.proofs.lemmas.Bool.{cases_lt}
+use Rattle.std.proofs.lemmas.List.{get_or_past, take_more, take_all}
+use Rattle.std.proofs.lemmas.Nat.{be_bytes_2}
+use Rattle.jt_header.specs.Content.{word}
+use Rattle.jt_header.specs.Fields.{word_at}
+use Rattle.jt_header.specs.Law.{AreOctets}
+
+AreOctets-drop : (n : ℕ) (octets : List ℕ) → AreOctets octets → AreOctets (drop n octets)
+AreOctets-drop n octets are i = rw get_or-drop (are (n + i))
+
+AreOctets-take : (n : ℕ) (octets : List ℕ) → AreOctets octets → AreOctets (take n octets)
+AreOctets-take n octets are i =
+    elim (cases_lt i n) [
+      | inl lt ↦ rw (get_or-take n octets i 0 lt) (are i)
+      | inr le ↦ rw (get_or_past (take n octets) i 0 (omega (arith, length-take n octets))) (omega arith)
+    ]
+
+-- a word of a list is two octets of it
+pub word_piece : (c : List ℕ) (i : ℕ) → AreOctets c → i + 2 ≤ length c → word (word_at i c) ≡ take 2 (drop i c)
+word_piece c i are le =
+    let first : get_or (take 2 (drop i c)) 0 0 ≡ get_or c i 0 = rw (get_or-take 2 (drop i c) 0 0 (omega arith), get_or-drop, add-zero) refl in
+    let second : get_or (take 2 (drop i c)) 1 0 ≡ get_or c (i + 1) 0 = rw (get_or-take 2 (drop i c) 1 0 (omega arith), get_or-drop) refl in
+    be_bytes_2 (take 2 (drop i c)) (word_at i c) (omega (arith, length-take 2 (drop i c), length-drop i c)) (AreOctets-take 2 (drop i c) (AreOctets-drop i c are)) (omega (arith, first, second))
+
+-- a list is what stands before its last octet, and that octet
+pub last_cut : (c : List ℕ) → 0 < length c → c ≡ take (length c - 1) c ++ get_or c (length c - 1) 0 ∷ []
+last_cut c some =
+    let n : (length c - 1) + 1 ≡ length c = omega arith in
+    sym (take_all (length c) c (omega arith)) ∙ ap (λ (k : ℕ). take k c) (sym n) ∙ take_more c (length c - 1) 0 (omega arith)
+
+-- attributes of 2013 are the sum of their bits
+pub bits_sum : (a len p b : ℕ) → a < 2 ^ 16 → a % 2 ^ 10 ≡ len → a / 2 ^ 10 % 2 ^ 3 ≡ 0 → a / 2 ^ 13 % 2 ≡ p → a / 2 ^ 14 % 2 ≡ 0 → a / 2 ^ 15 % 2 ≡ b
+    → len + p * 2 ^ 13 + 0 * 2 ^ 14 + b * 2 ^ 15 ≡ a
+bits_sum a len p b lt e10 e12 e13 e14 e15 = omega arith
+
+-- such a sum has these bits
+pub record Bits (a len p b : ℕ) : Type 0 where
+  pub fits : a < 2 ^ 16
+  pub len_bits : a % 2 ^ 10 ≡ len
+  pub plain : a / 2 ^ 10 % 2 ^ 3 ≡ 0
+  pub bit13 : a / 2 ^ 13 % 2 ≡ p
+  pub bit14 : a / 2 ^ 14 % 2 ≡ 0
+  pub bit15 : a / 2 ^ 15 % 2 ≡ b
+
+pub bits_of_sum : (len p b : ℕ) → len < 2 ^ 10 → p < 2 → b < 2 → Bits (len + p * 2 ^ 13 + 0 * 2 ^ 14 + b * 2 ^ 15) len p b
+bits_of_sum len p b short one other = record { fits = omega arith; len_bits = omega arith; plain = omega arith; bit13 = omega arith; bit14 = omega arith; bit15 = omega arith }

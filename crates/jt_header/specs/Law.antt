@@ -1,0 +1,44 @@
+-- The law of contents: octets are one header and one body, or have one reason. To be believed.
+use Rattle.std.specs.Prelude.{◌≡◌, ◌+◌, ◌<◌, ◌≤◌, ◌⊎◌, ℕ, List, length, None, Some, is_some, slice_index}
+use Rattle.jt_value.specs.declared.refusal.Refusal.{Refusal}
+use Rattle.jt_header.specs.Content.{Content, header_len}
+use Rattle.jt_header.specs.Fields.{body_at, header_at}
+use Rattle.jt_header.specs.Reason.{Reads, reason}
+use Rattle.jt_header.specs.declared.header.Header.{Header}
+
+abbrev pub AreOctets : List ℕ → Type 0
+AreOctets octets = (place : ℕ) → slice_index octets place < 256
+
+-- the octets are a content
+abbrev pub HasContent : List ℕ → Type 0
+HasContent octets = (h : Header) × (body : List ℕ) × Content h body octets
+
+-- the octets are refused
+abbrev pub HasReason : List ℕ → Type 0
+HasReason octets = (refusal : Refusal) × (reason octets ≡ Some refusal)
+
+abbrev pub IsOneOrTheOther : Type 0
+IsOneOrTheOther = (octets : List ℕ) → AreOctets octets → HasContent octets ⊎ HasReason octets
+
+abbrev pub IsNeverBoth : Type 0
+IsNeverBoth = (octets : List ℕ) → HasContent octets → HasReason octets → ⊥
+
+-- a content has no reason, and its header and body are what stands in it
+abbrev pub IsReadBack : Type 0
+IsReadBack = (h : Header) (body octets : List ℕ) → Content h body octets → Reads octets h body
+
+-- octets with no reason are the content of what stands in them
+abbrev pub IsContentOfItsFields : Type 0
+IsContentOfItsFields = (octets : List ℕ) → AreOctets octets → reason octets ≡ None → Content (header_at octets) (body_at octets) octets
+
+-- one header and one body
+abbrev pub IsOneContent : Type 0
+IsOneContent = (h g : Header) (body other octets : List ℕ) → Content h body octets → Content g other octets → (h ≡ g) × (body ≡ other)
+
+abbrev pub IsOneReason : Type 0
+IsOneReason = (octets : List ℕ) (r s : Refusal) → reason octets ≡ Some r → reason octets ≡ Some s → r ≡ s
+
+abbrev pub IsLengthOfContent : Type 0
+IsLengthOfContent =
+    (h : Header) (body octets : List ℕ) → Content h body octets
+    → (length octets ≡ header_len h.edition (is_some h.packet) + length body + 1) × (length octets ≤ 1045)

@@ -1,0 +1,4 @@
+pub mod Content
+pub mod Fields
+pub mod Law
+pub mod Reason

@@ -1,0 +1,35 @@
+//! Writing the header of a content.
+
+ghost use Rattle.std.specs.Prelude.{◌≡◌, ◌+◌, ◌<◌, ◌≤◌, ◌^◌, [], ◌++◌, length, is_some};
+ghost use Rattle.jt_header.specs.Content.{IsHeader, header_len, header_octets};
+
+use crate::attributes::Attributes;
+use crate::header::Header;
+use arrayvec::ArrayVec;
+
+/// Writes the header before a body of `body_len` octets, at most 1,023, into an empty `out` (the standard's header). The
+/// header is one that is read: of 2013, with a phone of that edition, and a packet number from 1 to the total.
+pub fn write_header(header: &Header, body_len: u16, out: &mut ArrayVec<u8, 1045>)
+    requires header { IsHeader header.now }
+    requires body_len { body_len < 2 ^ 10 }
+    requires empty { out.old.items ≡ [] }
+    ensures octets { out.new.items ≡ header_octets header.now body_len }
+    ensures short { length out.new.items ≤ 21 }
+    ensures len { length out.new.items ≡ header_len header.now.edition (is_some header.now.packet) }
+{
+    put(out, &header.id.to_be_bytes());
+    put(out, &Attributes::new(header, body_len).0.to_be_bytes());
+    put(out, header.phone.octets().as_slice());
+    put(out, &header.serial.to_be_bytes());
+    if let Some(packet) = header.packet {
+        put(out, &packet.total.to_be_bytes());
+        put(out, &packet.number.to_be_bytes());
+    }
+}
+
+fn put(out: &mut ArrayVec<u8, 1045>, octets: &[u8])
+    requires { length out.old.items + length octets.now ≤ 1045 }
+    ensures { out.new.items ≡ out.old.items ++ octets.now }
+{
+    out.try_extend_from_slice(octets).unwrap();
+}
