@@ -59,7 +59,7 @@ escaped-push : (content : List ℕ) (octet : ℕ) → escaped (content ++ octet 
 escaped-push content octet = flat_map-append escaped_octet content (octet ∷ []) ∙ ap (λ (xs : List ℕ). escaped content ++ xs) (append-nil (escaped_octet octet))
 
 -- an octet that is escaped as itself
-plain : (octet : ℕ) → octet ≢ 0x7E → octet ≢ 0x7D → escaped_octet octet ≡ octet ∷ []
+pub plain : (octet : ℕ) → octet ≢ 0x7E → octet ≢ 0x7D → escaped_octet octet ≡ octet ∷ []
 plain octet flag escape = rw (ne_eqb octet 0x7E flag, ne_eqb octet 0x7D escape) refl
 
 -- one more octet in the last span

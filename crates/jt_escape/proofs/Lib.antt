@@ -1,5 +1,6 @@
 pub mod Cutting
 pub mod Frames
+pub mod Octets
 pub mod Reading
 pub mod Scanning
 pub mod Taking

@@ -6,7 +6,7 @@ use Rattle.jt_value.specs.declared.refusal.Refusal.{Refusal}
 use Rattle.jt_escape.specs.declared.splitter.Mode.{Mode}
 use Rattle.jt_escape.specs.declared.splitter.Mode.TheVariants as modes
 use Rattle.jt_escape.specs.Span.{Event, Whole, Refused, Span, Frame, Stray, Empty, BadEscape, TooLong, Unfinished, Escaping, octets_of, IsSpan, stream_of, AreSpans, events_at, events_from, Events, end_at, end_of, Ends}
-use Rattle.jt_escape.specs.Scan.{State, start, after, events_of, events_in, run, scan, end_in}
+use Rattle.jt_escape.specs.Scan.{end_of_stream, State, start, after, events_of, events_in, run, scan, end_in}
 use Rattle.jt_escape.proofs.Scanning.{last_in, scanned, end_events, all_from, scans}
 use Rattle.jt_escape.proofs.Cutting.{cut}
 
@@ -123,14 +123,11 @@ read_events stream spans whole each =
     sym (without_end spans 0) ∙ sym (scans false spans [] 0 0 each) ∙ ap (scanned false start) (sym whole) ∙ scanned-false stream start
 
 -- the refusal of the end, by the scan
-unfoldable pub scan_end : List ℕ → Option Refusal
-scan_end stream = end_in (run start stream).mode (run start stream).place
-
-read_end : (stream : List ℕ) (spans : List Span) → stream ≡ stream_of spans → AreSpans spans → end_of (length stream) spans ≡ scan_end stream
-unfolding scan_end
+read_end : (stream : List ℕ) (spans : List Span) → stream ≡ stream_of spans → AreSpans spans → end_of (length stream) spans ≡ end_of_stream stream
+unfolding end_of_stream
 read_end stream spans whole each =
     let last : List Event = bads (end_of (length (stream_of spans)) spans) in
-    let scanned_so : events_from 0 spans ++ last ≡ scan start stream ++ bads (scan_end stream) =
+    let scanned_so : events_from 0 spans ++ last ≡ scan start stream ++ bads (end_of_stream stream) =
     sym (with_end spans 0 each ∙ ap (λ (n : ℕ). events_from 0 spans ++ bads (end_of n spans)) (zero-add (length (stream_of spans))))
     ∙ sym (scans true spans [] 0 0 each) ∙ ap (scanned true start) (sym whole) ∙ scanned-true stream start in
     bads_same _ _
@@ -184,7 +181,7 @@ pub one_octet : (stream : List ℕ) (octet : ℕ) (a b : List Event) → Events 
 one_octet stream octet a b x y =
     omega (arith, ap length (longer stream (octet ∷ []) a b x y), length-append a (scan (run start stream) (octet ∷ [])), scan_one (run start stream) octet)
 
-pub ended : (stream : List ℕ) → Ends stream (scan_end stream)
+pub ended : (stream : List ℕ) → Ends stream (end_of_stream stream)
 ended stream =
     let c = cut stream in
     record { spans = c.spans; whole = c.whole; each = c.each; read = sym (read_end stream c.spans c.whole c.each) }

@@ -8,9 +8,9 @@ use Rattle.jt_escape.specs.declared.splitter.Mode.TheVariants as modes
 use Rattle.jt_escape.specs.declared.splitter.Split.{Split}
 use Rattle.jt_escape.specs.declared.splitter.Split.TheVariants as split
 use Rattle.jt_escape.specs.Span.{Event, Whole, Events, Ends}
-use Rattle.jt_escape.specs.Scan.{State, start, after, after_in, events_of, events_in, run, scan, end_in}
+use Rattle.jt_escape.specs.Scan.{end_of_stream, State, start, after, after_in, events_of, events_in, run, scan, end_in}
 use Rattle.jt_escape.specs.Splitter.{StandsFor, Takes, told}
-use Rattle.jt_escape.proofs.Reading.{scan-append, run-append, events_held, events_only, scan_end, ended, whole_is}
+use Rattle.jt_escape.proofs.Reading.{scan-append, run-append, events_held, events_only, ended, whole_is}
 
 -- after one octet the state stands for one octet more
 pub stands_next : (old new : State) (octet : ℕ) (stream : List ℕ) → new ≡ after old octet → StandsFor old stream → StandsFor new (stream ++ octet ∷ [])
@@ -28,7 +28,7 @@ gains_next old octet stream before gained e h x =
 
 -- the end of a stream by the state that stands for it
 pub end_now : (state : State) (stream : List ℕ) (end : Option Refusal) → end ≡ end_in state.mode state.place → StandsFor state stream → Ends stream end
-unfolding scan_end
+unfolding end_of_stream
 end_now state stream end e h = subst (Ends stream) (ap (λ (x : State). end_in x.mode x.place) (sym h.taken) ∙ sym e) (ended stream)
 
 -- each step is one octet

@@ -75,7 +75,7 @@ abbrev pub scan : State → List ℕ → List Event
 scan state [] = []
 scan state (octet ∷ more) = events_of state octet ++ scan (after state octet) more
 
--- the events of a stream, as a function
+-- the events of a stream, as a function: it is a public law that the stream has these
 abbrev pub all_events : List ℕ → List Event
 all_events stream = scan start stream
 
@@ -86,3 +86,7 @@ end_in Straying place = None
 end_in Inside place = Some (refusal_at why.Truncated place)
 end_in Escaping place = Some (refusal_at why.Truncated place)
 end_in Skipping place = None
+
+-- the refusal of a stream that ends, as a function
+unfoldable pub end_of_stream : List ℕ → Option Refusal
+end_of_stream stream = end_in (run start stream).mode (run start stream).place

@@ -1,6 +1,7 @@
 -- What stands in a stream of octets: it is cut into spans, each span has one event or none, and a stream that ends
 -- inside a frame is refused at its end. The cut is this project's own, over the standard's frames. To be believed.
 use Rattle.std.specs.Prelude.{◌≡◌, ◌≢◌, ℕ, ◌+◌, ◌≤◌, ◌<◌, List, [], ◌∷◌, ◌++◌, length, ◌⊎◌, Option, Some, None}
+use Rattle.jt_value.specs.Octets.{AreOctets}
 use Rattle.jt_value.specs.declared.refusal.Why.{Why}
 use Rattle.jt_value.specs.declared.refusal.Why.TheVariants as why
 use Rattle.jt_value.specs.declared.refusal.Refusal.{Refusal}
@@ -10,6 +11,11 @@ use Rattle.jt_escape.specs.Frame.{escaped, framed}
 pub data Event : Type 0 where
   Whole : ℕ → List ℕ → Event
   Refused : Refusal → Event
+
+-- the content of the event, if it has one, is of octets
+abbrev pub HasOctets : Event → Type 0
+HasOctets (Whole place content) = AreOctets content
+HasOctets (Refused refusal) = Unit {0}
 
 -- the refusal of an octet of the line, or of the line's end
 abbrev pub refusal_at : Why → ℕ → Refusal

@@ -26,7 +26,7 @@ pub fn check(octets: &[u8]) -> u8
     octets.iter().fold(0, |check, octet| check ^ octet)
 }
 
-/// Writes the frame of a content of at most 1,045 octets (the standard's framing).
+/// Writes the frame of a content of at most 1,045 octets into an empty `out` (the standard's framing).
 pub fn escape_into(content: &[u8], out: &mut ArrayVec<u8, FRAME_LIMIT>)
     requires short { length content.now ≤ 1045 }
     requires empty { out.old.items ≡ [] }

@@ -3,9 +3,10 @@
 ghost use Rattle.std.specs.Prelude.{◌≡◌, ◌≤◌, ◌+◌, [], ◌∷◌, ◌++◌, List, ℕ, length, Option, All};
 ghost use Rattle.std.specs.List.{flat_map};
 ghost use Rattle.jt_value.specs.declared.refusal.Refusal.{Refusal};
+ghost use Rattle.jt_value.specs.Octets.{AreOctets};
 ghost use Rattle.jt_escape.specs.Frame.{framed};
-ghost use Rattle.jt_escape.specs.Span.{Event, Whole, IsContent, Events, Ends, contents_from};
-ghost use Rattle.jt_escape.specs.Scan.{all_events};
+ghost use Rattle.jt_escape.specs.Span.{Event, Whole, HasOctets, IsContent, Events, Ends, contents_from};
+ghost use Rattle.jt_escape.specs.Scan.{all_events, end_of_stream};
 
 /// Each stream has exactly one list of events.
 pub fn law_one_list()
@@ -32,6 +33,12 @@ pub fn law_frames()
         Events (flat_map framed contents) (contents_from 0 contents) }
 {}
 
+/// The contents of a stream of octets are of octets.
+pub fn law_octets()
+    ensures { (stream : List ℕ) (events : List Event) → AreOctets stream → Events stream events →
+        All HasOctets events }
+{}
+
 /// Where the first event is a content, and the last octet brings it, the stream is that content's frame.
 pub fn law_first_frame()
     ensures { (front : List ℕ) (octet opened : ℕ) (content : List ℕ) →
@@ -41,7 +48,7 @@ pub fn law_first_frame()
 
 /// Each stream's end is judged in exactly one way.
 pub fn law_one_end()
-    ensures some { (stream : List ℕ) → (end : Option Refusal) × Ends stream end }
+    ensures some { (stream : List ℕ) → Ends stream (end_of_stream stream) }
     ensures one { (stream : List ℕ) (end other : Option Refusal) →
         Ends stream end → Ends stream other → end ≡ other }
 {}

@@ -42,9 +42,9 @@ pub enum Split {
 /// the stream's octets from 0.
 ///
 /// Between two flags stands a content of 1 to 1,045 octets. A run of octets outside all frames is refused once, at the
-/// first of them. A flag directly after an opening flag refuses the first and opens a frame itself. A wrong octet after
-/// an escape, and an octet of content past 1,045, is refused at its place, and what follows is skipped up to the next
-/// flag, which opens no frame.
+/// first of them. Of two flags with nothing between them the first is refused, and the second opens a frame. A wrong octet
+/// after an escape, and an octet of content past 1,045, is refused at its place. What follows is skipped up to the next
+/// flag, which opens no frame; a flag after an escape is itself that flag.
 #[derive(Drop)]
 pub struct Splitter {
     mode: Mode,

@@ -11,7 +11,7 @@ use Rattle.jt_escape.specs.Frame.{check_of}
 use Rattle.jt_header.specs.declared.header.Header.{Header}
 use Rattle.jt_header.specs.Content.{word, bit, packet_bit, attributes, packet_octets, header_octets, header_len, IsPacket, Content, checked}
 use Rattle.jt_header.specs.Fields.{word_at, attributes_at, bit_at, edition_in, has_packet, has_bit15, header_len_in, length_bits, encryption_bits, phone_at, packet_at, header_in, header_at, body_at}
-use Rattle.jt_header.specs.Law.{AreOctets}
+use Rattle.jt_value.specs.Octets.{AreOctets}
 use Rattle.jt_header.specs.Reason.{too_short, check_mismatch, other_edition, encrypted, length_mismatch, phone_digit, bad_packet_number, reason, Reads}
 use Rattle.jt_header.proofs.Pieces.{word_piece, last_cut, bits_sum}
 use Rattle.jt_header.proofs.Rows.{no_row, when_none, map_none, not_false}

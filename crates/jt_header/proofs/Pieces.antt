@@ -1,21 +1,11 @@
 -- The pieces of a list, words of two octets, and the bits of the attributes.
-use Rattle.std.proofs.Common.{◌≡◌, ℕ, ◌+◌, ◌-◌, ◌*◌, ◌/◌, ◌%◌, ◌^◌, ◌<◌, ◌≤◌, List, [], ◌∷◌, ◌++◌, length, get_or, take, drop, sym, ap, ◌∙◌, refl, arith, inl, inr, add-zero, length-take, length-drop, get_or-drop, get_or-take}
-use Rattle.std.proofs.lemmas.Bool.{cases_lt}
-use Rattle.std.proofs.lemmas.List.{get_or_past, take_more, take_all}
+use Rattle.std.proofs.Common.{◌≡◌, ℕ, ◌+◌, ◌-◌, ◌*◌, ◌/◌, ◌%◌, ◌^◌, ◌<◌, ◌≤◌, List, [], ◌∷◌, ◌++◌, length, get_or, take, drop, sym, ap, ◌∙◌, refl, arith, add-zero, length-take, length-drop, get_or-drop, get_or-take}
+use Rattle.std.proofs.lemmas.List.{take_more, take_all}
 use Rattle.std.proofs.lemmas.Nat.{be_bytes_2}
 use Rattle.jt_header.specs.Content.{word}
 use Rattle.jt_header.specs.Fields.{word_at}
-use Rattle.jt_header.specs.Law.{AreOctets}
-
-AreOctets-drop : (n : ℕ) (octets : List ℕ) → AreOctets octets → AreOctets (drop n octets)
-AreOctets-drop n octets are i = rw get_or-drop (are (n + i))
-
-AreOctets-take : (n : ℕ) (octets : List ℕ) → AreOctets octets → AreOctets (take n octets)
-AreOctets-take n octets are i =
-    elim (cases_lt i n) [
-      | inl lt ↦ rw (get_or-take n octets i 0 lt) (are i)
-      | inr le ↦ rw (get_or_past (take n octets) i 0 (omega (arith, length-take n octets))) (omega arith)
-    ]
+use Rattle.jt_value.specs.Octets.{AreOctets}
+use Rattle.jt_value.proofs.OctetLists.{AreOctets-drop, AreOctets-take}
 
 -- a word of a list is two octets of it
 pub word_piece : (c : List ℕ) (i : ℕ) → AreOctets c → i + 2 ≤ length c → word (word_at i c) ≡ take 2 (drop i c)

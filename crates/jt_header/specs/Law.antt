@@ -1,13 +1,11 @@
 -- The law of contents: octets are one header and one body, or have one reason. To be believed.
-use Rattle.std.specs.Prelude.{◌≡◌, ◌+◌, ◌<◌, ◌≤◌, ◌⊎◌, ℕ, List, length, None, Some, is_some, slice_index}
+use Rattle.std.specs.Prelude.{◌≡◌, ◌+◌, ◌≤◌, ◌⊎◌, ℕ, List, length, None, Some, is_some}
+use Rattle.jt_value.specs.Octets.{AreOctets}
 use Rattle.jt_value.specs.declared.refusal.Refusal.{Refusal}
 use Rattle.jt_header.specs.Content.{Content, header_len}
 use Rattle.jt_header.specs.Fields.{body_at, header_at}
 use Rattle.jt_header.specs.Reason.{Reads, reason}
 use Rattle.jt_header.specs.declared.header.Header.{Header}
-
-abbrev pub AreOctets : List ℕ → Type 0
-AreOctets octets = (place : ℕ) → slice_index octets place < 256
 
 -- the octets are a content
 abbrev pub HasContent : List ℕ → Type 0

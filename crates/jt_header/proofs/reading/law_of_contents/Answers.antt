@@ -2,7 +2,8 @@ use Rattle.std.proofs.Common.{ℕ, List, Option, Some, None, refl, sym, ◌≡�
 use Rattle.std.specs.Prelude.{◌⊎◌}
 use Rattle.jt_value.specs.declared.refusal.Refusal.{Refusal}
 use Rattle.jt_header.specs.Fields.{header_at, body_at}
-use Rattle.jt_header.specs.Law.{AreOctets, HasContent, HasReason}
+use Rattle.jt_value.specs.Octets.{AreOctets}
+use Rattle.jt_header.specs.Law.{HasContent, HasReason}
 use Rattle.jt_header.specs.Reason.{reason}
 use Rattle.jt_header.proofs.NoReason.{found}
 use Rattle.jt_header.proofs.WholeContents.{content_len, only, refuted}

@@ -1,0 +1,20 @@
+use Rattle.jt_codec.proofs.FrameLaws.{never_both, one_frame, one_or_the_other, one_refusal, parsed_frame, parsed_refusal}
+use Rattle.jt_codec.proofs.laws.law_of_frames.Goals as goal
+
+pub returns-clause-one_or_the_other : goal.returns-clause-one_or_the_other
+returns-clause-one_or_the_other c = λ content are. one_or_the_other content are
+
+pub returns-clause-never_both : goal.returns-clause-never_both
+returns-clause-never_both c = λ content frame refusal. never_both content frame refusal
+
+pub returns-clause-one_frame : goal.returns-clause-one_frame
+returns-clause-one_frame c = λ content h g octets others message other x y. one_frame content h g octets others message other x y
+
+pub returns-clause-one_refusal : goal.returns-clause-one_refusal
+returns-clause-one_refusal c = λ content r s x y. one_refusal content r s x y
+
+pub returns-clause-parsed_frame : goal.returns-clause-parsed_frame
+returns-clause-parsed_frame c = λ content octets h message frame. parsed_frame content octets h message frame
+
+pub returns-clause-parsed_refusal : goal.returns-clause-parsed_refusal
+returns-clause-parsed_refusal c = λ content refusal is. parsed_refusal content refusal is

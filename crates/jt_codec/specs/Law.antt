@@ -1,0 +1,50 @@
+-- The laws of bodies and frames. To be believed.
+use Rattle.std.specs.Prelude.{◌≡◌, ℕ, ◌⊎◌, List, Some, Ok, Err}
+use Rattle.jt_value.specs.declared.phone.Edition.{Edition}
+use Rattle.jt_value.specs.declared.refusal.Refusal.{Refusal}
+use Rattle.jt_value.specs.Octets.{AreOctets}
+use Rattle.jt_header.specs.declared.header.Header.{Header}
+use Rattle.jt_layout.specs.Answer.{IsOneToOne}
+use Rattle.jt_codec.specs.Bodies.{body, id_of}
+use Rattle.jt_codec.specs.Frames.{Frame, IsRefused}
+use Rattle.jt_codec.specs.Parsing.{parsed}
+use Rattle.jt_codec.specs.declared.message.Message.{Message}
+
+-- under each id, octets have exactly one message or exactly one reason, and messages have octets of their own
+abbrev pub AreOneToOne : Type 0
+AreOneToOne = (edition : Edition) (id : ℕ) → IsOneToOne (body edition id)
+
+-- a message fits under its own id alone
+abbrev pub AreUnderTheirIds : Type 0
+AreUnderTheirIds = (edition : Edition) (id : ℕ) (message : Message) → (body edition id).Fits message → id_of message ≡ Some id
+
+-- the octets are the content of a frame
+abbrev pub HasFrame : List ℕ → Type 0
+HasFrame content = (h : Header) × (octets : List ℕ) × (message : Message) × Frame h octets message content
+
+-- the octets are refused
+abbrev pub HasRefusal : List ℕ → Type 0
+HasRefusal content = (refusal : Refusal) × IsRefused content refusal
+
+abbrev pub IsOneOrTheOther : Type 0
+IsOneOrTheOther = (content : List ℕ) → AreOctets content → HasFrame content ⊎ HasRefusal content
+
+abbrev pub IsNeverBoth : Type 0
+IsNeverBoth = (content : List ℕ) → HasFrame content → HasRefusal content → ⊥
+
+-- one header, one body and one message
+abbrev pub IsOneFrame : Type 0
+IsOneFrame =
+    (content : List ℕ) (h g : Header) (octets others : List ℕ) (message other : Message)
+    → Frame h octets message content → Frame g others other content → (h ≡ g) × (octets ≡ others) × (message ≡ other)
+
+abbrev pub IsOneRefusal : Type 0
+IsOneRefusal = (content : List ℕ) (r s : Refusal) → IsRefused content r → IsRefused content s → r ≡ s
+
+-- parsing as a function gives the frame's header and message
+abbrev pub IsParsedFrame : Type 0
+IsParsedFrame = (content octets : List ℕ) (h : Header) (message : Message) → Frame h octets message content → parsed content ≡ Ok (h, message)
+
+-- and the refusal
+abbrev pub IsParsedRefusal : Type 0
+IsParsedRefusal = (content : List ℕ) (refusal : Refusal) → IsRefused content refusal → parsed content ≡ Err refusal

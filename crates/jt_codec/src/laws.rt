@@ -1,0 +1,20 @@
+//! Laws of bodies and frames. Each is a function that does nothing, whose contract is the law.
+
+ghost use Rattle.jt_codec.specs.Law.{AreOneToOne, AreUnderTheirIds, IsNeverBoth, IsOneFrame, IsOneOrTheOther, IsOneRefusal, IsParsedFrame, IsParsedRefusal};
+
+/// Under each id and in each edition, octets have exactly one message or exactly one reason; two messages have the same
+/// octets only if they are equal; and a message fits under its own id alone.
+pub fn law_of_bodies()
+    ensures one_to_one { AreOneToOne }
+    ensures ids { AreUnderTheirIds }
+{}
+
+/// Octets are the content of one frame, of one header and one message, or they have one reason, and never both.
+pub fn law_of_frames()
+    ensures one_or_the_other { IsOneOrTheOther }
+    ensures never_both { IsNeverBoth }
+    ensures one_frame { IsOneFrame }
+    ensures one_refusal { IsOneRefusal }
+    ensures parsed_frame { IsParsedFrame }
+    ensures parsed_refusal { IsParsedRefusal }
+{}

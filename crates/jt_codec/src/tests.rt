@@ -1,0 +1,173 @@
+use super::*;
+use arrayvec::ArrayVec;
+use jt_escape::{Split, Splitter};
+use jt_header::{Header, Packet};
+use jt_value::{CodecError, Edition, Octets, Phone, Refusal, Why};
+use std::test::Fail;
+
+#[test]
+fn empty_bodies(rt: HostRuntime) -> Result<(), Fail> {
+    for edition in [Edition::E2013, Edition::E2019] {
+        for id in [0x0002, 0x0003, 0x8104, 0x8201] {
+            let message = read_body(rt.alloc(), edition, id, &[]).expect(&rt, "a body");
+            assert_eq!(rt; message.id(), Some(id));
+            assert!(rt; message.fits(edition));
+            let octets = write_body(rt.alloc(), edition, &message)?;
+            assert_eq!(rt; octets.as_slice(), [].as_slice());
+            let trailing = CodecError::Refused(Refusal {
+                at: 0,
+                inside: 0,
+                why: Why::Trailing,
+            });
+            assert_eq!(rt;
+                read_body(rt.alloc(), edition, id, &[7]).err(),
+                Some(trailing)
+            );
+        }
+    }
+    Ok(())
+}
+
+#[test]
+fn opaque_bodies(rt: HostRuntime) -> Result<(), Fail> {
+    for id in [0x0000, 0x0001, 0x0FFF, 0x8103, 0xFFFF] {
+        let message = read_body(rt.alloc(), Edition::E2019, id, &[7, 9]).expect(&rt, "a body");
+        assert_eq!(rt; message.id(), Some(id));
+        assert!(rt; message.fits(Edition::E2019));
+        let octets = write_body(rt.alloc(), Edition::E2019, &message)?;
+        assert_eq!(rt; octets.as_slice(), [7, 9].as_slice());
+    }
+    let known = Message::Opaque {
+        id: 0x8201,
+        body: Octets::new(rt.alloc()),
+    };
+    assert!(rt; !known.fits(Edition::E2013));
+    Ok(())
+}
+
+fn header(id: u16, serial: u16, packet: Option<Packet>) -> Header {
+    let digits = [0, 0, 0, 0, 0x01, 0x39, 0x12, 0x34, 0x56, 0x78];
+    Header {
+        edition: Edition::E2013,
+        id,
+        bit15: false,
+        version: 0,
+        phone: Phone {
+            edition: Edition::E2013,
+            digits,
+        },
+        serial,
+        packet,
+    }
+}
+
+#[test]
+fn refused_contents(rt: HostRuntime) -> Result<(), Fail> {
+    let rows: [(&[u8], u64, Why); 4] = [
+        (
+            b"\x00\x02\x00\x01\x01\x39\x12\x34\x56\x78\x00\x00\x07\x34",
+            12,
+            Why::Trailing,
+        ),
+        (
+            b"\x82\x01\x80\x02\x01\x39\x12\x34\x56\x78\x00\x00\x07\x07\x31",
+            12,
+            Why::Trailing,
+        ),
+        (
+            b"\x00\x02\x00\x01\x01\x39\x12\x34\x56\x78\x00\x00\x07\x33",
+            13,
+            Why::CheckMismatch {
+                computed: 0x34,
+                found: 0x33,
+            },
+        ),
+        (
+            b"\x00\x02\x00\x00\x01\x3A\x12\x34\x56\x78\x00\x00\x31",
+            5,
+            Why::PhoneDigit,
+        ),
+    ];
+    for (content, inside, why) in rows {
+        assert!(rt; content.len() <= 1045);
+        let refusal = CodecError::Refused(Refusal { at: 0, inside, why });
+        assert_eq!(rt; parse_frame(rt.alloc(), content).err(), Some(refusal));
+    }
+    Ok(())
+}
+
+#[test]
+fn packets(rt: HostRuntime) -> Result<(), Fail> {
+    let first = Some(Packet {
+        total: 3,
+        number: 1,
+    });
+    let only = Some(Packet {
+        total: 1,
+        number: 1,
+    });
+    let rows: [(&[u8], Header, &[u8]); 2] = [
+        (
+            b"\x01\x04\x20\x02\x01\x39\x12\x34\x56\x78\x00\x0A\x00\x03\x00\x01\x00\x07\x18",
+            header(0x0104, 10, first),
+            b"\x00\x07",
+        ),
+        (
+            b"\x00\x02\x20\x01\x01\x39\x12\x34\x56\x78\x00\x00\x00\x01\x00\x01\x07\x14",
+            header(0x0002, 0, only),
+            b"\x07",
+        ),
+    ];
+    for (content, header, body) in rows {
+        assert!(rt; content.len() <= 1045);
+        let (read, message) = parse_frame(rt.alloc(), content).expect(&rt, "a frame");
+        assert_eq!(rt; read, header);
+        assert_eq!(rt; message.id(), None);
+        assert!(rt; !message.fits(Edition::E2013));
+        let is_part = matches!(&message, Message::Part(part) if part.as_slice() == body);
+        assert!(rt; is_part);
+    }
+    Ok(())
+}
+
+#[test]
+fn frames(rt: HostRuntime) -> Result<(), Fail> {
+    let content = b"\x00\x02\x00\x00\x01\x39\x12\x34\x56\x78\x00\x00\x32";
+    let (heartbeat, message) = parse_frame(rt.alloc(), content).expect(&rt, "a frame");
+    assert_eq!(rt; heartbeat, header(0x0002, 0, None));
+    assert_eq!(rt; message.id(), Some(0x0002));
+    let mut frame = ArrayVec::new();
+    frame_into(&heartbeat, &[], &mut frame);
+    assert_eq!(rt;
+        frame.as_slice(),
+        b"\x7E\x00\x02\x00\x00\x01\x39\x12\x34\x56\x78\x00\x00\x32\x7E".as_slice()
+    );
+    Ok(())
+}
+
+// A frame of flags alone is the longest of its body's length, and is read back as the same.
+#[test]
+fn frame_of_flags(rt: HostRuntime) -> Result<(), Fail> {
+    let content = b"\x0F\xFF\x00\x00\x01\x39\x12\x34\x56\x78\x00\x00\xC0";
+    let (opaque, _message) = parse_frame(rt.alloc(), content).expect(&rt, "a frame");
+    let body = [0x7E; 1023];
+    let mut frame = ArrayVec::new();
+    frame_into(&opaque, &body, &mut frame);
+    assert_eq!(rt; frame.len(), 2061);
+    assert_eq!(rt; frame.as_slice().get(2059), Some(&0x42));
+    let mut splitter = Splitter::new();
+    let mut last = Split::More;
+    for octet in frame.as_slice() {
+        last = splitter.push(*octet);
+    }
+    assert_eq!(rt; last, Split::Content);
+    let content = splitter.content();
+    assert!(rt; content.len() <= 1045);
+    let (read, message) = parse_frame(rt.alloc(), content).expect(&rt, "a frame");
+    assert_eq!(rt; read, opaque);
+    assert_eq!(rt; message.id(), Some(0x0FFF));
+    assert!(rt; message.fits(Edition::E2013));
+    let octets = write_body(rt.alloc(), Edition::E2013, &message)?;
+    assert_eq!(rt; octets.as_slice(), body.as_slice());
+    Ok(())
+}

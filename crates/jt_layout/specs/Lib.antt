@@ -1,0 +1,4 @@
+pub mod At
+pub mod Layout
+pub mod Answer
+pub mod Reading

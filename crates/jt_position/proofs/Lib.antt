@@ -1,0 +1,4 @@
+pub mod ItemLaws
+pub mod ViewLaws
+pub mod MomentLaws
+pub mod FixLaws

@@ -1,0 +1,11 @@
+use Rattle.jt_position.proofs.FixLaws.{of_a_position, of_a_batch, none_of_a_refused_position, none_of_a_refused_batch, none_of_another_id}
+use Rattle.jt_position.proofs.fix.law_fixes.Goals as goal
+
+pub returns : goal.returns
+returns c = record {
+  of_a_position = of_a_position;
+  of_a_batch = of_a_batch;
+  none_of_a_refused_position = none_of_a_refused_position;
+  none_of_a_refused_batch = none_of_a_refused_batch;
+  none_of_another_id = none_of_another_id;
+}

@@ -1,0 +1,5 @@
+pub mod Items
+pub mod Positions
+pub mod Views
+pub mod Moments
+pub mod Fixes

@@ -1,0 +1,93 @@
+//! Positions and their items as they stand in the octets.
+
+ghost use Rattle.std.specs.Prelude.{◌≡◌, MatchResult};
+ghost use Rattle.jt_layout.specs.Layout.{Fills};
+ghost use Rattle.jt_layout.specs.Reading.{Finds};
+ghost use Rattle.jt_position.specs.Positions.{position};
+
+use crate::fixed::Fixed;
+use crate::view::ItemView;
+use jt_layout::Reader;
+use jt_value::Refusal;
+use std::marker::Model;
+
+/// The items of a position, one after the other, read in place and with no memory.
+#[derive(Drop)]
+pub struct Items<'a> {
+    reader: Reader<'a>,
+}
+
+impl<'a> Model for Items<'a> {
+    ghost use Rattle.std.specs.Prelude.{◌≡◌, List, IsTrue, is_ok};
+    ghost use Rattle.jt_position.specs.declared.item.Item.{Item};
+    ghost use Rattle.jt_position.specs.Views.{items_from, reads_from};
+
+    ghost Value = { List Item };
+
+    ghost view = { λ items. items_from items.reader.octets items.reader.place };
+
+    ghost invariant = { λ items. IsTrue (reads_from items.reader.octets items.reader.place) };
+}
+
+impl<'a> Items<'a> {
+    ghost use Rattle.jt_layout.specs.Layout.{to_the_end};
+    ghost use Rattle.jt_position.specs.Positions.{item};
+
+    // All items from the reader's place up to the end, or the first reason against one.
+    fn of(reader: &Reader<'a>) -> Result<Items<'a>, Refusal>
+        ensures { Finds (λ items. items) result ((to_the_end item).read reader.now.octets reader.now.place) }
+    {
+        let mut ahead = reader.ahead();
+        while !ahead.is_at_end() {
+            ItemView::read(&mut ahead)?;
+        }
+        Ok(Items {
+            reader: reader.ahead(),
+        })
+    }
+}
+
+impl<'a> Iterator for Items<'a> {
+    ghost use Rattle.std.specs.Iterator.{YieldsFirstBy, item_count};
+    ghost use Rattle.jt_position.specs.Views.{owned};
+
+    type Item = ItemView<'a>;
+
+    ghost next_gives = { YieldsFirstBy owned (λ left. left) };
+
+    ghost remaining = { item_count (λ left. left) };
+
+    fn next(&mut self) -> Option<ItemView<'a>> {
+        if self.reader.is_at_end() {
+            return None;
+        }
+        ItemView::read(&mut self.reader).ok()
+    }
+}
+
+/// A position whose items are read in place: the fields of `Position`, with no memory.
+#[derive(Drop)]
+pub struct PositionView<'a> {
+    pub fixed: Fixed,
+    pub items: Items<'a>,
+}
+
+#[tactic(auto, unfolding(crate::specs::Positions::position))]
+fn view_in(octets: &[u8]) -> Result<PositionView<'_>, Refusal>
+    ensures { Finds (λ view. record { fixed = view.fixed; items = view.items }) result (position.read octets.now 0) }
+{
+    let mut reader = Reader::new(octets);
+    let fixed = Fixed::read(&mut reader)?;
+    let items = Items::of(&reader)?;
+    Ok(PositionView { fixed, items })
+}
+
+/// Reads a position report's body in place: the fixed fields and the items that `read_position` gives, raw values being the
+/// slices of the octets where they stand. An error is Truncated at the first field that passes the end.
+pub fn view_position(octets: &[u8]) -> Result<PositionView<'_>, Refusal>
+    ensures position { MatchResult result
+        (λ view. Fills position octets.now 0 (record { fixed = view.fixed; items = view.items }))
+        (λ refusal. position.Refuses octets.now 0 refusal) }
+{
+    view_in(octets)
+}

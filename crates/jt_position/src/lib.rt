@@ -1,0 +1,23 @@
+//! Positions and batches of positions.
+#![tactic(auto)]
+
+mod batch;
+mod fix;
+mod fixed;
+mod item;
+mod items;
+mod moments;
+mod position;
+mod view;
+
+pub use batch::{Batch, law_batches, read_batch, write_batch};
+pub use fix::{Fix, FixError, law_fixes};
+pub use fixed::Fixed;
+pub use item::Item;
+pub use items::{Items, PositionView, view_position};
+pub use moments::moment;
+pub use position::{Position, law_positions, read_position, write_position};
+pub use view::ItemView;
+
+#[cfg(test)]
+mod tests;

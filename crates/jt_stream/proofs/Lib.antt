@@ -1,0 +1,3 @@
+pub mod Gaining
+pub mod Judging
+pub mod Messages

@@ -1,0 +1,4 @@
+pub mod Item
+pub mod Message
+pub mod Stream
+pub mod Unplaced
