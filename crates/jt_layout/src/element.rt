@@ -1,6 +1,6 @@
 //! Values that stand in lists.
 
-ghost use Rattle.std.specs.Prelude.{◌≡◌, ◌<◌, ◌++◌, ◌↔◌, length, IsTrue, OnOk};
+ghost use Rattle.std.specs.Prelude.{◌≡◌, ◌<◌, ◌≤◌, ◌++◌, ◌↔◌, length, IsTrue, OnOk};
 ghost use Rattle.std.specs.List.{flat_map, AllByRecursion};
 ghost use Rattle.jt_value.specs.Octets.{AreOctets};
 ghost use Rattle.jt_layout.specs.Layout.{Part, times, to_the_end};
@@ -109,6 +109,7 @@ impl<'a> Reader<'a> {
     pub fn all<T: Element>(&mut self, alloc: Global) -> Result<Seq<T>, CodecError>
         ensures value { Gives (λ list. list) result ((to_the_end T.layout).read self.old.octets self.old.place) }
         ensures octets { self.new.octets ≡ self.old.octets }
+        ensures end { OnOk result (length self.old.octets ≤ self.new.place) }
     {
         let mut list = Seq::new(alloc);
         while !self.is_at_end() {

@@ -123,6 +123,7 @@ impl<'a> Reader<'a> {
     pub fn rest(&mut self, alloc: Global) -> Result<Octets, CodecError>
         ensures value { Gives (λ rest. rest) result (rest.read self.old.octets self.old.place) }
         ensures octets { self.new.octets ≡ self.old.octets }
+        ensures place { OnOk result (self.new.place ≡ length self.old.octets) }
     {
         let rest = Vec::from_slice(alloc, &self.octets[self.place..])?;
         self.place = self.octets.len();

@@ -22,7 +22,7 @@ pub struct Batch {
 impl Batch {
     ghost use Rattle.jt_position.specs.Positions.{batch};
 
-    /// Whether the batch has octets: at most 65,535 fixes, each of at most 65,535 octets and none that has no octets.
+    /// Whether the batch has octets: at most 65,535 fixes, each of which has octets, and at most 65,535 of them.
     #[tactic(auto, unfolding(crate::specs::Positions::batch, jt_layout::specs::Layout::number))]
     pub fn fits(&self) -> bool
         ensures { IsTrue result ↔ batch.Fits self.now }

@@ -19,7 +19,7 @@ pub struct Fix {
 
 impl Model for Fix {
     ghost use Rattle.std.specs.Prelude.{ℕ, List, ◌≤◌, length, IsTrue};
-    ghost use Rattle.jt_layout.specs.Layout.{AreOctets};
+    ghost use Rattle.jt_value.specs.Octets.{AreOctets};
     ghost use Rattle.jt_position.specs.Views.{is_position};
 
     ghost Value = { List ℕ };

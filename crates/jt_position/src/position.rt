@@ -1,6 +1,6 @@
 //! Positions.
 
-ghost use Rattle.std.specs.Prelude.{◌≡◌, ◌<◌, ◌^◌, ◌↔◌, ◌++◌, length, IsTrue, IfOk, OnOk};
+ghost use Rattle.std.specs.Prelude.{◌≡◌, ◌<◌, ◌≤◌, ◌^◌, ◌↔◌, ◌++◌, length, IsTrue, IfOk, OnOk};
 ghost use Rattle.jt_layout.specs.Answer.{Answers, IsOneToOne};
 ghost use Rattle.jt_layout.specs.Reading.{Gives};
 ghost use Rattle.jt_position.specs.Positions as layouts;
@@ -51,7 +51,9 @@ impl Position {
     /// Reads a position from where the reader stands up to its end, for bodies that end with one.
     #[tactic(auto, unfolding(crate::specs::Positions::position))]
     pub fn read_from(alloc: Global, reader: &mut Reader<'_>) -> Result<Position, CodecError>
-        ensures { Gives (λ read. read) result (position.read reader.old.octets reader.old.place) }
+        ensures value { Gives (λ read. read) result (position.read reader.old.octets reader.old.place) }
+        ensures octets { reader.new.octets ≡ reader.old.octets }
+        ensures end { OnOk result (length reader.old.octets ≤ reader.new.place) }
     {
         let fixed = Fixed::read(reader)?;
         let items = reader.all(alloc)?;

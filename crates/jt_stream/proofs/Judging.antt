@@ -1,8 +1,7 @@
 -- Items of events: one item an event, the same without its place as the function's.
 use Rattle.std.proofs.Common.{◌≡◌, ℕ, ◌+◌, ◌≤◌, List, [], ◌∷◌, ◌++◌, Some, length, map, refl, sym, ap, subst, ◌∙◌, arith, inl, inr}
-use Rattle.std.proofs.lemmas.Bool.{cases_lt}
-use Rattle.std.proofs.lemmas.List.{map-append, length-map, get_or_past}
-use Rattle.std.proofs.lemmas.List.Elements.{All-head, All-tail, All-get_or}
+use Rattle.std.proofs.lemmas.List.{map-append, length-map}
+use Rattle.std.proofs.lemmas.List.Elements.{All-head, All-tail}
 use Rattle.std.specs.Prelude.{All}
 use Rattle.jt_value.specs.declared.refusal.Refusal.{Refusal}
 use Rattle.jt_escape.specs.Span.{Event, Whole, HasOctets, Events, contents_from}
@@ -12,7 +11,6 @@ use Rattle.jt_escape.specs.Scan.{all_events}
 use Rattle.jt_header.specs.declared.header.Header.{Header}
 use Rattle.jt_header.specs.Content.{Content}
 use Rattle.jt_header.specs.Fields.{header_at, body_at}
-use Rattle.jt_value.specs.Octets.{AreOctets}
 use Rattle.jt_header.specs.Law.{IsOneOrTheOther, IsNeverBoth, IsOneContent, IsReadBack}
 use Rattle.jt_header.specs.Reason.{reason}
 use Rattle.jt_stream.specs.Item.{Item, Frame, Refused, placed, IsItemOf, AreItemsOf, Items, item_of, item_at, all_items}
