@@ -1,5 +1,12 @@
+pub mod Counting
+pub mod EntriesTold
+pub mod EqualWords
+pub mod HexDigits
+pub mod HexSoFar
 pub mod Pieces
-pub mod FilledSoFar
-pub mod OneWord
-pub mod OneFrame
-pub mod WholeSource
+pub mod Closings
+pub mod InputTaken
+pub mod PiecesTaken
+pub mod PrintedFirst
+pub mod StepsTaken
+pub mod RunsOver

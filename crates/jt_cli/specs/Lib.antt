@@ -1,4 +1,9 @@
 pub mod Answer
-pub mod Fill
+pub mod Entry
+pub mod HexInput
 pub mod Line
-pub mod View
+pub mod Report
+pub mod Reporting
+pub mod Words
+pub mod Taking
+pub mod Running

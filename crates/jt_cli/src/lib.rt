@@ -1,19 +1,26 @@
 //! The command line: what each list of words does to the source and the sink.
 #![tactic(auto)]
 
-mod filling;
+mod command;
+mod entry;
+mod hex_laws;
+mod hex_reader;
 mod lines;
 mod reply;
+mod reporter;
+mod running;
 mod status;
+mod tally;
+mod telling;
 mod top;
-mod viewing;
 
-pub use filling::{Filled, fill};
-pub use lines::{counts_line, frame_head};
-pub use reply::Reply;
+pub use command::{Command, Encoding, Report};
+pub use entry::{Entry, refusal_line, view_line};
+pub use hex_laws::{law_octets_of_front, law_wrong_stays};
+pub use reply::{Closing, Reply};
+pub use running::report;
 pub use status::Status;
 pub use top::{Ended, Outside, run};
-pub use viewing::{MOST, view};
 
 #[cfg(test)]
 mod tests;

@@ -3,21 +3,21 @@
 ghost use Rattle.std.specs.Prelude.{◌≡◌};
 ghost use Rattle.jt_cli.specs.Answer.{number_of};
 
-/// How a run ends. All is this project's rule.
+/// How a run ends (this project's own statuses).
 #[derive(Clone, Copy, Debug, PartialEq, Eq)]
 pub enum Status {
-    /// The input was read to its end and all was printed.
+    /// The input was read to its end, has no refusal, and its report was written.
     Done,
-    /// The words are no command; the usage line was printed.
+    /// The input has a refusal, whose place is printed, or more octets than may be read.
+    Refused,
+    /// The words are no command: the usage line was written, and nothing was read.
     Usage,
     /// A read of the source failed.
     ReadFault,
-    /// A write to the sink failed; a prefix was written.
+    /// A write to the sink failed.
     WriteFault,
     /// Memory was wanted and refused.
     Memory,
-    /// The input is none that is printed yet.
-    NotBuilt,
 }
 
 impl Status {
@@ -27,11 +27,11 @@ impl Status {
     {
         match self {
             Status::Done => 0,
+            Status::Refused => 1,
             Status::Usage => 2,
             Status::ReadFault => 3,
             Status::WriteFault => 4,
             Status::Memory => 8,
-            Status::NotBuilt => 9,
         }
     }
 }

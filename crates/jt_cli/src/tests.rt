@@ -1,4 +1,5 @@
 use super::*;
+use crate::hex_reader::HexReader;
 use jt_outside::{MemSink, MemSource};
 use jt_value::{Octets, Seq};
 use std::alloc::Global;
@@ -7,97 +8,594 @@ use std::test::Fail;
 
 const USAGE: &str = "usage: jt808 view|check|rehearse|make|platform|report\n";
 
-const NOT_BUILT: &str = "not built\n";
+const HEARTBEAT: &[u8] = b"\x7e\x00\x02\x00\x00\x01\x39\x12\x34\x56\x78\x00\x00\x32\x7e";
 
-// A run of the words over these octets in memory. `failing` has the numbers of the read and the write that fail, 0 for
-// none.
-fn run_over(
-    alloc: Global,
-    words: &[&str],
-    octets: &[u8],
-    failing: (u64, u64),
-) -> Result<Ended<MemSource, MemSink>, Fail> {
+fn words_of(alloc: Global, words: &[&str]) -> Result<Vec<String>, Fail> {
     let mut all = Vec::new(alloc);
     for word in words {
         all.push(String::from_str(alloc, word)?)?;
     }
+    Ok(all)
+}
+
+// A source, and a sink with room for so many octets, in memory. `failing` has the numbers of the read and of the write that
+// fail, 0 for none.
+fn outside(
+    alloc: Global,
+    octets: &[u8],
+    room: u64,
+    failing: (u64, u64),
+) -> Result<Outside<MemSource, MemSink>, Fail> {
     let mut failing_reads = Seq::new(alloc);
     failing_reads.push(failing.0)?;
     let mut failing_writes = Seq::new(alloc);
     failing_writes.push(failing.1)?;
-    let outside = Outside {
+    Ok(Outside {
         source: MemSource::new(Octets::from_vec(octets.to_vec(alloc)?), failing_reads),
-        sink: MemSink::new(alloc, 4096, failing_writes)?,
-    };
-    Ok(run(&(), alloc, &all, outside))
+        sink: MemSink::new(alloc, room, failing_writes)?,
+    })
 }
 
-// Compares the status and what was written.
+// Runs the words over these octets, and compares the status and what was written.
 fn expect(
     rt: &impl Abort,
-    ended: Ended<MemSource, MemSink>,
+    alloc: Global,
+    words: &[&str],
+    octets: &[u8],
+    failing: (u64, u64),
     status: Status,
     written: &str,
 ) -> Result<(), Fail> {
-    assert_eq!(rt; ended.status, status);
-    assert_eq!(rt; ended.outside.sink.octets(), written.as_bytes());
+    let words = words_of(alloc, words)?;
+    let ended = run(&(), alloc, &words, outside(alloc, octets, 8192, failing)?);
+    assert_eq!(rt; ended.status, status, "{octets:?}");
+    assert_eq!(rt;
+        ended.outside.sink.octets(),
+        written.as_bytes(),
+        "{octets:?}"
+    );
     Ok(())
 }
 
 #[test]
-fn views_of_octets(rt: HostRuntime) -> Result<(), Fail> {
-    let serial_0 = b"\x7e\x00\x02\x00\x00\x01\x39\x12\x34\x56\x78\x00\x00\x32\x7e".as_slice();
-    let serial_126 = b"\x7e\x00\x02\x00\x00\x01\x39\x12\x34\x56\x78\x00\x7d\x02\x4c\x7e".as_slice();
-    let serial_76 = b"\x7e\x00\x02\x00\x00\x01\x39\x12\x34\x56\x78\x00\x4c\x7d\x02\x7e".as_slice();
-    let twice =
-        b"\x7e\x00\x02\x00\x00\x01\x39\x12\x34\x56\x78\x00\x00\x32\x7e\x7e\x00\x02\x00\x00\x01\x39\x12\x34\x56\x78\x00\x00\x32\x7e".as_slice();
-    let platform_ack =
-        b"\x7e\x80\x01\x00\x05\x01\x39\x12\x34\x56\x78\x00\x00\x00\x00\x00\x02\x00\xb6\x7e".as_slice();
+fn views(rt: HostRuntime) -> Result<(), Fail> {
+    let alloc = rt.alloc();
     for (octets, status, written) in [
         (
-            serial_0,
+            b"\x7e\x00\x02\x00\x00\x01\x39\x12\x34\x56\x78\x00\x00\x32\x7e".as_slice(),
             Status::Done,
             "0 2013 0x0002 heartbeat phone=013912345678 serial=0 body=0\nframes=1 refused=0\n",
         ),
         (
-            serial_126,
+            b"\x7e\x00\x02\x00\x00\x01\x39\x12\x34\x56\x78\x00\x7d\x02\x4c\x7e".as_slice(),
             Status::Done,
             "0 2013 0x0002 heartbeat phone=013912345678 serial=126 body=0\nframes=1 refused=0\n",
         ),
         (
-            serial_76,
+            b"\x7e\x00\x02\x00\x00\x01\x39\x12\x34\x56\x78\x00\x4c\x7d\x02\x7e".as_slice(),
             Status::Done,
             "0 2013 0x0002 heartbeat phone=013912345678 serial=76 body=0\nframes=1 refused=0\n",
         ),
-        (b"".as_slice(), Status::NotBuilt, NOT_BUILT),
-        (twice, Status::NotBuilt, NOT_BUILT),
-        (platform_ack, Status::NotBuilt, NOT_BUILT),
+        (
+            b"\x7e\x00\x02\x00\x00\x01\x39\x12\x34\x56\x78\x00\x00\x32\x7e\x7e\x00\x02\x00\x00\x01\x39\x12\x34\x56\x78\x00\x00\x32\x7e".as_slice(),
+            Status::Done,
+            "0 2013 0x0002 heartbeat phone=013912345678 serial=0 body=0\n15 2013 0x0002 heartbeat phone=013912345678 serial=0 body=0\nframes=2 refused=0\n",
+        ),
+        (b"".as_slice(), Status::Done, "frames=0 refused=0\n"),
+        (
+            b"\x7e\x7e\x00\x02\x00\x00\x01\x39\x12\x34\x56\x78\x00\x00\x32\x7e".as_slice(),
+            Status::Refused,
+            "0+0 refused EmptyFrame\n1 2013 0x0002 heartbeat phone=013912345678 serial=0 body=0\nframes=1 refused=1\n",
+        ),
+        (
+            b"\x00\x00\x7e\x00\x02\x00\x00\x01\x39\x12\x34\x56\x78\x00\x00\x32\x7e".as_slice(),
+            Status::Refused,
+            "0+0 refused Stray\n2 2013 0x0002 heartbeat phone=013912345678 serial=0 body=0\nframes=1 refused=1\n",
+        ),
+        (
+            b"\x7e\x00\x02\x00\x00\x01\x39\x12\x34\x56\x78\x00\x00\x33\x7e\x7e\x00\x02\x00\x00\x01\x39\x12\x34\x56\x78\x00\x00\x32\x7e".as_slice(),
+            Status::Refused,
+            "0+12 refused CheckMismatch computed=32 found=33\n15 2013 0x0002 heartbeat phone=013912345678 serial=0 body=0\nframes=1 refused=1\n",
+        ),
+        (
+            b"\x7e\x00\x02\x00\x00\x01\x39\x12\x34\x56\x78\x00\x00\x32".as_slice(),
+            Status::Refused,
+            "14+0 refused Truncated\nframes=0 refused=1\n",
+        ),
+        (
+            b"\x7e\x00\x02\x7d\x03\x7e".as_slice(),
+            Status::Refused,
+            "4+0 refused BadEscape\nframes=0 refused=1\n",
+        ),
+        (
+            b"\x7e\x00\x02\x04\x00\x01\x39\x12\x34\x56\x78\x00\x00\x36\x7e".as_slice(),
+            Status::Refused,
+            "0+2 refused Encrypted\nframes=0 refused=1\n",
+        ),
+        (
+            b"\x7e\x00\x02\x04\x00\x01\x39\x12\x34\x56\x78\x00\x00\x32\x7e".as_slice(),
+            Status::Refused,
+            "0+12 refused CheckMismatch computed=36 found=32\nframes=0 refused=1\n",
+        ),
+        (
+            b"\x7e\x00\x02\x40\x00\x01\x00\x00\x00\x00\x01\x39\x12\x34\x56\x78\x00\x00\x73\x7e".as_slice(),
+            Status::Refused,
+            "0+2 refused OtherEdition\nframes=0 refused=1\n",
+        ),
+        (
+            b"\x7e\x00\x02\x00\x01\x01\x39\x12\x34\x56\x78\x00\x00\x33\x7e".as_slice(),
+            Status::Refused,
+            "0+2 refused LengthMismatch declared=1 actual=0\nframes=0 refused=1\n",
+        ),
+        (
+            b"\x7e\x00\x02\x00\x00\x01\x3a\x12\x34\x56\x78\x00\x00\x31\x7e".as_slice(),
+            Status::Refused,
+            "0+5 refused PhoneDigit\nframes=0 refused=1\n",
+        ),
+        (
+            b"\x7e\x00\x7e".as_slice(),
+            Status::Refused,
+            "0+1 refused TooShort\nframes=0 refused=1\n",
+        ),
+        (
+            b"\x7e\x01\x04\x20\x02\x01\x39\x12\x34\x56\x78\x00\x0a\x00\x03\x00\x01\x00\x07\x18\x7e".as_slice(),
+            Status::Done,
+            "0 2013 0x0104 params phone=013912345678 serial=10 packet=1/3 body=2 part=0007\nframes=1 refused=0\n",
+        ),
+        (
+            b"\x7e\x01\x04\x20\x02\x01\x39\x12\x34\x56\x78\x00\x0a\x00\x03\x00\x04\x00\x07\x1d\x7e".as_slice(),
+            Status::Refused,
+            "0+12 refused BadPacketNumber\nframes=0 refused=1\n",
+        ),
+        (
+            b"\x7e\x00\x02\x80\x00\x01\x39\x12\x34\x56\x78\x00\x00\xb2\x7e".as_slice(),
+            Status::Done,
+            "0 2013 0x0002 heartbeat phone=013912345678 serial=0 bit15 body=0\nframes=1 refused=0\n",
+        ),
+        (
+            b"\x7e\x80\x01\x00\x05\x01\x39\x12\x34\x56\x78\x00\x00\x00\x00\x00\x02\x00\xb6\x7e".as_slice(),
+            Status::Done,
+            "0 2013 0x8001 opaque phone=013912345678 serial=0 body=5 body-octets=0000000200\nframes=1 refused=0\n",
+        ),
+        (
+            b"\x7e\x00\x02\x00\x01\x01\x39\x12\x34\x56\x78\x00\x00\x41\x72\x7e".as_slice(),
+            Status::Refused,
+            "0+12 refused Trailing\nframes=0 refused=1\n",
+        ),
+        (
+            b"\x7e\x00\x02\x00\x01\x01\x39\x12\x34\x56\x78\x00\x00\x41\x72\x7e\x7e\x00\x02\x00\x00\x01\x39\x12\x34\x56\x78\x00\x00\x32\x7e".as_slice(),
+            Status::Refused,
+            "0+12 refused Trailing\n16 2013 0x0002 heartbeat phone=013912345678 serial=0 body=0\nframes=1 refused=1\n",
+        ),
     ] {
-        let ended = run_over(rt.alloc(), &["view"], octets, (0, 0))?;
-        expect(&rt, ended, status, written)?;
+        expect(&rt, alloc, &["view"], octets, (0, 0), status, written)?;
     }
-    let ended = run_over(rt.alloc(), &["view"], serial_0, (1, 0))?;
-    expect(&rt, ended, Status::ReadFault, "")?;
-    let ended = run_over(rt.alloc(), &["view"], serial_0, (0, 1))?;
-    expect(&rt, ended, Status::WriteFault, "")?;
-    let ended = run_over(rt.alloc(), &["views"], serial_0, (1, 0))?;
-    expect(&rt, ended, Status::Usage, USAGE)?;
-    let ended = run_over(rt.alloc(), &["view", "--hex"], serial_0, (1, 0))?;
-    expect(&rt, ended, Status::Usage, USAGE)?;
-    let ended = run_over(rt.alloc(), &[], serial_0, (1, 0))?;
-    expect(&rt, ended, Status::Usage, USAGE)
+    Ok(())
+}
+
+// 7e, 1,046 octets 00 and a heartbeat: the content is too long at its last octet, the heartbeat's first flag ends what is
+// skipped, what stands behind it is a stray run, and its last flag opens a frame that does not end.
+#[test]
+fn views_of_a_content_too_long(rt: HostRuntime) -> Result<(), Fail> {
+    let alloc = rt.alloc();
+    let mut octets = b"\x7e".to_vec(alloc)?;
+    octets.extend_from_slice(&[0; 1046])?;
+    octets.extend_from_slice(HEARTBEAT)?;
+    let written =
+        "1046+0 refused TooLong\n1048+0 refused Stray\n1062+0 refused Truncated\nframes=0 refused=3\n";
+    expect(
+        &rt,
+        alloc,
+        &["view"],
+        octets.as_slice(),
+        (0, 0),
+        Status::Refused,
+        written,
+    )
+}
+
+#[test]
+fn views_of_an_opaque_body(rt: HostRuntime) -> Result<(), Fail> {
+    let alloc = rt.alloc();
+    let mut octets = b"\x7e\x0f\xff\x03\xff\x01\x39\x12\x34\x56\x78\x00\x00".to_vec(alloc)?;
+    let mut written = String::from_str(
+        alloc,
+        "0 2013 0x0fff opaque phone=013912345678 serial=0 body=1023 body-octets=",
+    )?;
+    for _ in 0..1023 {
+        octets.extend_from_slice(b"\x7d\x02")?;
+        written.push_str("7e")?;
+    }
+    octets.extend_from_slice(b"\x42\x7e")?;
+    written.push_str("\nframes=1 refused=0\n")?;
+    expect(
+        &rt,
+        alloc,
+        &["view"],
+        octets.as_slice(),
+        (0, 0),
+        Status::Done,
+        written.as_str(),
+    )
+}
+
+#[test]
+fn hexadecimal_inputs_and_checks(rt: HostRuntime) -> Result<(), Fail> {
+    let alloc = rt.alloc();
+    let twice =
+        b"\x7e\x00\x02\x00\x00\x01\x39\x12\x34\x56\x78\x00\x00\x32\x7e\x7e\x00\x02\x00\x00\x01\x39\x12\x34\x56\x78\x00\x00\x32\x7e".as_slice();
+    let mismatch =
+        b"\x7e\x00\x02\x00\x00\x01\x39\x12\x34\x56\x78\x00\x00\x33\x7e\x7e\x00\x02\x00\x00\x01\x39\x12\x34\x56\x78\x00\x00\x32\x7e".as_slice();
+    for (words, octets, status, written) in [
+        (
+            ["view", "--hex"].as_slice(),
+            b"7e 7".as_slice(),
+            Status::Refused,
+            "hex refused at 4\n",
+        ),
+        (
+            ["view", "--hex"].as_slice(),
+            b"7e000200000139123456780000327e 7e0".as_slice(),
+            Status::Refused,
+            "0 2013 0x0002 heartbeat phone=013912345678 serial=0 body=0\nhex refused at 34\n",
+        ),
+        (
+            ["view", "--hex"].as_slice(),
+            b"7e000200000139123456780000327e7eg".as_slice(),
+            Status::Refused,
+            "0 2013 0x0002 heartbeat phone=013912345678 serial=0 body=0\nhex refused at 32\n",
+        ),
+        (
+            ["view", "--hex"].as_slice(),
+            b"7E 00020000 0139 1234\t5678\r\n0000 3\n2 7E".as_slice(),
+            Status::Done,
+            "0 2013 0x0002 heartbeat phone=013912345678 serial=0 body=0\nframes=1 refused=0\n",
+        ),
+        (["check"].as_slice(), twice, Status::Done, "ok frames=2\n"),
+        (
+            ["check"].as_slice(),
+            mismatch,
+            Status::Refused,
+            "0+12 refused CheckMismatch computed=32 found=33\n",
+        ),
+        (
+            ["check"].as_slice(),
+            b"\x7e\x00\x02".as_slice(),
+            Status::Refused,
+            "3+0 refused Truncated\n",
+        ),
+        (
+            ["check", "--hex"].as_slice(),
+            b"7e 00020000 0139 1234\t5678\r\n0000 3\n2 7e".as_slice(),
+            Status::Done,
+            "ok frames=1\n",
+        ),
+        (
+            ["check", "--hex"].as_slice(),
+            b"7e7ex".as_slice(),
+            Status::Refused,
+            "0+0 refused EmptyFrame\n",
+        ),
+        (
+            ["check", "--hex"].as_slice(),
+            b"x".as_slice(),
+            Status::Refused,
+            "hex refused at 0\n",
+        ),
+    ] {
+        expect(&rt, alloc, words, octets, (0, 0), status, written)?;
+    }
+    Ok(())
+}
+
+#[test]
+fn words_that_are_no_command(rt: HostRuntime) -> Result<(), Fail> {
+    let alloc = rt.alloc();
+    for words in [
+        [].as_slice(),
+        [""].as_slice(),
+        ["views"].as_slice(),
+        ["VIEW"].as_slice(),
+        ["view", "x"].as_slice(),
+        ["check", "x"].as_slice(),
+        ["view", "--hex", "--hex"].as_slice(),
+        ["--hex", "view"].as_slice(),
+        ["view", "--hex="].as_slice(),
+        ["view", "--he"].as_slice(),
+        ["view", "--"].as_slice(),
+        ["view", "--help"].as_slice(),
+        ["view\n"].as_slice(),
+        ["rehearse"].as_slice(),
+        ["platform"].as_slice(),
+    ] {
+        // The first read would fail.
+        expect(&rt, alloc, words, HEARTBEAT, (1, 0), Status::Usage, USAGE)?;
+    }
+    Ok(())
+}
+
+#[test]
+fn faults_of_the_outside(rt: HostRuntime) -> Result<(), Fail> {
+    let alloc = rt.alloc();
+    let line = "0 2013 0x0002 heartbeat phone=013912345678 serial=0 body=0\n";
+    expect(
+        &rt,
+        alloc,
+        &["view"],
+        HEARTBEAT,
+        (1, 0),
+        Status::ReadFault,
+        "",
+    )?;
+    expect(
+        &rt,
+        alloc,
+        &["view"],
+        HEARTBEAT,
+        (2, 0),
+        Status::ReadFault,
+        line,
+    )?;
+    expect(
+        &rt,
+        alloc,
+        &["check"],
+        HEARTBEAT,
+        (2, 0),
+        Status::ReadFault,
+        "",
+    )?;
+    expect(
+        &rt,
+        alloc,
+        &["view"],
+        HEARTBEAT,
+        (0, 1),
+        Status::WriteFault,
+        "",
+    )?;
+    expect(
+        &rt,
+        alloc,
+        &["view"],
+        HEARTBEAT,
+        (0, 2),
+        Status::WriteFault,
+        line,
+    )?;
+    expect(
+        &rt,
+        alloc,
+        &["check"],
+        HEARTBEAT,
+        (0, 1),
+        Status::WriteFault,
+        "",
+    )?;
+    expect(
+        &rt,
+        alloc,
+        &["views"],
+        HEARTBEAT,
+        (0, 1),
+        Status::WriteFault,
+        "",
+    )?;
+    // A check whose first piece has a refusal does not read again: the second read would fail.
+    expect(
+        &rt,
+        alloc,
+        &["check"],
+        b"\x00",
+        (2, 0),
+        Status::Refused,
+        "0+0 refused Stray\n",
+    )
+}
+
+#[test]
+fn inputs_that_are_too_long(rt: HostRuntime) -> Result<(), Fail> {
+    let alloc = rt.alloc();
+    let line = "0 2013 0x0002 heartbeat phone=013912345678 serial=0 body=0\n";
+    let hex = b"7e000200000139123456780000327e".as_slice();
+    let view = Command {
+        report: Report::View,
+        encoding: Encoding::Octets,
+    };
+    let check = Command {
+        report: Report::Check,
+        encoding: Encoding::Octets,
+    };
+    let view_hex = Command {
+        report: Report::View,
+        encoding: Encoding::Hex,
+    };
+    for (command, octets, most, status, closing, begins_with_line) in [
+        (
+            view,
+            HEARTBEAT,
+            15,
+            Status::Done,
+            "frames=1 refused=0\n",
+            true,
+        ),
+        (
+            view,
+            HEARTBEAT,
+            14,
+            Status::Refused,
+            "input too long\n",
+            false,
+        ),
+        (
+            view,
+            b"".as_slice(),
+            0,
+            Status::Done,
+            "frames=0 refused=0\n",
+            false,
+        ),
+        (
+            check,
+            HEARTBEAT,
+            14,
+            Status::Refused,
+            "input too long\n",
+            false,
+        ),
+        (
+            check,
+            b"\x00\x00".as_slice(),
+            1,
+            Status::Refused,
+            "0+0 refused Stray\n",
+            false,
+        ),
+        (
+            view_hex,
+            hex,
+            30,
+            Status::Done,
+            "frames=1 refused=0\n",
+            true,
+        ),
+        (
+            view_hex,
+            hex,
+            29,
+            Status::Refused,
+            "input too long\n",
+            false,
+        ),
+        (
+            view_hex,
+            b"7ex".as_slice(),
+            2,
+            Status::Refused,
+            "input too long\n",
+            false,
+        ),
+        (
+            view_hex,
+            b"7ex7".as_slice(),
+            3,
+            Status::Refused,
+            "hex refused at 2\n",
+            false,
+        ),
+    ] {
+        let mut written = String::new(alloc);
+        if begins_with_line {
+            written.push_str(line)?;
+        }
+        written.push_str(closing)?;
+        let mut outside = outside(alloc, octets, 8192, (0, 0))?;
+        let ended = report(alloc, &mut outside.source, &mut outside.sink, command, most);
+        assert_eq!(rt; ended, status, "{octets:?}");
+        assert_eq!(rt; outside.sink.octets(), written.as_bytes(), "{octets:?}");
+    }
+    Ok(())
+}
+
+#[test]
+fn lines_of_their_own(rt: HostRuntime) -> Result<(), Fail> {
+    let alloc = rt.alloc();
+    let (header, body) = jt_header::read_header(&HEARTBEAT[1..14])
+        .ok()
+        .ok_or("a content")?;
+    let message = jt_codec::read_message(alloc, &header, body)
+        .ok()
+        .ok_or("a message")?;
+    let line = view_line(alloc, 7, &header, &message, 0)?;
+    assert_eq!(rt;
+        line.as_slice(),
+        b"7 2013 0x0002 heartbeat phone=013912345678 serial=0 body=0\n".as_slice()
+    );
+    let refusal = jt_value::Refusal {
+        at: 3,
+        inside: 2,
+        why: jt_value::Why::LengthMismatch {
+            declared: 1,
+            actual: 0,
+        },
+    };
+    let line = refusal_line(alloc, &refusal)?;
+    assert_eq!(rt;
+        line.as_slice(),
+        b"3+2 refused LengthMismatch declared=1 actual=0\n".as_slice()
+    );
+    Ok(())
 }
 
 #[test]
 fn numbers_of_statuses(rt: HostRuntime) {
     for (status, number) in [
         (Status::Done, 0),
+        (Status::Refused, 1),
         (Status::Usage, 2),
         (Status::ReadFault, 3),
         (Status::WriteFault, 4),
         (Status::Memory, 8),
-        (Status::NotBuilt, 9),
     ] {
         assert_eq!(rt; status.number(), number);
     }
+}
+
+// Reads an input in two pieces, and compares the octets, the place of the first wrong octet, and whether a digit is left
+// where there is none.
+fn expect_hex(
+    rt: &impl Abort,
+    alloc: Global,
+    (front, rest): (&[u8], &[u8]),
+    octets: &[u8],
+    wrong: Option<usize>,
+    waiting: bool,
+) -> Result<(), Fail> {
+    let mut reader = HexReader::new();
+    let mut read = Vec::new(alloc);
+    let found = match reader.read(front, &mut read)? {
+        Some(index) => Some(index),
+        None => match reader.read(rest, &mut read)? {
+            Some(index) => Some(front.len() + index),
+            None => None,
+        },
+    };
+    assert_eq!(rt; found, wrong);
+    assert_eq!(rt; read.as_slice(), octets);
+    if found.is_none() {
+        assert_eq!(rt; reader.is_waiting(), waiting);
+    }
+    Ok(())
+}
+
+#[test]
+fn hexadecimal_input(rt: HostRuntime) -> Result<(), Fail> {
+    for (text, octets, wrong, waiting) in [
+        ("", [].as_slice(), None, false),
+        ("7e 7", [0x7E].as_slice(), None, true),
+        ("7e0", [0x7E].as_slice(), None, true),
+        ("7eg", [0x7E].as_slice(), Some(2), false),
+        ("7e07e/", [0x7E, 0x07].as_slice(), Some(5), false),
+        ("9aBcDeF0", [0x9A, 0xBC, 0xDE, 0xF0].as_slice(), None, false),
+        (
+            " \t\r\n0 1\t2\r3\n\n4  5\r\n",
+            [0x01, 0x23, 0x45].as_slice(),
+            None,
+            false,
+        ),
+        ("00\x0C11", [0x00].as_slice(), Some(2), false),
+        ("ff@", [0xFF].as_slice(), Some(2), false),
+        ("ff`", [0xFF].as_slice(), Some(2), false),
+        ("ffG", [0xFF].as_slice(), Some(2), false),
+        ("ff:", [0xFF].as_slice(), Some(2), false),
+        (" \n", [].as_slice(), None, false),
+        ("f", [].as_slice(), None, true),
+    ] {
+        let text = text.as_bytes();
+        for cut in 0..text.len() + 1 {
+            let pieces = (&text[..cut], &text[cut..]);
+            expect_hex(&rt, rt.alloc(), pieces, octets, wrong, waiting)?;
+        }
+    }
+    Ok(())
 }

@@ -1,0 +1,15 @@
+use Rattle.jt_value.proofs.OctetLists.{AreOctets-nil}
+use Rattle.jt_stream.specs.Item.{all_items}
+use Rattle.jt_cli.specs.Entry.{entries_of}
+use Rattle.std.proofs.Common.{[], refl}
+use Rattle.jt_cli.proofs.tally.Tally.new.Goals as goal
+
+pub returns : goal.returns
+unfolding all_items entries_of
+returns c = record {
+  stands = c.new.ensures.stream;
+  items = c.law_all_items.ensures.held [] AreOctets-nil;
+  place = c.new.ensures.place;
+  frames = refl;
+  refused = refl;
+}
