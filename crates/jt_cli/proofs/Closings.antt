@@ -1,20 +1,18 @@
 -- What closes a report.
-use Rattle.std.proofs.Common.{◌≡◌, ◌≤◌, ◌<◌, ℕ, ◌+◌, ◌==◌, cond, List, [], ◌∷◌, ◌++◌, Option, Some, None, length, refl, sym, ap, subst, ◌∙◌, arith, append_assoc, append-nil}
+use Rattle.std.proofs.Common.{◌≡◌, ℕ, ◌+◌, ◌==◌, cond, List, [], ◌∷◌, ◌++◌, Option, Some, None, refl, sym, ◌∙◌, arith, append_assoc, append-nil}
 use Rattle.std.proofs.lemmas.List.Concat.{flat_map-append}
 use Rattle.jt_value.specs.declared.refusal.Refusal.{Refusal}
 use Rattle.jt_escape.specs.Scan.{end_of_stream}
 use Rattle.jt_cli.specs.declared.command.Report.{Report}
 use Rattle.jt_cli.specs.declared.command.Report.TheVariants.{View, Check}
-use Rattle.jt_cli.specs.declared.reply.Closing.TheVariants.{Whole, TooLong, HexRefused}
-use Rattle.jt_cli.specs.declared.reply.Reply.{Reply}
-use Rattle.jt_cli.specs.declared.status.Status.{Status}
+use Rattle.jt_cli.specs.declared.closing.Closing.TheVariants.{Whole, TooLong, HexRefused}
 use Rattle.jt_cli.specs.declared.status.Status.TheVariants as status
 use Rattle.jt_cli.specs.declared.entry.Entry.{Entry}
 use Rattle.jt_cli.specs.declared.entry.Entry.TheVariants.{Frame, Refused}
 use Rattle.jt_cli.specs.Entry.{line_of, lines, entries_of, end_entries, frames, refusals, first_refusal}
 use Rattle.jt_cli.specs.Line.{refusal_line, counts_line, ok_line, too_long_line, hex_refused_line}
-use Rattle.jt_cli.specs.Report.{report_text, view_text, check_text, check_after}
-use Rattle.jt_cli.specs.Reporting.{Tally, Counts, GoesOn, Closes}
+use Rattle.jt_cli.specs.Report.{view_text, check_text}
+use Rattle.jt_cli.specs.Reporting.{Tally, Counts, Closes}
 use Rattle.jt_cli.proofs.Counting.{frames-append, refusals-append}
 use Rattle.jt_cli.proofs.EntriesTold.{first_refusal-append}
 

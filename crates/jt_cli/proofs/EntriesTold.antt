@@ -1,20 +1,17 @@
 -- Entries told one after another.
-use Rattle.std.proofs.Common.{◌≡◌, ◌≤◌, ◌<◌, ℕ, ◌+◌, ◌-◌, List, [], ◌∷◌, ◌++◌, Option, Some, None, length, take, drop, refl, sym, ap, subst, ◌∙◌, arith, append_assoc, append-nil, length-take, length-drop, length-append}
-use Rattle.std.proofs.lemmas.Grind.{common_steps}
+use Rattle.std.proofs.Common.{◌≡◌, ◌≤◌, ℕ, ◌+◌, List, [], ◌∷◌, ◌++◌, Option, Some, None, length, take, drop, refl, sym, ap, subst, ◌∙◌, arith, append_assoc, append-nil, length-drop}
 use Rattle.std.proofs.lemmas.List.Concat.{flat_map-append}
 use Rattle.std.proofs.lemmas.List.{take_all, take-append-drop}
 use Rattle.std.proofs.Math.Seq.{take-add}
 use Rattle.std.specs.Prelude.{option_to_list}
 use Rattle.jt_value.specs.declared.refusal.Refusal.{Refusal}
 use Rattle.jt_stream.specs.Item.{Item, all_items}
-use Rattle.jt_cli.specs.declared.command.Report.{Report}
 use Rattle.jt_cli.specs.declared.command.Report.TheVariants.{View, Check}
 use Rattle.jt_cli.specs.declared.entry.Entry.{Entry}
 use Rattle.jt_cli.specs.declared.entry.Entry.TheVariants.{Frame, Refused}
-use Rattle.jt_cli.specs.Entry.{line_of, lines, entry_of, entries_of, first_refusal}
+use Rattle.jt_cli.specs.Entry.{line_of, lines, entries_of, first_refusal}
 use Rattle.jt_cli.specs.Line.{refusal_line}
 use Rattle.jt_cli.specs.Reporting.{Tally, Counts, Brings, GoesOn, TellsOn, TellsLast}
-use Rattle.jt_cli.specs.Report.{printed}
 use Rattle.jt_cli.proofs.Counting.{entries_of-front}
 
 -- ---- views

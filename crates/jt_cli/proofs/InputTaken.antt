@@ -1,6 +1,6 @@
 -- What the pieces of an input make of the report of the whole.
-use Rattle.std.proofs.Common.{◌≡◌, ◌≤◌, ◌<◌, ℕ, ◌+◌, ◌-◌, ◌==◌, ◌%◌, nat_lt, Bool, true, false, List, [], ◌∷◌, ◌++◌, Option, Some, None, length, take, refl, sym, ap, subst, ◌∙◌, arith, append_assoc, append-nil, length-append}
-use Rattle.std.proofs.lemmas.Bool.{ltb-false, lt-ltb, le-ltb, cases_Bool}
+use Rattle.std.proofs.Common.{◌≡◌, ◌≤◌, ◌<◌, ℕ, ◌+◌, ◌-◌, nat_lt, true, List, [], ◌++◌, Option, Some, None, length, take, refl, ap, subst, ◌∙◌, arith, append_assoc, length-append}
+use Rattle.std.proofs.lemmas.Bool.{lt-ltb}
 use Rattle.std.proofs.lemmas.List.{take_all}
 use Rattle.std.proofs.Math.Seq.{take-append-add, take-append_seam}
 use Rattle.jt_value.specs.declared.refusal.Refusal.{Refusal}
@@ -12,16 +12,15 @@ use Rattle.jt_cli.specs.declared.command.Report.TheVariants.{View, Check}
 use Rattle.jt_cli.specs.declared.command.Encoding.{Encoding}
 use Rattle.jt_cli.specs.declared.command.Encoding.TheVariants.{Octets, Hex}
 use Rattle.jt_cli.specs.declared.entry.Entry.{Entry}
-use Rattle.jt_cli.specs.declared.reply.Closing.{Closing}
-use Rattle.jt_cli.specs.declared.reply.Closing.TheVariants.{Whole, TooLong, HexRefused}
-use Rattle.jt_cli.specs.declared.reply.Reply.{Reply}
+use Rattle.jt_cli.specs.declared.closing.Closing.{Closing}
+use Rattle.jt_cli.specs.declared.closing.Closing.TheVariants.{Whole, TooLong, HexRefused}
 use Rattle.jt_cli.specs.declared.reporter.Reporter.{Reporter}
 use Rattle.jt_cli.specs.declared.status.Status.{Status}
 use Rattle.jt_cli.specs.declared.status.Status.TheVariants.{Refused}
 use Rattle.jt_cli.specs.Entry.{entries_of, end_entries, first_refusal}
 use Rattle.jt_cli.specs.HexInput as hex
 use Rattle.jt_cli.specs.Line.{refusal_line}
-use Rattle.jt_cli.specs.Report.{decoded, wrong_place, lacks_digit, closing_at, closing_of, closed_entries, report_text, check_text, answer_of, printed}
+use Rattle.jt_cli.specs.Report.{decoded, wrong_place, closing_of, closed_entries, report_text, check_text, answer_of, printed}
 use Rattle.jt_cli.specs.Reporting.{Tally, Counts, GoesOn, TellsOn, TellsLast, Closes}
 use Rattle.jt_cli.specs.Taking.{IsRead, Stands, printed_of, TakesOn, TakesLast, Ends, EndsTooLong}
 use Rattle.jt_cli.proofs.Counting.{entries_of-front}

@@ -1,12 +1,12 @@
+pub mod Closings
 pub mod Counting
 pub mod EntriesTold
 pub mod EqualWords
 pub mod HexDigits
 pub mod HexSoFar
-pub mod Pieces
-pub mod Closings
 pub mod InputTaken
+pub mod Pieces
 pub mod PiecesTaken
 pub mod PrintedFirst
-pub mod StepsTaken
 pub mod RunsOver
+pub mod StepsTaken

@@ -1,12 +1,11 @@
 -- Pieces of an input that pass the most octets that may be read, and what is written of pieces.
-use Rattle.std.proofs.Common.{◌≡◌, ◌≢◌, ◌≤◌, ◌<◌, ◌⊎◌, ℕ, ◌+◌, ◌-◌, List, [], ◌∷◌, ◌++◌, Option, Some, None, length, take, drop, refl, sym, ap, subst, ◌∙◌, arith, inl, inr, append_assoc, append-nil, length-append, length-take, length-drop}
+use Rattle.std.proofs.Common.{◌≡◌, ◌≤◌, ◌<◌, ℕ, ◌+◌, List, [], ◌++◌, length, take, drop, sym, ap, subst, ◌∙◌, arith, append_assoc, length-append, length-drop}
 use Rattle.std.proofs.lemmas.List.{take-append-drop, length-take-le}
 use Rattle.jt_cli.specs.declared.command.Command.{Command}
-use Rattle.jt_cli.specs.declared.reply.Reply.{Reply}
 use Rattle.jt_cli.specs.declared.reporter.Reporter.{Reporter}
 use Rattle.jt_cli.specs.declared.status.Status.{Status}
 use Rattle.jt_cli.specs.Report.{answer_of}
-use Rattle.jt_cli.specs.Taking.{Stands, printed_of, TakesOn, TakesLast, Ends, EndsTooLong}
+use Rattle.jt_cli.specs.Taking.{printed_of, TakesOn, TakesLast, EndsTooLong}
 use Rattle.jt_cli.specs.Running.{Settles}
 
 -- a piece in two parts, and what follows

@@ -1,18 +1,16 @@
 -- A run over a source and a sink, from its steps.
-use Rattle.std.proofs.Common.{◌≡◌, ◌≤◌, ◌<◌, ◌⊎◌, ℕ, ◌+◌, List, [], ◌∷◌, ◌++◌, Option, Some, None, length, take, refl, sym, ap, subst, ◌∙◌, arith, inl, inr, append_assoc, append-nil}
+use Rattle.std.proofs.Common.{◌≡◌, ◌≤◌, ◌⊎◌, ℕ, List, [], ◌++◌, Option, Some, None, length, refl, subst, ◌∙◌, arith, inl, inr, append-nil}
 use Rattle.std.proofs.KnownBytes.{Appends-nil, Appends-trans, Consumes-nil, Consumes-trans, Consumes-kept}
 use Rattle.std.specs.Io.KnownBytes.{Appends, Consumes, Keeps, IsAtEnd}
 use Rattle.jt_cli.specs.declared.command.Command.{Command}
 use Rattle.jt_cli.specs.declared.command.Report.{Report}
-use Rattle.jt_cli.specs.declared.command.Report.TheVariants.{Check}
-use Rattle.jt_cli.specs.declared.reply.Reply.{Reply}
 use Rattle.jt_cli.specs.declared.reporter.Reporter.{Reporter}
 use Rattle.jt_cli.specs.declared.status.Status.{Status}
 use Rattle.jt_cli.specs.declared.status.Status.TheVariants.{ReadFault}
-use Rattle.jt_cli.specs.Answer.{Answers, IsFault, IsSettled, Runs, IsOpen, ReadsNoFurther, PrintsTaken}
+use Rattle.jt_cli.specs.Answer.{IsFault, Runs, IsOpen, ReadsNoFurther, PrintsTaken}
 use Rattle.jt_cli.specs.Report.{decoded, wrong_place, printed, answer_of}
 use Rattle.jt_cli.specs.Reporting.{GoesOn}
-use Rattle.jt_cli.specs.Taking.{Stands, printed_of, TakesOn}
+use Rattle.jt_cli.specs.Taking.{Stands, printed_of}
 use Rattle.jt_cli.specs.Running.{StepsOn, WritesRest, WritesPart, IsFinal, Steps, Finishes}
 use Rattle.jt_cli.proofs.InputTaken.{ItemsOfFront, OctetsOfFront, no_wrong}
 use Rattle.jt_cli.proofs.PrintedFirst.{printed_first}

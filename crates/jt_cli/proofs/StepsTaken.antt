@@ -1,14 +1,12 @@
 -- What a step of a run wrote.
-use Rattle.std.proofs.Common.{◌≡◌, ◌≢◌, ◌≤◌, ◌<◌, ◌⊎◌, ℕ, ◌+◌, List, [], ◌∷◌, ◌++◌, Option, Some, None, length, refl, sym, ap, subst, ◌∙◌, arith, inl, inr, append_assoc, append-nil, length-append}
+use Rattle.std.proofs.Common.{◌≡◌, ◌≤◌, ℕ, ◌+◌, List, [], ◌++◌, Option, Some, None, length, refl, sym, ap, subst, ◌∙◌, arith, inl, inr, append_assoc, append-nil, length-append}
 use Rattle.std.proofs.KnownBytes.{Appends-nil}
 use Rattle.std.specs.Io.KnownBytes.{Appends}
 use Rattle.jt_outside.specs.Sink.{AppendsPrefix}
-use Rattle.jt_cli.specs.declared.command.Command.{Command}
-use Rattle.jt_cli.specs.declared.reply.Reply.{Reply}
+use Rattle.jt_cli.specs.Reply.{Reply}
 use Rattle.jt_cli.specs.declared.reporter.Reporter.{Reporter}
 use Rattle.jt_cli.specs.declared.status.Status.{Status}
-use Rattle.jt_cli.specs.declared.status.Status.TheVariants.{Memory, WriteFault}
-use Rattle.jt_cli.specs.Answer.{IsFault}
+use Rattle.jt_cli.specs.declared.status.Status.TheVariants.{WriteFault}
 use Rattle.jt_cli.specs.Report.{answer_of}
 use Rattle.jt_cli.specs.Taking.{Stands, printed_of, TakesOn, Ends}
 use Rattle.jt_cli.specs.Running.{Settles, Advances, Writes, StepsOn, WritesRest, WritesPart, IsFinal, Steps, Finishes}

@@ -1,5 +1,5 @@
 -- What a run does with its source and its sink. To be believed.
-use Rattle.std.specs.Prelude.{◌≡◌, ℕ, ◌≤◌, ◌⊎◌, List, [], ◌++◌, length, Option, None}
+use Rattle.std.specs.Prelude.{◌≡◌, ℕ, ◌≤◌, ◌⊎◌, List, ◌++◌, length, Option, None}
 use Rattle.std.specs.Io.KnownBytes.{Appends, Consumes, IsAtEnd}
 use Rattle.jt_outside.specs.Sink.{AppendsPrefix}
 use Rattle.jt_cli.specs.Entry.{entries_of, first_refusal}
@@ -7,7 +7,7 @@ use Rattle.jt_cli.specs.Line.{usage_line}
 use Rattle.jt_cli.specs.Report.{decoded, wrong_place, printed}
 use Rattle.jt_cli.specs.declared.command.Command.{Command}
 use Rattle.jt_cli.specs.declared.command.Report.TheVariants.{Check}
-use Rattle.jt_cli.specs.declared.reply.Reply.{Reply}
+use Rattle.jt_cli.specs.Reply.{Reply}
 use Rattle.jt_cli.specs.declared.status.Status.{Status}
 use Rattle.jt_cli.specs.declared.status.Status.TheVariants.{Done, Refused, Usage, ReadFault, WriteFault, Memory}
 

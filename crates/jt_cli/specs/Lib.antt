@@ -2,8 +2,9 @@ pub mod Answer
 pub mod Entry
 pub mod HexInput
 pub mod Line
+pub mod Reply
 pub mod Report
 pub mod Reporting
-pub mod Words
-pub mod Taking
 pub mod Running
+pub mod Taking
+pub mod Words

@@ -1,5 +1,5 @@
 -- The lines that the program prints, as functions from values to octets: this project's texts. To be believed.
-use Rattle.std.specs.Prelude.{ℕ, ◌==◌, if◌then◌else◌, Bool, true, false, List, [], ◌∷◌, ◌++◌, Option, Some, None, codes}
+use Rattle.std.specs.Prelude.{ℕ, Bool, true, false, List, [], ◌∷◌, ◌++◌, Option, Some, None, codes}
 use Rattle.std.specs.Fmt.{decimal}
 use Rattle.std.specs.Int.{w16, to_be_bytes}
 use Rattle.hex.specs.Hex.{encode_lower}

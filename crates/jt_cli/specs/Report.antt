@@ -12,9 +12,9 @@ use Rattle.jt_cli.specs.declared.command.Report.{Report}
 use Rattle.jt_cli.specs.declared.command.Report.TheVariants.{View, Check}
 use Rattle.jt_cli.specs.declared.command.Encoding.{Encoding}
 use Rattle.jt_cli.specs.declared.command.Encoding.TheVariants.{Octets, Hex}
-use Rattle.jt_cli.specs.declared.reply.Closing.{Closing}
-use Rattle.jt_cli.specs.declared.reply.Closing.TheVariants.{Whole, TooLong, HexRefused}
-use Rattle.jt_cli.specs.declared.reply.Reply.{Reply}
+use Rattle.jt_cli.specs.declared.closing.Closing.{Closing}
+use Rattle.jt_cli.specs.declared.closing.Closing.TheVariants.{Whole, TooLong, HexRefused}
+use Rattle.jt_cli.specs.Reply.{Reply}
 use Rattle.jt_cli.specs.declared.status.Status.{Status}
 use Rattle.jt_cli.specs.declared.status.Status.TheVariants as status
 

@@ -1,8 +1,8 @@
 -- How far a run over a source and a sink has come. A step function for the proofs.
-use Rattle.std.specs.Prelude.{◌≡◌, ℕ, ◌+◌, ◌≤◌, ◌<◌, ◌⊎◌, List, [], ◌++◌, length, Option, Some, None}
+use Rattle.std.specs.Prelude.{◌≡◌, ℕ, ◌≤◌, ◌⊎◌, List, [], ◌++◌, length, Option, Some, None}
 use Rattle.std.specs.Io.KnownBytes.{Appends}
 use Rattle.jt_outside.specs.Sink.{AppendsPrefix}
-use Rattle.jt_cli.specs.Answer.{Answers, IsFault}
+use Rattle.jt_cli.specs.Answer.{IsFault}
 use Rattle.jt_cli.specs.Report.{answer_of}
 use Rattle.jt_cli.specs.Taking.{Stands, printed_of, TakesOn}
 use Rattle.jt_cli.specs.declared.reporter.Reporter.{Reporter}

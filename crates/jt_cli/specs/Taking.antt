@@ -1,5 +1,5 @@
 -- How far the report of an input has come. A step function for the proofs.
-use Rattle.std.specs.Prelude.{◌≡◌, ℕ, ◌+◌, ◌≤◌, ◌<◌, List, [], ◌++◌, length, Option, Some, None}
+use Rattle.std.specs.Prelude.{◌≡◌, ℕ, ◌≤◌, ◌<◌, List, ◌++◌, length, Option, Some, None}
 use Rattle.jt_cli.specs.declared.command.Encoding.{Encoding}
 use Rattle.jt_cli.specs.declared.command.Encoding.TheVariants.{Octets, Hex}
 use Rattle.jt_cli.specs.declared.reporter.Reporter.{Reporter}

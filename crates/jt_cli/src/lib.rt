@@ -1,12 +1,12 @@
 //! The command line: what each list of words does to the source and the sink.
 #![tactic(auto)]
 
+mod closing;
 mod command;
 mod entry;
 mod hex_laws;
 mod hex_reader;
 mod lines;
-mod reply;
 mod reporter;
 mod running;
 mod status;
@@ -14,10 +14,10 @@ mod tally;
 mod telling;
 mod top;
 
+pub use closing::Closing;
 pub use command::{Command, Encoding, Report};
 pub use entry::{Entry, refusal_line, view_line};
 pub use hex_laws::{law_octets_of_front, law_wrong_stays};
-pub use reply::{Closing, Reply};
 pub use running::report;
 pub use status::Status;
 pub use top::{Ended, Outside, run};

@@ -4,10 +4,10 @@ ghost use Rattle.std.specs.Prelude.{◌≡◌, ◌⊎◌, IfSome, ◌<◌, ◌�
 ghost use Rattle.jt_cli.specs.Report.{closing_of};
 ghost use Rattle.jt_cli.specs.Taking.{Stands, Takes, Ends, EndsTooLong};
 
+use crate::closing::Closing;
 use crate::command::{Command, Encoding};
 use crate::hex_laws::{law_octets_of_front, law_wrong_stays};
 use crate::hex_reader::HexReader;
-use crate::reply::Closing;
 use crate::status::Status;
 use crate::tally::Tally;
 use crate::telling::{close, tell};

@@ -4,12 +4,12 @@ ghost use Rattle.std.specs.Prelude.{◌≡◌, ◌≢◌, ◌⊎◌, ◌<◌, �
 ghost use Rattle.jt_cli.specs.Entry.{lines, end_entries, refusals, first_refusal};
 ghost use Rattle.jt_cli.specs.Reporting.{Views, Checks, Tells, TellsOn, Closes};
 
+use crate::closing::Closing;
 use crate::command::Report;
 use crate::entry::Entry;
 use crate::lines::{
     push_counts_line, push_hex_refused_line, push_ok_line, push_refusal_line, push_too_long_line,
 };
-use crate::reply::Closing;
 use crate::status::Status;
 use crate::tally::Tally;
 use jt_stream::law_all_items;

@@ -288,30 +288,47 @@ fn hexadecimal_inputs_and_checks(rt: HostRuntime) -> Result<(), Fail> {
     Ok(())
 }
 
+// Nothing is read: the first read would fail.
 #[test]
 fn words_that_are_no_command(rt: HostRuntime) -> Result<(), Fail> {
     let alloc = rt.alloc();
-    for words in [
-        [].as_slice(),
-        [""].as_slice(),
-        ["views"].as_slice(),
-        ["VIEW"].as_slice(),
-        ["view", "x"].as_slice(),
-        ["check", "x"].as_slice(),
-        ["view", "--hex", "--hex"].as_slice(),
-        ["--hex", "view"].as_slice(),
-        ["view", "--hex="].as_slice(),
-        ["view", "--he"].as_slice(),
-        ["view", "--"].as_slice(),
-        ["view", "--help"].as_slice(),
-        ["view\n"].as_slice(),
-        ["rehearse"].as_slice(),
-        ["platform"].as_slice(),
-    ] {
-        // The first read would fail.
-        expect(&rt, alloc, words, HEARTBEAT, (1, 0), Status::Usage, USAGE)?;
-    }
-    Ok(())
+    expect(&rt, alloc, &[], HEARTBEAT, (1, 0), Status::Usage, USAGE)?;
+    expect(
+        &rt,
+        alloc,
+        &["views"],
+        HEARTBEAT,
+        (1, 0),
+        Status::Usage,
+        USAGE,
+    )?;
+    expect(
+        &rt,
+        alloc,
+        &["view", "--hex", "--hex"],
+        HEARTBEAT,
+        (1, 0),
+        Status::Usage,
+        USAGE,
+    )?;
+    expect(
+        &rt,
+        alloc,
+        &["view", "--help"],
+        HEARTBEAT,
+        (1, 0),
+        Status::Usage,
+        USAGE,
+    )?;
+    expect(
+        &rt,
+        alloc,
+        &["rehearse"],
+        HEARTBEAT,
+        (1, 0),
+        Status::Usage,
+        USAGE,
+    )
 }
 
 #[test]
@@ -596,6 +613,49 @@ fn hexadecimal_input(rt: HostRuntime) -> Result<(), Fail> {
             let pieces = (&text[..cut], &text[cut..]);
             expect_hex(&rt, rt.alloc(), pieces, octets, wrong, waiting)?;
         }
+    }
+    Ok(())
+}
+
+#[test]
+fn words_of_commands(rt: HostRuntime) -> Result<(), Fail> {
+    let alloc = rt.alloc();
+    for (words, wanted) in [
+        (["view"].as_slice(), Some((Report::View, Encoding::Octets))),
+        (
+            ["view", "--hex"].as_slice(),
+            Some((Report::View, Encoding::Hex)),
+        ),
+        (
+            ["check"].as_slice(),
+            Some((Report::Check, Encoding::Octets)),
+        ),
+        (
+            ["check", "--hex"].as_slice(),
+            Some((Report::Check, Encoding::Hex)),
+        ),
+        ([].as_slice(), None),
+        ([""].as_slice(), None),
+        (["views"].as_slice(), None),
+        (["VIEW"].as_slice(), None),
+        (["view", "x"].as_slice(), None),
+        (["check", "x"].as_slice(), None),
+        (["view", "--hex", "--hex"].as_slice(), None),
+        (["--hex", "view"].as_slice(), None),
+        (["view", "--hex="].as_slice(), None),
+        (["view", "--he"].as_slice(), None),
+        (["view", "--"].as_slice(), None),
+        (["view", "--help"].as_slice(), None),
+        (["view\n"].as_slice(), None),
+        (["rehearse"].as_slice(), None),
+        (["platform"].as_slice(), None),
+    ] {
+        let mut all = Vec::new(alloc);
+        for word in words {
+            all.push(String::from_str(alloc, word)?)?;
+        }
+        let wanted = wanted.map(|(report, encoding)| Command { report, encoding });
+        assert_eq!(rt; Command::from_words(&all), wanted);
     }
     Ok(())
 }

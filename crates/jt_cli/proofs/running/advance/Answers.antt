@@ -1,4 +1,4 @@
-use Rattle.std.proofs.Common.{◌-◌, arith, refl}
+use Rattle.std.proofs.Common.{◌-◌, arith}
 use Rattle.jt_cli.proofs.PiecesTaken.{settled_early, settled_too_long}
 use Rattle.jt_cli.proofs.running.advance.Goals as goal
 

@@ -1,6 +1,5 @@
-use Rattle.std.proofs.Common.{◌≡◌, ◌≤◌, length, arith, refl, subst, sym}
+use Rattle.std.proofs.Common.{◌≡◌, arith, refl}
 use Rattle.std.proofs.lemmas.Grind.{common_steps}
-use Rattle.std.specs.Prelude.{Option, Some, None}
 use Rattle.jt_cli.proofs.InputTaken.{printed_nothing}
 use Rattle.jt_cli.proofs.RunsOver.{runs_first, runs_more, runs_last, runs_end, runs_failed, reads_no_further, reads_to_the_end, prints_taken}
 use Rattle.jt_cli.proofs.running.report.Goals as goal

@@ -1,8 +1,6 @@
 use Rattle.std.proofs.Common.{◌≡◌, ◌-◌, Option, Some, length, take, drop, sym, subst, ◌∙◌, arith}
 use Rattle.std.proofs.lemmas.Grind.{common_steps}
-use Rattle.std.specs.Prelude.{option_to_list}
 use Rattle.jt_cli.proofs.EntriesTold.{checking_none, checking_more, checking_done, checking_last, only_entry}
-use Rattle.jt_cli.specs.Entry.{first_refusal}
 use Rattle.jt_cli.specs.Reporting.{Brings}
 use Rattle.jt_cli.specs.declared.entry.Entry.{Entry}
 use Rattle.jt_cli.specs.declared.entry.Entry.TheVariants.{Refused}

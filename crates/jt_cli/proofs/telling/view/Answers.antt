@@ -1,6 +1,6 @@
 use Rattle.std.proofs.Common.{◌≡◌, ◌-◌, length, take, drop, arith}
 use Rattle.std.proofs.lemmas.Grind.{common_steps}
-use Rattle.jt_cli.proofs.EntriesTold.{viewing_none, viewing_more, viewing_done}
+use Rattle.jt_cli.proofs.EntriesTold.{viewing_none, viewing_more}
 use Rattle.jt_cli.proofs.telling.view.Goals as goal
 
 pub loop-at-init : goal.loop-at-init

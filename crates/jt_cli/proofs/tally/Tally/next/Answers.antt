@@ -1,4 +1,4 @@
-use Rattle.std.proofs.Common.{refl, arith, length-take}
+use Rattle.std.proofs.Common.{refl, arith}
 use Rattle.std.proofs.lemmas.Grind.{common_steps}
 use Rattle.jt_cli.proofs.Counting.{brings}
 use Rattle.jt_cli.proofs.tally.Tally.next.Goals as goal

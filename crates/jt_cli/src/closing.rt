@@ -1,14 +1,4 @@
-//! What the program answers.
-
-use crate::status::Status;
-use jt_value::Octets;
-
-/// A text that a run writes, and the status with which it then ends.
-#[derive(Drop)]
-pub struct Reply {
-    pub text: Octets,
-    pub status: Status,
-}
+//! How inputs close.
 
 /// How an input closes.
 #[derive(Clone, Copy, Debug, PartialEq, Eq)]
