@@ -289,222 +289,92 @@ fn hexadecimal_inputs_and_checks(rt: HostRuntime) -> Result<(), Fail> {
 }
 
 // Nothing is read: the first read would fail.
+fn expect_usage(rt: &impl Abort, alloc: Global, words: &[&str]) -> Result<(), Fail> {
+    expect(rt, alloc, words, HEARTBEAT, (1, 0), Status::Usage, USAGE)
+}
+
 #[test]
 fn words_that_are_no_command(rt: HostRuntime) -> Result<(), Fail> {
     let alloc = rt.alloc();
-    expect(&rt, alloc, &[], HEARTBEAT, (1, 0), Status::Usage, USAGE)?;
-    expect(
-        &rt,
-        alloc,
-        &["views"],
-        HEARTBEAT,
-        (1, 0),
-        Status::Usage,
-        USAGE,
-    )?;
-    expect(
-        &rt,
-        alloc,
-        &["view", "--hex", "--hex"],
-        HEARTBEAT,
-        (1, 0),
-        Status::Usage,
-        USAGE,
-    )?;
-    expect(
-        &rt,
-        alloc,
-        &["view", "--help"],
-        HEARTBEAT,
-        (1, 0),
-        Status::Usage,
-        USAGE,
-    )?;
-    expect(
-        &rt,
-        alloc,
-        &["rehearse"],
-        HEARTBEAT,
-        (1, 0),
-        Status::Usage,
-        USAGE,
-    )
+    expect_usage(&rt, alloc, &[])?;
+    expect_usage(&rt, alloc, &["views"])?;
+    expect_usage(&rt, alloc, &["view", "--hex", "--hex"])?;
+    expect_usage(&rt, alloc, &["view", "--help"])?;
+    expect_usage(&rt, alloc, &["rehearse"])
 }
 
+// A check whose first piece has a refusal does not read again: in the last row the second read would fail.
 #[test]
 fn faults_of_the_outside(rt: HostRuntime) -> Result<(), Fail> {
     let alloc = rt.alloc();
     let line = "0 2013 0x0002 heartbeat phone=013912345678 serial=0 body=0\n";
-    expect(
-        &rt,
-        alloc,
-        &["view"],
-        HEARTBEAT,
-        (1, 0),
-        Status::ReadFault,
-        "",
-    )?;
-    expect(
-        &rt,
-        alloc,
-        &["view"],
-        HEARTBEAT,
-        (2, 0),
-        Status::ReadFault,
-        line,
-    )?;
-    expect(
-        &rt,
-        alloc,
-        &["check"],
-        HEARTBEAT,
-        (2, 0),
-        Status::ReadFault,
-        "",
-    )?;
-    expect(
-        &rt,
-        alloc,
-        &["view"],
-        HEARTBEAT,
-        (0, 1),
-        Status::WriteFault,
-        "",
-    )?;
-    expect(
-        &rt,
-        alloc,
-        &["view"],
-        HEARTBEAT,
-        (0, 2),
-        Status::WriteFault,
-        line,
-    )?;
-    expect(
-        &rt,
-        alloc,
-        &["check"],
-        HEARTBEAT,
-        (0, 1),
-        Status::WriteFault,
-        "",
-    )?;
-    expect(
-        &rt,
-        alloc,
-        &["views"],
-        HEARTBEAT,
-        (0, 1),
-        Status::WriteFault,
-        "",
-    )?;
-    // A check whose first piece has a refusal does not read again: the second read would fail.
-    expect(
-        &rt,
-        alloc,
-        &["check"],
-        b"\x00",
-        (2, 0),
-        Status::Refused,
-        "0+0 refused Stray\n",
-    )
+    let stray = "0+0 refused Stray\n";
+    for (word, octets, failing, status, written) in [
+        ("view", HEARTBEAT, (1, 0), Status::ReadFault, ""),
+        ("view", HEARTBEAT, (2, 0), Status::ReadFault, line),
+        ("check", HEARTBEAT, (2, 0), Status::ReadFault, ""),
+        ("view", HEARTBEAT, (0, 1), Status::WriteFault, ""),
+        ("view", HEARTBEAT, (0, 2), Status::WriteFault, line),
+        ("check", HEARTBEAT, (0, 1), Status::WriteFault, ""),
+        ("views", HEARTBEAT, (0, 1), Status::WriteFault, ""),
+        ("check", b"\x00".as_slice(), (2, 0), Status::Refused, stray),
+    ] {
+        expect(&rt, alloc, &[word], octets, failing, status, written)?;
+    }
+    Ok(())
 }
 
 #[test]
 fn inputs_that_are_too_long(rt: HostRuntime) -> Result<(), Fail> {
     let alloc = rt.alloc();
     let line = "0 2013 0x0002 heartbeat phone=013912345678 serial=0 body=0\n";
+    let one = "frames=1 refused=0\n";
+    let too_long = "input too long\n";
     let hex = b"7e000200000139123456780000327e".as_slice();
-    let view = Command {
-        report: Report::View,
-        encoding: Encoding::Octets,
-    };
-    let check = Command {
-        report: Report::Check,
-        encoding: Encoding::Octets,
-    };
-    let view_hex = Command {
-        report: Report::View,
-        encoding: Encoding::Hex,
-    };
-    for (command, octets, most, status, closing, begins_with_line) in [
-        (
-            view,
-            HEARTBEAT,
-            15,
-            Status::Done,
-            "frames=1 refused=0\n",
-            true,
-        ),
-        (
-            view,
-            HEARTBEAT,
-            14,
-            Status::Refused,
-            "input too long\n",
-            false,
-        ),
+    let command = |report, encoding| Command { report, encoding };
+    let view = command(Report::View, Encoding::Octets);
+    let check = command(Report::Check, Encoding::Octets);
+    let view_hex = command(Report::View, Encoding::Hex);
+    for (command, octets, most, status, front, closing) in [
+        (view, HEARTBEAT, 15, Status::Done, line, one),
+        (view, HEARTBEAT, 14, Status::Refused, "", too_long),
         (
             view,
             b"".as_slice(),
             0,
             Status::Done,
+            "",
             "frames=0 refused=0\n",
-            false,
         ),
-        (
-            check,
-            HEARTBEAT,
-            14,
-            Status::Refused,
-            "input too long\n",
-            false,
-        ),
+        (check, HEARTBEAT, 14, Status::Refused, "", too_long),
         (
             check,
             b"\x00\x00".as_slice(),
             1,
             Status::Refused,
+            "",
             "0+0 refused Stray\n",
-            false,
         ),
-        (
-            view_hex,
-            hex,
-            30,
-            Status::Done,
-            "frames=1 refused=0\n",
-            true,
-        ),
-        (
-            view_hex,
-            hex,
-            29,
-            Status::Refused,
-            "input too long\n",
-            false,
-        ),
+        (view_hex, hex, 30, Status::Done, line, one),
+        (view_hex, hex, 29, Status::Refused, "", too_long),
         (
             view_hex,
             b"7ex".as_slice(),
             2,
             Status::Refused,
-            "input too long\n",
-            false,
+            "",
+            too_long,
         ),
         (
             view_hex,
             b"7ex7".as_slice(),
             3,
             Status::Refused,
+            "",
             "hex refused at 2\n",
-            false,
         ),
     ] {
-        let mut written = String::new(alloc);
-        if begins_with_line {
-            written.push_str(line)?;
-        }
+        let mut written = String::from_str(alloc, front)?;
         written.push_str(closing)?;
         let mut outside = outside(alloc, octets, 8192, (0, 0))?;
         let ended = report(alloc, &mut outside.source, &mut outside.sink, command, most);
@@ -650,10 +520,7 @@ fn words_of_commands(rt: HostRuntime) -> Result<(), Fail> {
         (["rehearse"].as_slice(), None),
         (["platform"].as_slice(), None),
     ] {
-        let mut all = Vec::new(alloc);
-        for word in words {
-            all.push(String::from_str(alloc, word)?)?;
-        }
+        let all = words_of(alloc, words)?;
         let wanted = wanted.map(|(report, encoding)| Command { report, encoding });
         assert_eq!(rt; Command::from_words(&all), wanted);
     }
