@@ -47,6 +47,8 @@ one_to_one b law = record {
   reads_back = λ a fits. record { fits = fits; parts = refl };
   distinct = λ a c fa fc same. one_value b law (b.spell a) a c (record { fits = fa; parts = refl }) (record { fits = fc; parts = same });
   placed = λ s r h. law.placed s 0 r (omega arith) h;
+  reads_value = λ s a bytes. (λ e. law.takes s 0 a bytes (omega arith) e, λ h. law.again s 0 a (omega arith) h);
+  reads_reason = λ s r bytes. (λ e. law.refused s 0 r bytes (omega arith) e, λ h. law.refuses s 0 r (omega arith) h);
 }
 
 -- two pieces written one after the other

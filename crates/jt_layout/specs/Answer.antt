@@ -1,5 +1,5 @@
 -- What a reader of a body answers, and the law of every body. To be believed.
-use Rattle.std.specs.Prelude.{◌≡◌, ℕ, ◌≤◌, ◌⊎◌, List, length, Result, Ok, Err}
+use Rattle.std.specs.Prelude.{◌≡◌, ◌↔◌, ℕ, ◌≤◌, ◌⊎◌, List, length, Result, Ok, Err}
 use Rattle.jt_value.specs.declared.refusal.Refusal.{Refusal}
 use Rattle.jt_value.specs.declared.refusal.CodecError.{CodecError}
 use Rattle.jt_value.specs.declared.refusal.CodecError.TheVariants as errors
@@ -32,3 +32,7 @@ pub record IsOneToOne {A : Type 0} (b : Body A) : Type 0 where
   pub distinct : (a c : A) → b.Fits a → b.Fits c → b.spell a ≡ b.spell c → a ≡ c
   -- a reason names a place in the octets, or their end
   pub placed : (s : List ℕ) (r : Refusal) → b.Refuses s 0 r → IsPlaced s r
+  -- reading as a function gives exactly the value
+  pub reads_value : (s : List ℕ) (a : A) → AreOctets s → (b.read s 0 ≡ Ok a) ↔ Fills b s 0 a
+  -- and exactly the reason
+  pub reads_reason : (s : List ℕ) (r : Refusal) → AreOctets s → (b.read s 0 ≡ Err r) ↔ b.Refuses s 0 r
