@@ -95,6 +95,7 @@ f ▹ g = record {
   read = λ s p. f.read s p >>= λ x. (g x.0).read s x.1 >>= λ y. Ok ((x.0, y.0), y.1);
 }
 
+-- f, and then the body that its value determines
 infixr 5 ◌▸◌
 abbrev pub ◌▸◌ : {A B : Type 0} → Part A → (A → Body B) → Body (A × B)
 f ▸ g = record {
@@ -155,6 +156,7 @@ rest_if b = if_body b rest nothing
 
 -- ---- the same fields, seen as a value of another type
 
+-- the same fields, their values seen by `to`, and given back by `from`
 abbrev pub part_as : {A B : Type 0} → Part A → (A → B) → (B → A) → Part B
 part_as f to from = record {
   spell = λ b. f.spell (from b);
@@ -163,6 +165,7 @@ part_as f to from = record {
   read = λ s p. f.read s p >>= λ x. Ok (to x.0, x.1);
 }
 
+-- the same for a body
 abbrev pub body_as : {A B : Type 0} → Body A → (A → B) → (B → A) → Body B
 body_as f to from = record {
   spell = λ b. f.spell (from b);
@@ -217,6 +220,8 @@ unfoldable pub read_times : {A : Type 0} → Reading A → ℕ → List ℕ → 
 read_times read zero s p = Ok ([], p)
 read_times read (suc n) s p = read s p >>= λ x. read_times read n s x.1 >>= λ xs. Ok (x.0 ∷ xs.0, xs.1)
 
+-- What a list of parts spells, and which lists fit. It serves to say that a list stands in octets, and stands in no layout,
+-- since it reads nothing.
 abbrev pub list_of : {A : Type 0} → Part A → Part (List A)
 list_of f = record {
   spell = flat_map f.spell;

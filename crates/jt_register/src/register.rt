@@ -13,7 +13,9 @@ use std::alloc::Global;
 /// A terminal asks to be registered with a vehicle (the standard's message body of a registration).
 #[derive(Drop)]
 pub struct Register {
+    /// The code of the province. Every number is accepted.
     pub province: u16,
+    /// The code of the city. Every number is accepted.
     pub city: u16,
     /// The maker's id: 5 octets in 2013.
     pub maker: Octets,
