@@ -1,5 +1,5 @@
 -- A parameter table is a finite map from id to value. To be believed.
-use Rattle.std.specs.Prelude.{◌≡◌, ℕ, ◌<◌, ◌==◌, if◌then◌else◌, List, [], ◌∷◌, map, Option, Some, None, IfSome}
+use Rattle.std.specs.Prelude.{◌≡◌, ℕ, ◌<◌, ◌==◌, if◌then◌else◌, List, [], ◌∷◌, map, Option, Some, None}
 use Rattle.std.specs.FinMap.{FinMap, get, len, entries}
 use Rattle.std.specs.List.{flat_map}
 use Rattle.std.specs.Option.{option_or, option_map, option_to_list}
@@ -7,7 +7,6 @@ use Rattle.std.specs.Ordering.{nat_cmp}
 use Rattle.jt_params.specs.declared.param.ParamValue.{ParamValue}
 use Rattle.jt_params.specs.declared.param.ParamValue.TheVariants.{Byte, Word, Dword, Text, Raw}
 use Rattle.jt_params.specs.declared.param.Param.{Param}
-use Rattle.jt_params.specs.Params.{ParamFits}
 
 -- from ids to values
 abbrev pub Table : Type 0
@@ -31,9 +30,13 @@ pub record IsOneTable : Type 0 where
   pub has : (params : List Param) (before : Table) → (after : Table) × Sets params before after
   pub one : (params : List Param) (before after other : Table) → Sets params before after → Sets params before other → after ≡ other
 
+-- the parameters of entries
+abbrev pub params_of : List (ℕ × ParamValue) → List Param
+params_of pairs = map (λ pair. param_of pair.0 pair.1) pairs
+
 -- all parameters of a table, in order of their ids
 abbrev pub listed : Table → List Param
-listed table = map (λ entry. param_of entry.0 entry.1) (entries table)
+listed table = params_of (entries table)
 
 -- the parameter of an id, if the table has it
 abbrev pub param_at : Table → ℕ → Option Param
@@ -47,7 +50,3 @@ selected table ids = flat_map (λ id. option_to_list (param_at table id)) ids
 abbrev pub dword_of : ParamValue → Option ℕ
 dword_of (Dword n) = Some n
 dword_of _ = None
-
--- each parameter of the table has octets
-abbrev pub HasOctets : Table → Type 0
-HasOctets table = (id : ℕ) → IfSome (param_at table id) ParamFits

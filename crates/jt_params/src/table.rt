@@ -1,11 +1,11 @@
 //! The table of a terminal's parameters.
 
-ghost use Rattle.std.specs.Prelude.{◌≡◌, ◌<◌, ◌≤◌, ◌^◌, length, OnOk, OnErr, IfOk, IfErr};
+ghost use Rattle.std.specs.Prelude.{◌≡◌, ℕ, ◌+◌, ◌<◌, ◌≤◌, ◌^◌, length, OnOk, OnErr, IfOk, IfErr, option_copied};
+ghost use Rattle.std.specs.BTreeMap as tree;
 ghost use Rattle.std.specs.FinMap as map;
-ghost use Rattle.std.specs.List.{AllByRecursion};
-ghost use Rattle.std.specs.Option.{option_and_then};
-ghost use Rattle.jt_params.specs.Params.{ParamFits, params as params_body};
-ghost use Rattle.jt_params.specs.Tables.{HasOctets, IsOneTable, Sets, dword_of, listed, selected};
+ghost use Rattle.std.specs.Option.{option_and_then, option_or};
+ghost use Rattle.std.specs.Ordering.{nat_cmp};
+ghost use Rattle.jt_params.specs.Tables.{IsOneTable, Sets, dword_of, last_value, listed, param_at, params_of, selected};
 ghost use Rattle.jt_params.specs.Refused.{IsTooMany};
 
 use crate::param::{Param, ParamValue};
@@ -29,7 +29,13 @@ impl Model for ParamTable {
     ghost use Rattle.std.specs.FinMap.{from_entries};
     ghost use Rattle.jt_params.specs.Tables.{Table};
 
+    ghost use Rattle.std.specs.Coded.{coded_ℕ};
+    ghost use Rattle.std.specs.FinMap.{code};
+    ghost use Rattle.jt_params.specs.contracts.param.ParamValue as value;
+
     ghost Value = { Table };
+
+    ghost coded = { code coded_ℕ value.the_row.coded };
 
     ghost view = { λ table. from_entries table.values.entries };
 
@@ -75,6 +81,33 @@ impl<T: Drop> From<AllocFailed<T>> for ParamError {
     }
 }
 
+// Sets parameters in a map. After a want of memory the map may have some of them.
+fn set_in(values: &mut BTreeMap<u32, ParamValue>, params: &[Param]) -> Result<(), Memory>
+    ensures values { OnOk result ((id : ℕ) → tree.get nat_cmp values.new id
+        ≡ option_or (last_value params.now id) (tree.get nat_cmp values.old id)) }
+    ensures size { OnOk result (tree.btree_map_len values.new ≤ tree.btree_map_len values.old + length params.now) }
+{
+    for param in params {
+        values.insert(param.id, param.value.clone()?)?;
+    }
+    Ok(())
+}
+
+// The parameters of a map in its order.
+fn listed_in(alloc: Global, values: &BTreeMap<u32, ParamValue>) -> Result<Seq<Param>, Memory>
+    ensures params { IfOk result (λ params. params ≡ params_of values.now.entries) }
+    ensures ordered { tree.IsOrdered nat_cmp values.now }
+{
+    let mut params = Vec::with_capacity(alloc, values.len())?;
+    for (id, value) in values {
+        params.push(Param {
+            id: *id,
+            value: value.clone()?,
+        })?;
+    }
+    Ok(Seq::from_vec(params))
+}
+
 impl ParamTable {
     /// A table without parameters, which takes no memory.
     pub fn new(alloc: Global) -> ParamTable
@@ -88,21 +121,18 @@ impl ParamTable {
     /// Sets at most 65,535 parameters in their order: a later one of an id replaces an earlier one, and one that the table
     /// has. TooMany comes exactly where the table would then have more than 255, and has their number. After each error the
     /// table is as before.
-    pub fn set_all(&mut self, alloc: Global, params: &Seq<Param>) -> Result<(), ParamError>
+    pub fn set_all(&mut self, params: &Seq<Param>) -> Result<(), ParamError>
         requires { length params.now < 2 ^ 16 }
         ensures ok { OnOk result (Sets params.now self.old self.new) }
         ensures few { OnOk result (map.len self.new ≤ 255) }
         ensures too_many { IfErr result (IsTooMany params.now self.old) }
         ensures err { OnErr result (self.new ≡ self.old) }
-        // A table of parameters that have octets stays one.
-        ensures octets { HasOctets self.old → AllByRecursion ParamFits params.now → HasOctets self.new }
     {
         let mut values = self.values.clone()?;
-        for param in params.as_slice() {
-            values.insert(param.id, param.value.clone()?)?;
-        }
-        if values.len() > MOST {
-            return Err(ParamError::TooMany(values.len() as u32));
+        set_in(&mut values, params.as_slice())?;
+        let count = values.len();
+        if count > MOST {
+            return Err(ParamError::TooMany(count as u32));
         }
         self.values = values;
         Ok(())
@@ -112,17 +142,28 @@ impl ParamTable {
     pub fn list(&self, alloc: Global) -> Result<Seq<Param>, Memory>
         ensures params { IfOk result (λ params. params ≡ listed self.now) }
         ensures few { IfOk result (λ params. length params ≤ 255) }
-        // They can be written if each has octets.
-        ensures octets { HasOctets self.now → IfOk result params_body.Fits }
     {
-        let mut params = Seq::new(alloc);
-        for (id, value) in &self.values {
-            params.push(Param {
-                id: *id,
+        listed_in(alloc, &self.values)
+    }
+
+    // The value under an id.
+    fn value(&self, id: u32) -> Option<&ParamValue>
+        ensures { option_copied result ≡ map.get self.now id }
+    {
+        self.values.get(&id)
+    }
+
+    // The parameter of an id, if there is one.
+    fn param(&self, id: u32) -> Result<Option<Param>, Memory>
+        ensures { IfOk result (λ param. param ≡ param_at self.now id) }
+    {
+        match self.value(id) {
+            Some(value) => Ok(Some(Param {
+                id,
                 value: value.clone()?,
-            })?;
+            })),
+            None => Ok(None),
         }
-        Ok(params)
     }
 
     /// The parameters of these ids that the table has, in the order asked.
@@ -131,11 +172,8 @@ impl ParamTable {
     {
         let mut params = Seq::new(alloc);
         for id in ids.as_slice() {
-            if let Some(value) = self.values.get(id) {
-                params.push(Param {
-                    id: *id,
-                    value: value.clone()?,
-                })?;
+            if let Some(param) = self.param(*id)? {
+                params.push(param)?;
             }
         }
         Ok(params)
@@ -145,7 +183,7 @@ impl ParamTable {
     pub fn dword(&self, id: u32) -> Option<u32>
         ensures { result ≡ option_and_then dword_of (map.get self.now id) }
     {
-        match self.values.get(&id) {
+        match self.value(id) {
             Some(ParamValue::Dword(number)) => Some(*number),
             _ => None,
         }

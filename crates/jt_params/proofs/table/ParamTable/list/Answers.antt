@@ -1,0 +1,8 @@
+use Rattle.jt_params.proofs.TableLaws.{list_is, list_short}
+use Rattle.jt_params.proofs.table.ParamTable.list.Goals as goal
+
+pub returns-clause-params : goal.returns-clause-params
+returns-clause-params c = list_is c.listed_in.result c.self.inside.values.entries c.args.self.now c.listed_in.ensures.ordered c.self.view_is c.listed_in.ensures.params
+
+pub returns-clause-few : goal.returns-clause-few
+returns-clause-few c = list_short c.listed_in.result c.self.inside.values.entries c.self.invariant c.listed_in.ensures.params
