@@ -1,21 +1,24 @@
 -- Tables as finite maps, and the std map that keeps one.
-use Rattle.std.proofs.Common.{Less, ◌≡◌, ℕ, ◌+◌, ◌≤◌, Bool, true, false, cond, eqb, ◌&&◌, List, [], ◌∷◌, ◌++◌, map, length, Option, Some, None, Result, Ok, Err, refl, sym, ap, ◌∙◌, subst, arith}
-use Rattle.std.specs.Prelude.{T, IfOk}
+use Rattle.std.proofs.Common.{Less, ◌≡◌, ℕ, suc, ◌+◌, ◌≤◌, Bool, true, false, cond, eqb, ◌&&◌, List, [], ◌∷◌, ◌++◌, map, length, Option, Some, None, Result, Ok, Err, refl, sym, ap, ◌∙◌, subst, arith}
+use Rattle.std.specs.Prelude.{T, IfOk, IfSome}
 use Rattle.std.specs.BTreeMap as tree
 use Rattle.std.specs.BTreeMap.{BTreeMap}
 use Rattle.std.specs.Cmp.{nat_cmp_total}
 use Rattle.std.specs.FinMap.Entries.{below_all}
-use Rattle.std.specs.FinMap.{get, len, entries, insert, empty, find, is_sorted, from_entries, from_sorted, get-insert, get-from_entries, get-from_sorted, len-entries, same_map, nat_cmp-IsAntisymmetric, entries-from_sorted}
-use Rattle.std.specs.List.{AllZip, AllByRecursion}
+use Rattle.std.specs.FinMap.{get, len, entries, insert, empty, find, is_sorted, from_entries, from_sorted, get-empty, get-insert, get-from_entries, get-from_sorted, len-entries, same_map, nat_cmp-IsAntisymmetric, entries-from_sorted}
+use Rattle.std.specs.List.{AllZip, All, AllByRecursion}
 use Rattle.std.specs.List.Sorted.{IsStrictlySortedBy}
 use Rattle.std.specs.Map.{keys_of, lookup}
-use Rattle.std.specs.Option.{option_or}
+use Rattle.std.specs.Option.{option_or, option_map, option_to_list}
 use Rattle.std.specs.Ordering.{nat_cmp, is_eq, is_lt}
+use Rattle.std.proofs.lemmas.Bool.{eqb-true}
 use Rattle.std.proofs.lemmas.Bool.Decides.{nat_tests}
 use Rattle.std.proofs.lemmas.List.{length-map}
+use Rattle.std.proofs.lemmas.List.Elements.{All-head, All-tail}
+use Rattle.jt_params.specs.Params.{param}
 use Rattle.jt_params.specs.declared.param.ParamValue.{ParamValue}
 use Rattle.jt_params.specs.declared.param.Param.{Param}
-use Rattle.jt_params.specs.Tables.{Table, param_of, params_of, listed, last_value, Sets, IsOneTable}
+use Rattle.jt_params.specs.Tables.{Table, param_of, param_at, params_of, listed, selected, last_value, Sets, IsOneTable, HaveOctets, HasOctets}
 
 -- ---- a std map, seen as a finite map
 
@@ -135,3 +138,55 @@ one_table = record {
   has = λ params before. (set_each params before, sets params before);
   one = λ params before after other h g. same_map nat_cmp_total nat_cmp-IsAntisymmetric after other (λ id. h id ∙ sym (g id));
 }
+
+-- ---- parameters that have octets
+
+-- what holds of the parameter that a value is under an id, if there is one
+abbrev FitsAt : ℕ → Option ParamValue → Type 0
+FitsAt id value = IfSome (option_map (param_of id) value) param.Fits
+
+or_fits : (id : ℕ) (a b : Option ParamValue) → FitsAt id a → FitsAt id b → FitsAt id (option_or a b)
+or_fits id None b h g = g
+or_fits id (Some x) b h g = h
+
+one_fits : (p : Param) (id : ℕ) (is : Bool) → eqb p.id id ≡ is → param.Fits p → FitsAt id (cond is (Some p.value) None)
+one_fits p id true e fits = subst (λ (own : ℕ). param.Fits (param_of own p.value)) (eqb-true p.id id e) fits
+one_fits p id false e fits = tt
+
+last_fits : (ps : List Param) → HaveOctets ps → (id : ℕ) → FitsAt id (last_value ps id)
+last_fits [] fits id = tt
+last_fits (p ∷ ps) fits id = or_fits id (last_value ps id) (one_value p id) (last_fits ps fits.1 id) (one_fits p id (eqb p.id id) refl fits.0)
+
+pub sets_fit : (ps : List Param) (before after : Table) → Sets ps before after → HaveOctets ps → HasOctets before → HasOctets after
+sets_fit ps before after sets fits has id = subst (FitsAt id) (sym (sets id)) (or_fits id (last_value ps id) (get before id) (last_fits ps fits id) (has id))
+
+pub empty_fits : HasOctets empty
+empty_fits id = subst (FitsAt id) (sym (get-empty nat_cmp id)) tt
+
+each_fits : (whole part : List (ℕ × ParamValue)) (table : Table) → from_entries whole ≡ table → HasOctets table
+    → All (λ pair. lookup (tree.is_at (nat_cmp pair.0)) whole ≡ Some pair.1) part → HaveOctets (params_of part)
+each_fits whole [] table view has all = tt
+each_fits whole (pair ∷ part) table view has all =
+    let at : get table pair.0 ≡ Some pair.1 = ap (λ (t : Table). get t pair.0) (sym view) ∙ get_is whole pair.0 ∙ All-head (λ pair. lookup (tree.is_at (nat_cmp pair.0)) whole ≡ Some pair.1) pair part all in
+    (subst (FitsAt pair.0) at (has pair.0), each_fits whole part table view has (All-tail (λ pair. lookup (tree.is_at (nat_cmp pair.0)) whole ≡ Some pair.1) pair part all))
+
+pub list_fits : {E : Type 0} (r : Result (List Param) E) (es : List (ℕ × ParamValue)) (table : Table) → from_entries es ≡ table
+    → IfOk r (λ _. All (λ pair. lookup (tree.is_at (nat_cmp pair.0)) es ≡ Some pair.1) es) → IfOk r (λ ps. ps ≡ params_of es) → HasOctets table → IfOk r HaveOctets
+list_fits (Ok ps) es table view all is has = subst HaveOctets (sym is) (each_fits es es table view has all)
+list_fits (Err e) es table view all is has = tt
+
+option_fits : (o : Option Param) (ps : List Param) → IfSome o param.Fits → HaveOctets ps → HaveOctets (option_to_list o ++ ps)
+option_fits None ps h g = g
+option_fits (Some p) ps h g = (h, g)
+
+option_short : (o : Option Param) (ps : List Param) (n : ℕ) → length ps ≤ n → length (option_to_list o ++ ps) ≤ suc n
+option_short None ps n h = omega arith
+option_short (Some p) ps n h = omega arith
+
+pub selected_fit : (table : Table) (ids : List ℕ) → HasOctets table → HaveOctets (selected table ids)
+selected_fit table [] has = tt
+selected_fit table (id ∷ ids) has = option_fits (param_at table id) (selected table ids) (has id) (selected_fit table ids has)
+
+pub selected_short : (table : Table) (ids : List ℕ) → length (selected table ids) ≤ length ids
+selected_short table [] = omega arith
+selected_short table (id ∷ ids) = option_short (param_at table id) (selected table ids) (length ids) (selected_short table ids)

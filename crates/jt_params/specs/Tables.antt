@@ -1,12 +1,13 @@
 -- A parameter table is a finite map from id to value. To be believed.
-use Rattle.std.specs.Prelude.{◌≡◌, ℕ, ◌<◌, ◌==◌, if◌then◌else◌, List, [], ◌∷◌, map, Option, Some, None}
+use Rattle.std.specs.Prelude.{◌≡◌, ℕ, ◌<◌, ◌==◌, if◌then◌else◌, List, [], ◌∷◌, map, Option, Some, None, IfSome}
 use Rattle.std.specs.FinMap.{FinMap, get, len, entries}
-use Rattle.std.specs.List.{flat_map}
+use Rattle.std.specs.List.{flat_map, AllByRecursion}
 use Rattle.std.specs.Option.{option_or, option_map, option_to_list}
 use Rattle.std.specs.Ordering.{nat_cmp}
 use Rattle.jt_params.specs.declared.param.ParamValue.{ParamValue}
 use Rattle.jt_params.specs.declared.param.ParamValue.TheVariants.{Byte, Word, Dword, Text, Raw}
 use Rattle.jt_params.specs.declared.param.Param.{Param}
+use Rattle.jt_params.specs.Params.{param}
 
 -- from ids to values
 abbrev pub Table : Type 0
@@ -50,3 +51,11 @@ selected table ids = flat_map (λ id. option_to_list (param_at table id)) ids
 abbrev pub dword_of : ParamValue → Option ℕ
 dword_of (Dword n) = Some n
 dword_of _ = None
+
+-- each parameter has octets
+abbrev pub HaveOctets : List Param → Type 0
+HaveOctets params = AllByRecursion param.Fits params
+
+-- each parameter of the table has octets
+abbrev pub HasOctets : Table → Type 0
+HasOctets table = (id : ℕ) → IfSome (param_at table id) param.Fits

@@ -1,11 +1,12 @@
 //! The table of a terminal's parameters.
 
-ghost use Rattle.std.specs.Prelude.{◌≡◌, ℕ, ◌+◌, ◌<◌, ◌≤◌, ◌^◌, length, OnOk, OnErr, IfOk, IfErr, option_copied};
+ghost use Rattle.std.specs.Prelude.{◌≡◌, ℕ, ◌+◌, ◌<◌, ◌≤◌, ◌^◌, length, OnOk, OnErr, IfOk, IfErr, option_copied, Some};
 ghost use Rattle.std.specs.BTreeMap as tree;
 ghost use Rattle.std.specs.FinMap as map;
+ghost use Rattle.std.specs.List.{All};
 ghost use Rattle.std.specs.Option.{option_and_then, option_or};
 ghost use Rattle.std.specs.Ordering.{nat_cmp};
-ghost use Rattle.jt_params.specs.Tables.{IsOneTable, Sets, dword_of, last_value, listed, param_at, params_of, selected};
+ghost use Rattle.jt_params.specs.Tables.{HasOctets, HaveOctets, IsOneTable, Sets, dword_of, last_value, listed, param_at, params_of, selected};
 ghost use Rattle.jt_params.specs.Refused.{IsTooMany};
 
 use crate::param::{Param, ParamValue};
@@ -97,6 +98,7 @@ fn set_in(values: &mut BTreeMap<u32, ParamValue>, params: &[Param]) -> Result<()
 fn listed_in(alloc: Global, values: &BTreeMap<u32, ParamValue>) -> Result<Seq<Param>, Memory>
     ensures params { IfOk result (λ params. params ≡ params_of values.now.entries) }
     ensures ordered { tree.IsOrdered nat_cmp values.now }
+    ensures found { IfOk result (λ _. All (λ pair. tree.get nat_cmp values.now pair.0 ≡ Some pair.1) values.now.entries) }
 {
     let mut params = Vec::with_capacity(alloc, values.len())?;
     for (id, value) in values {
@@ -111,7 +113,8 @@ fn listed_in(alloc: Global, values: &BTreeMap<u32, ParamValue>) -> Result<Seq<Pa
 impl ParamTable {
     /// A table without parameters, which takes no memory.
     pub fn new(alloc: Global) -> ParamTable
-        ensures { result ≡ map.empty }
+        ensures empty { result ≡ map.empty }
+        ensures octets { HasOctets result }
     {
         ParamTable {
             values: BTreeMap::new(alloc),
@@ -127,6 +130,7 @@ impl ParamTable {
         ensures few { OnOk result (map.len self.new ≤ 255) }
         ensures too_many { IfErr result (IsTooMany params.now self.old) }
         ensures err { OnErr result (self.new ≡ self.old) }
+        ensures octets { HaveOctets params.now → HasOctets self.old → HasOctets self.new }
     {
         let mut values = self.values.clone()?;
         set_in(&mut values, params.as_slice())?;
@@ -142,6 +146,7 @@ impl ParamTable {
     pub fn list(&self, alloc: Global) -> Result<Seq<Param>, Memory>
         ensures params { IfOk result (λ params. params ≡ listed self.now) }
         ensures few { IfOk result (λ params. length params ≤ 255) }
+        ensures octets { HasOctets self.now → IfOk result HaveOctets }
     {
         listed_in(alloc, &self.values)
     }
@@ -168,7 +173,9 @@ impl ParamTable {
 
     /// The parameters of these ids that the table has, in the order asked.
     pub fn select(&self, alloc: Global, ids: &Seq<u32>) -> Result<Seq<Param>, Memory>
-        ensures { IfOk result (λ params. params ≡ selected self.now ids.now) }
+        ensures params { IfOk result (λ params. params ≡ selected self.now ids.now) }
+        ensures few { IfOk result (λ params. length params ≤ length ids.now) }
+        ensures octets { HasOctets self.now → IfOk result HaveOctets }
     {
         let mut params = Seq::new(alloc);
         for id in ids.as_slice() {

@@ -1,4 +1,4 @@
-use Rattle.jt_params.proofs.TableLaws.{list_is, list_short}
+use Rattle.jt_params.proofs.TableLaws.{list_is, list_short, list_fits}
 use Rattle.jt_params.proofs.table.ParamTable.list.Goals as goal
 
 pub returns-clause-params : goal.returns-clause-params
@@ -6,3 +6,6 @@ returns-clause-params c = list_is c.listed_in.result c.self.inside.values.entrie
 
 pub returns-clause-few : goal.returns-clause-few
 returns-clause-few c = list_short c.listed_in.result c.self.inside.values.entries c.self.invariant c.listed_in.ensures.params
+
+pub returns-clause-octets : goal.returns-clause-octets
+returns-clause-octets c = list_fits c.listed_in.result c.self.inside.values.entries c.args.self.now c.self.view_is c.listed_in.ensures.found c.listed_in.ensures.params

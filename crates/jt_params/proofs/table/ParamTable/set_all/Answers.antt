@@ -1,6 +1,6 @@
 use Rattle.std.proofs.Common.{sym, ◌∙◌, subst, ◌≤◌, arith}
 use Rattle.std.specs.FinMap.{from_entries}
-use Rattle.jt_params.proofs.TableLaws.{sets_of, len_is}
+use Rattle.jt_params.proofs.TableLaws.{sets_of, sets_fit, len_is}
 use Rattle.jt_params.proofs.table.ParamTable.set_all.Goals as goal
 
 pub returns-then-count-gt-MOST-clause-too_many : goal.returns-then-count-gt-MOST-clause-too_many
@@ -16,3 +16,6 @@ returns-clause-ok c = sets_of c.as_slice.result.now c.args.params.now c.args.sel
 
 pub returns-clause-few : goal.returns-clause-few
 returns-clause-few c = omega (arith, len_is c.set_in.new.values.entries c.len-count.ensures.ordered, c.len-count.ensures.len)
+
+pub returns-clause-octets : goal.returns-clause-octets
+returns-clause-octets c = sets_fit c.args.params.now c.args.self.now (from_entries c.set_in.new.values.entries) (returns-clause-ok c)
