@@ -1,6 +1,5 @@
 -- The laws of parameters: each layout's octets have exactly one value or exactly one reason.
-use Rattle.std.proofs.Common.{◌≡◌, ℕ, ◌^◌, ◌<◌, Bool, true, false, cond, eqb, List, [], ◌∷◌, length, refl, ap, lit<, arith}
-use Rattle.std.specs.Int.{w16, w32, from_be_bytes, to_be_bytes}
+use Rattle.std.proofs.Common.{◌≡◌, ℕ, ◌^◌, ◌<◌, Bool, true, false, cond, eqb, List, [], length, refl, ap, lit<}
 use Rattle.std.proofs.lemmas.Bool.{eqb-true}
 use Rattle.std.proofs.lemmas.Nat.{from_be_bytes-to_be_bytes_2, from_be_bytes-to_be_bytes_4}
 use Rattle.jt_value.specs.Octets.{AreOctets}
@@ -28,16 +27,16 @@ back : (k : Kind) (v : List ℕ) → length v < 2 ^ 8 → AreOctets v → Back k
 unfolding valued value_octets ValueFits
 back kinds.Byte v short are =
     choice (Back kinds.Byte v) (eqb (length v) 1) _ _
-        (λ yes. ((refl, are 0), byte_back v (eqb-true _ _ yes)))
-        (λ no. (((short, are), rw no refl), refl))
+    (λ yes. ((refl, are 0), byte_back v (eqb-true _ _ yes)))
+    (λ no. (((short, are), rw no refl), refl))
 back kinds.Word v short are =
     choice (Back kinds.Word v) (eqb (length v) 2) _ _
-        (λ yes. let number = word_back v (eqb-true _ _ yes) are in ((refl, number.0), number.1))
-        (λ no. (((short, are), rw no refl), refl))
+    (λ yes. let number = word_back v (eqb-true _ _ yes) are in ((refl, number.0), number.1))
+    (λ no. (((short, are), rw no refl), refl))
 back kinds.Dword v short are =
     choice (Back kinds.Dword v) (eqb (length v) 4) _ _
-        (λ yes. let number = dword_back v (eqb-true _ _ yes) are in ((refl, number.0), number.1))
-        (λ no. (((short, are), rw no refl), refl))
+    (λ yes. let number = dword_back v (eqb-true _ _ yes) are in ((refl, number.0), number.1))
+    (λ no. (((short, are), rw no refl), refl))
 back kinds.Text v short are = ((refl, (short, are)), refl)
 back kinds.Raw v short are = (((short, are), refl), refl)
 

@@ -1,5 +1,5 @@
 -- Why a parameter table does not take parameters. To be believed.
-use Rattle.std.specs.Prelude.{◌≡◌, ℕ, ◌<◌, List}
+use Rattle.std.specs.Prelude.{◌≡◌, ◌<◌, List}
 use Rattle.std.specs.FinMap.{len}
 use Rattle.jt_params.specs.declared.param.Param.{Param}
 use Rattle.jt_params.specs.declared.table.ParamError.{ParamError}

@@ -1,11 +1,11 @@
 -- A parameter table is a finite map from id to value. To be believed.
-use Rattle.std.specs.Prelude.{◌≡◌, ℕ, ◌<◌, ◌==◌, if◌then◌else◌, List, [], ◌∷◌, map, Option, Some, None, IfSome}
-use Rattle.std.specs.FinMap.{FinMap, get, len, entries}
+use Rattle.std.specs.Prelude.{◌≡◌, ℕ, ◌==◌, if◌then◌else◌, List, [], ◌∷◌, map, Option, Some, None, IfSome}
+use Rattle.std.specs.FinMap.{FinMap, get, entries}
 use Rattle.std.specs.List.{flat_map, AllByRecursion}
 use Rattle.std.specs.Option.{option_or, option_map, option_to_list}
 use Rattle.std.specs.Ordering.{nat_cmp}
 use Rattle.jt_params.specs.declared.param.ParamValue.{ParamValue}
-use Rattle.jt_params.specs.declared.param.ParamValue.TheVariants.{Byte, Word, Dword, Text, Raw}
+use Rattle.jt_params.specs.declared.param.ParamValue.TheVariants.{Dword}
 use Rattle.jt_params.specs.declared.param.Param.{Param}
 use Rattle.jt_params.specs.Params.{param}
 

@@ -55,10 +55,7 @@ fn params_reply_in(alloc: Global, octets: &[u8]) -> Result<(u16, Seq<Param>), Co
 
 /// Reads the answer to a question for parameters: the question's serial, then a count octet and that many parameters, up to
 /// the end. Refused as `read_params` says.
-pub fn read_params_reply(
-    alloc: Global,
-    octets: &[u8],
-) -> Result<(u16, Seq<Param>), CodecError>
+pub fn read_params_reply(alloc: Global, octets: &[u8]) -> Result<(u16, Seq<Param>), CodecError>
     ensures { Answers layouts.params_reply octets.now result }
 {
     params_reply_in(alloc, octets)
@@ -66,11 +63,7 @@ pub fn read_params_reply(
 
 /// The answer to the question with this serial: the parameters, at most 255, each of which has octets.
 #[tactic(auto, using(std::proofs::Common::append_assoc), unfolding(crate::specs::Params::params_reply, jt_layout::specs::Layout::number))]
-pub fn write_params_reply(
-    alloc: Global,
-    reply: u16,
-    params: &Seq<Param>,
-) -> Result<Octets, Memory>
+pub fn write_params_reply(alloc: Global, reply: u16, params: &Seq<Param>) -> Result<Octets, Memory>
     requires { layouts.params_reply.Fits (reply, params.now) }
     ensures { IfOk result (λ octets. octets ≡ layouts.params_reply.spell (reply, params.now)) }
 {

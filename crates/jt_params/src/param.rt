@@ -125,7 +125,8 @@ impl ParamValue {
                 kind == Kind::Dword
             }
             ParamValue::Text(text) => kind == Kind::Text && is_short(text.as_slice()),
-            ParamValue::Raw(octets) => is_short(octets.as_slice()) && stays_raw(kind, octets.as_slice()),
+            ParamValue::Raw(octets) => is_short(octets.as_slice())
+                && stays_raw(kind, octets.as_slice()),
         }
     }
 

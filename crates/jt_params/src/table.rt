@@ -29,7 +29,6 @@ impl Model for ParamTable {
     ghost use Rattle.std.specs.BTreeMap.{btree_map_len};
     ghost use Rattle.std.specs.FinMap.{from_entries};
     ghost use Rattle.jt_params.specs.Tables.{Table};
-
     ghost use Rattle.std.specs.Coded.{coded_ℕ};
     ghost use Rattle.std.specs.FinMap.{code};
     ghost use Rattle.jt_params.specs.contracts.param.ParamValue as value;

@@ -1,4 +1,4 @@
-use Rattle.std.proofs.Common.{ℕ, List, length, sym, subst, ap, ◌∙◌, arith}
+use Rattle.std.proofs.Common.{length, sym, subst, ap, ◌∙◌, arith}
 use Rattle.std.proofs.lemmas.List.{take_all}
 use Rattle.jt_params.specs.Tables.{HaveOctets, selected}
 use Rattle.jt_params.proofs.TableLaws.{selected_fit, selected_short}

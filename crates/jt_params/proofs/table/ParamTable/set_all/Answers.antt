@@ -1,4 +1,4 @@
-use Rattle.std.proofs.Common.{sym, ◌∙◌, subst, ◌≤◌, arith}
+use Rattle.std.proofs.Common.{sym, ◌∙◌, arith}
 use Rattle.std.specs.FinMap.{from_entries}
 use Rattle.jt_params.proofs.TableLaws.{sets_of, sets_fit, len_is}
 use Rattle.jt_params.proofs.table.ParamTable.set_all.Goals as goal

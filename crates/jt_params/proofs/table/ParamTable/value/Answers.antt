@@ -1,4 +1,4 @@
-use Rattle.std.proofs.Common.{◌≡◌, ◌∙◌, sym, ap, ℕ}
+use Rattle.std.proofs.Common.{◌∙◌, sym, ap}
 use Rattle.std.specs.FinMap.{get}
 use Rattle.jt_params.specs.Tables.{Table}
 use Rattle.jt_params.proofs.TableLaws.{get_is}
