@@ -1,12 +1,12 @@
 //! Bodies that carry parameters, or ask for them.
 
-ghost use Rattle.std.specs.Prelude.{◌≡◌, IfOk};
+ghost use Rattle.std.specs.Prelude.{◌≡◌, ◌↔◌, IsTrue, IfOk};
 ghost use Rattle.jt_layout.specs.Answer.{Answers, IsOneToOne};
 ghost use Rattle.jt_layout.specs.Reading.{Gives};
 ghost use Rattle.jt_params.specs.Params as layouts;
 
 use crate::param::Param;
-use jt_layout::{Reader, Writer};
+use jt_layout::{Reader, Writer, all_fit};
 use jt_value::{CodecError, Memory, Octets, Seq};
 use std::alloc::Global;
 
@@ -27,6 +27,14 @@ pub fn read_params(alloc: Global, octets: &[u8]) -> Result<Seq<Param>, CodecErro
     ensures { Answers layouts.params octets.now result }
 {
     params_in(alloc, octets)
+}
+
+/// Whether there are at most 255 parameters, each of which has octets.
+#[tactic(auto, unfolding(crate::specs::Params::params, jt_layout::specs::Layout::number))]
+pub fn params_fit(params: &Seq<Param>) -> bool
+    ensures { IsTrue result ↔ layouts.params.Fits params.now }
+{
+    params.len() < 256 && all_fit(params.as_slice())
 }
 
 /// A count octet and the parameters, at most 255, each of which has octets.
@@ -61,6 +69,14 @@ pub fn read_params_reply(alloc: Global, octets: &[u8]) -> Result<(u16, Seq<Param
     params_reply_in(alloc, octets)
 }
 
+/// Whether there are at most 255 parameters, each of which has octets.
+#[tactic(auto, unfolding(crate::specs::Params::params_reply, jt_layout::specs::Layout::number))]
+pub fn params_reply_fits(reply: u16, params: &Seq<Param>) -> bool
+    ensures { IsTrue result ↔ layouts.params_reply.Fits (reply, params.now) }
+{
+    params.len() < 256 && all_fit(params.as_slice())
+}
+
 /// The answer to the question with this serial: the parameters, at most 255, each of which has octets.
 #[tactic(auto, using(std::proofs::Common::append_assoc), unfolding(crate::specs::Params::params_reply, jt_layout::specs::Layout::number))]
 pub fn write_params_reply(alloc: Global, reply: u16, params: &Seq<Param>) -> Result<Octets, Memory>
@@ -90,6 +106,14 @@ pub fn read_query_some(alloc: Global, octets: &[u8]) -> Result<Seq<u32>, CodecEr
     ensures { Answers layouts.query_some octets.now result }
 {
     query_some_in(alloc, octets)
+}
+
+/// Whether there are at most 255 ids.
+#[tactic(auto, unfolding(crate::specs::Params::query_some, jt_layout::specs::Layout::number))]
+pub fn query_some_fits(ids: &Seq<u32>) -> bool
+    ensures { IsTrue result ↔ layouts.query_some.Fits ids.now }
+{
+    ids.len() < 256 && all_fit(ids.as_slice())
 }
 
 /// A question for the parameters of these ids, at most 255.

@@ -49,6 +49,7 @@ fn an_answer_with_a_number_and_a_text(rt: HostRuntime) -> Result<(), Fail> {
     };
     assert_eq!(rt; *id, 0x0013);
     assert_eq!(rt; text.as_slice(), b"abc".as_slice());
+    assert!(rt; params_reply_fits(reply, &params));
     let written = write_params_reply(rt.alloc(), reply, &params)?;
     assert_eq!(rt; written.as_slice(), body.as_slice());
     for (length, inside) in [(1, 0), (2, 2), (6, 3), (7, 7), (11, 8), (12, 12), (19, 17)] {
@@ -94,6 +95,7 @@ fn kinds_by_id_and_length(rt: HostRuntime) -> Result<(), Fail> {
         assert_eq!(rt; shown(&param.value), kind);
     }
     assert_eq!(rt; params.len(), 11);
+    assert!(rt; params_fit(&params));
     let written = write_params(rt.alloc(), &params)?;
     assert_eq!(rt; written.as_slice(), body.as_slice());
     assert!(rt;
@@ -126,6 +128,7 @@ fn a_question_for_some(rt: HostRuntime) -> Result<(), Fail> {
     let body = b"\x02\0\0\0\x01\x80\0\0\x13";
     let ids = read_query_some(rt.alloc(), body).expect(&rt, "a body");
     assert_eq!(rt; ids.as_slice(), [0x0001, 0x8000_0013].as_slice());
+    assert!(rt; query_some_fits(&ids));
     let written = write_query_some(rt.alloc(), &ids)?;
     assert_eq!(rt; written.as_slice(), body.as_slice());
     let truncated = read_query_some(rt.alloc(), &body[..8]).err();
@@ -196,6 +199,13 @@ fn a_later_parameter_replaces_an_earlier_one(rt: HostRuntime) -> Result<(), Fail
     table.set_all(&copied)?;
     assert_eq!(rt; table.dword(0x0001), None);
     assert_eq!(rt; table.list(rt.alloc())?.len(), 2);
+    // Under an id of the kind, raw octets of its length are none of its values.
+    let untyped = Param {
+        id: 0x0001,
+        value: ParamValue::Raw(Octets::from_vec(Vec::from_slice(rt.alloc(), &[0, 0, 0, 60])?)),
+    };
+    let untyped = Seq::from_vec(Vec::from_array(rt.alloc(), [untyped])?);
+    assert!(rt; !params_fit(&untyped));
     Ok(())
 }
 
