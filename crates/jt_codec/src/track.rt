@@ -1,8 +1,8 @@
 //! Orders to report positions one after the other.
 
-ghost use Rattle.std.specs.Prelude.{◌≡◌, ◌++◌, ◌==◌, IfOk};
+ghost use Rattle.std.specs.Prelude.{◌≡◌, ◌++◌, ◌==◌, true, IfOk, OnOk};
 ghost use Rattle.jt_layout.specs.Answer.{Answers};
-ghost use Rattle.jt_layout.specs.Layout.{if_body, may_end, ended, only_if, dword};
+ghost use Rattle.jt_layout.specs.Layout.{if_body, may_end, ended, only_if, dword, spell_option};
 ghost use Rattle.jt_layout.specs.Reading.{Gives};
 ghost use Rattle.jt_codec.specs.Layouts.{track};
 
@@ -40,6 +40,17 @@ pub(crate) fn read_track(octets: &[u8]) -> Result<(u16, Option<u32>), CodecError
     track_in(octets)
 }
 
+// A validity, if there is one.
+#[tactic(auto, using(std::proofs::Common::append-nil))]
+fn write_validity(writer: &mut Writer, validity: Option<u32>) -> Result<(), Memory>
+    ensures { OnOk result (writer.new ≡ writer.old ++ spell_option dword validity) }
+{
+    match validity {
+        Some(validity) => writer.dword(validity),
+        None => Ok(()),
+    }
+}
+
 #[tactic(auto, using(crate::proofs::BodyLaws::spell_track))]
 pub(crate) fn write_track(
     alloc: Global,
@@ -50,8 +61,6 @@ pub(crate) fn write_track(
 {
     let mut writer = Writer::new(alloc);
     writer.word(interval)?;
-    if let Some(validity) = validity {
-        writer.dword(validity)?;
-    }
+    write_validity(&mut writer, validity)?;
     Ok(writer.finish())
 }
