@@ -41,7 +41,6 @@ pub(crate) fn read_track(octets: &[u8]) -> Result<(u16, Option<u32>), CodecError
 }
 
 // A validity, if there is one.
-#[tactic(auto, using(std::proofs::Common::append-nil))]
 fn write_validity(writer: &mut Writer, validity: Option<u32>) -> Result<(), Memory>
     ensures { OnOk result (writer.new ≡ writer.old ++ spell_option dword validity) }
 {
