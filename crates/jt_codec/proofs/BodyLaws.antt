@@ -1,14 +1,17 @@
 -- The law of the body table.
-use Rattle.std.proofs.Common.{◌≡◌, ℕ, Bool, true, false, cond, eqb, List, Option, Some, None, Result, Ok, Err, refl, sym, ap, subst, ◌∙◌, arith}
+use Rattle.std.proofs.Common.{◌≡◌, ℕ, Bool, true, false, cond, eqb, List, Option, Some, None, Result, Ok, Err, refl, sym, ap, subst, ◌∙◌, arith, ◌++◌}
 use Rattle.std.specs.Prelude.{◌&&◌, IsSomeAnd, IfOk, IfErr}
 use Rattle.std.proofs.lemmas.Bool.{and_parts, eqb-true, eq-eqb}
 use Rattle.jt_value.specs.declared.phone.Edition.{Edition}
 use Rattle.jt_value.specs.declared.refusal.Refusal.{Refusal}
 use Rattle.jt_value.specs.declared.refusal.CodecError.{CodecError}
 use Rattle.jt_value.specs.declared.refusal.CodecError.TheVariants as errors
-use Rattle.jt_layout.specs.Layout.{Body, Fills, if_body, body_case}
+use Rattle.jt_layout.specs.Layout.{Body, Fills, if_body, body_case, number, word, dword, ended, spell_option, only_if, may_end}
 use Rattle.jt_layout.specs.Answer.{Answers}
-use Rattle.jt_layout.proofs.Laws.{IsBody, byte_law, word_law, then_law, then_body_law, ended_law, body_as_law, empty_law, rest_law, case_law}
+use Rattle.jt_layout.proofs.Laws.{IsBody, byte_law, word_law, dword_law, if_law, then_law, then_body_law, ended_law, body_as_law, empty_law, rest_law, case_law}
+use Rattle.jt_layout.proofs.Repeats.{IsNeverEmpty, only_if_law, may_end_law}
+use Rattle.jt_params.specs.declared.param.Param.{Param}
+use Rattle.jt_params.proofs.ParamLaws.{params_law, params_reply_law, query_some_law}
 use Rattle.jt_position.specs.declared.position.Position.{Position}
 use Rattle.jt_position.specs.declared.batch.Batch.{Batch}
 use Rattle.jt_position.proofs.ItemLaws.{position_law, batch_law}
@@ -17,8 +20,8 @@ use Rattle.jt_register.specs.declared.reply.RegisterReply.{RegisterReply}
 use Rattle.jt_register.specs.declared.auth.Auth.{Auth}
 use Rattle.jt_register.proofs.RegistrationLaws.{register_law, register_reply_law, auth_law}
 use Rattle.jt_codec.specs.Answer.{IsUnlessMemory}
-use Rattle.jt_codec.specs.Kinds.{terminal_ack_of, platform_ack_of, heartbeat_of, deregister_of, register_of, register_reply_of, auth_of, query_params_of, position_of, position_reply_of, query_position_of, batch_of, opaque_of}
-use Rattle.jt_codec.specs.Layouts.{ack, position_reply}
+use Rattle.jt_codec.specs.Kinds.{terminal_ack_of, platform_ack_of, heartbeat_of, deregister_of, register_of, register_reply_of, auth_of, set_params_of, query_params_of, query_some_of, params_of, position_of, position_reply_of, query_position_of, track_of, batch_of, text_of, control_of, opaque_of}
+use Rattle.jt_codec.specs.Layouts.{ack, position_reply, track, octet_and_text}
 use Rattle.jt_codec.specs.Bodies.{body, is_2013, id_of, Fits, HasBody, IsInside, body_octets, octets_under}
 use Rattle.jt_codec.specs.declared.message.Message.{Message}
 use Rattle.jt_codec.specs.declared.message.Message.TheVariants as message
@@ -60,9 +63,21 @@ auth_forth : (m : Message) (x : Auth) → auth_of m ≡ Some x → message.Auth 
 auth_forth (message.Auth auth) x e = cc
 auth_forth _ x e = absurd cc
 
+set_params_forth : (m : Message) (x : List Param) → set_params_of m ≡ Some x → message.SetParams x ≡ m
+set_params_forth (message.SetParams params) x e = cc
+set_params_forth _ x e = absurd cc
+
 query_params_forth : (m : Message) (x : Unit {0}) → query_params_of m ≡ Some x → message.QueryParams ≡ m
 query_params_forth message.QueryParams x e = refl
 query_params_forth _ x e = absurd cc
+
+query_some_forth : (m : Message) (x : List ℕ) → query_some_of m ≡ Some x → message.QuerySome x ≡ m
+query_some_forth (message.QuerySome ids) x e = cc
+query_some_forth _ x e = absurd cc
+
+params_forth : (m : Message) (x : ℕ × List Param) → params_of m ≡ Some x → message.Params x.0 x.1 ≡ m
+params_forth (message.Params reply params) x e = ap (λ (y : ℕ × List Param). message.Params y.0 y.1) (some_is x (reply, params) _ e refl)
+params_forth _ x e = absurd cc
 
 position_forth : (m : Message) (x : Position) → position_of m ≡ Some x → message.Position x ≡ m
 position_forth (message.Position position) x e = cc
@@ -76,9 +91,21 @@ query_position_forth : (m : Message) (x : Unit {0}) → query_position_of m ≡ 
 query_position_forth message.QueryPosition x e = refl
 query_position_forth _ x e = absurd cc
 
+track_forth : (m : Message) (x : ℕ × Option ℕ) → track_of m ≡ Some x → message.Track x.0 x.1 ≡ m
+track_forth (message.Track interval validity) x e = ap (λ (y : ℕ × Option ℕ). message.Track y.0 y.1) (some_is x (interval, validity) _ e refl)
+track_forth _ x e = absurd cc
+
 batch_forth : (m : Message) (x : Batch) → batch_of m ≡ Some x → message.Batch x ≡ m
 batch_forth (message.Batch batch) x e = cc
 batch_forth _ x e = absurd cc
+
+text_forth : (m : Message) (x : ℕ × List ℕ) → text_of m ≡ Some x → message.Text x.0 None x.1 ≡ m
+text_forth (message.Text flag None text) x e = ap (λ (y : ℕ × List ℕ). message.Text y.0 None y.1) (some_is x (flag, text) _ e refl)
+text_forth _ x e = absurd cc
+
+control_forth : (m : Message) (x : ℕ × List ℕ) → control_of m ≡ Some x → message.Control x.0 x.1 ≡ m
+control_forth (message.Control command text) x e = ap (λ (y : ℕ × List ℕ). message.Control y.0 y.1) (some_is x (command, text) _ e refl)
+control_forth _ x e = absurd cc
 
 opaque_back : (id : ℕ) (v : List ℕ) → opaque_of id (message.Opaque id v) ≡ Some v
 opaque_back id v = rw (eq-eqb id id refl) refl
@@ -96,6 +123,28 @@ ack_law = body_as_law _ _ _ (ended_law _ (then_law _ _ word_law (λ _. then_law 
 pub position_reply_law : IsBody position_reply
 unfolding position_reply
 position_reply_law = then_body_law _ _ word_law (λ _. position_law)
+
+dword_some : IsNeverEmpty dword
+unfolding number
+dword_some = record { some = λ a fits. omega arith }
+
+pub track_law : IsBody track
+unfolding track
+track_law = then_body_law _ _ word_law (λ interval. if_law (eqb interval 0) _ _ (may_end_law _ dword_law dword_some) (ended_law _ (only_if_law true _ dword_law)))
+
+spell_validity : (is_zero : Bool) (validity : Option ℕ) → (if_body is_zero (may_end dword) (ended (only_if true dword))).spell validity ≡ spell_option dword validity
+unfolding only_if
+spell_validity true validity = refl
+spell_validity false validity = refl
+
+-- a validity is written where there is one
+pub spell_track : (interval : ℕ) (validity : Option ℕ) → track.spell (interval, validity) ≡ word.spell interval ++ spell_option dword validity
+unfolding track
+spell_track interval validity = ap (λ (t : List ℕ). word.spell interval ++ t) (spell_validity (eqb interval 0) validity)
+
+pub octet_and_text_law : IsBody octet_and_text
+unfolding octet_and_text
+octet_and_text_law = then_body_law _ _ byte_law (λ _. rest_law)
 
 -- ---- rows
 
@@ -151,12 +200,18 @@ body_row edition id =
     if_row_2013 edition id 0x0100 _ _ _ _ (register_law 5 20 7) (λ x. refl) register_forth (λ x. refl) (
     if_row id 0x8100 _ _ _ _ register_reply_law (λ x. refl) register_reply_forth (λ x. refl) (
     if_row_2013 edition id 0x0102 _ _ _ _ auth_law (λ x. refl) auth_forth (λ x. refl) (
+    if_row id 0x8103 _ _ _ _ params_law (λ x. refl) set_params_forth (λ x. refl) (
     if_row id 0x8104 _ _ _ _ empty_law (λ x. refl) query_params_forth (λ x. refl) (
+    if_row id 0x8106 _ _ _ _ query_some_law (λ x. refl) query_some_forth (λ x. refl) (
+    if_row id 0x0104 _ _ _ _ params_reply_law (λ x. refl) params_forth (λ x. refl) (
     if_row id 0x0200 _ _ _ _ position_law (λ x. refl) position_forth (λ x. refl) (
     if_row id 0x0201 _ _ _ _ position_reply_law (λ x. refl) position_reply_forth (λ x. refl) (
     if_row id 0x8201 _ _ _ _ empty_law (λ x. refl) query_position_forth (λ x. refl) (
-    if_row id 0x0704 _ _ _ _ batch_law (λ x. refl) batch_forth (λ x. refl)
-    (is_row id _ _ _ rest_law (opaque_back id) (opaque_forth id) (λ x. refl)))))))))))))
+    if_row id 0x8202 _ _ _ _ track_law (λ x. refl) track_forth (λ x. refl) (
+    if_row id 0x0704 _ _ _ _ batch_law (λ x. refl) batch_forth (λ x. refl) (
+    if_row_2013 edition id 0x8300 _ _ _ _ octet_and_text_law (λ x. refl) text_forth (λ x. refl) (
+    if_row id 0x8105 _ _ _ _ octet_and_text_law (λ x. refl) control_forth (λ x. refl)
+    (is_row id _ _ _ rest_law (opaque_back id) (opaque_forth id) (λ x. refl)))))))))))))))))))
 
 pub body_law : (edition : Edition) (id : ℕ) → IsBody (body edition id)
 body_law edition id = (body_row edition id).law

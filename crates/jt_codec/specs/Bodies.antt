@@ -6,10 +6,11 @@ use Rattle.jt_value.specs.declared.refusal.CodecError.{CodecError}
 use Rattle.jt_value.specs.declared.refusal.CodecError.TheVariants as errors
 use Rattle.jt_layout.specs.Answer.{IsPlaced}
 use Rattle.jt_layout.specs.Layout.{Body, Fills, empty, rest, if_body, body_case}
+use Rattle.jt_params.specs.Params.{params, params_reply, query_some}
 use Rattle.jt_position.specs.Positions.{position, batch}
 use Rattle.jt_register.specs.Registration.{register_2013, register_reply, auth_2013}
-use Rattle.jt_codec.specs.Kinds.{terminal_ack_of, platform_ack_of, heartbeat_of, deregister_of, register_of, register_reply_of, auth_of, query_params_of, position_of, position_reply_of, query_position_of, batch_of, opaque_of}
-use Rattle.jt_codec.specs.Layouts.{ack, position_reply}
+use Rattle.jt_codec.specs.Kinds.{terminal_ack_of, platform_ack_of, heartbeat_of, deregister_of, register_of, register_reply_of, auth_of, set_params_of, query_params_of, query_some_of, params_of, position_of, position_reply_of, query_position_of, track_of, batch_of, text_of, control_of, opaque_of}
+use Rattle.jt_codec.specs.Layouts.{ack, position_reply, track, octet_and_text}
 use Rattle.jt_codec.specs.declared.message.Message.{Message}
 use Rattle.jt_codec.specs.declared.message.Message.TheVariants as message
 
@@ -28,12 +29,18 @@ body edition id =
     if_body (is_2013 edition && (id == 0x0100)) (body_case register_2013 message.Register register_of) (
     if_body (id == 0x8100) (body_case register_reply message.RegisterReply register_reply_of) (
     if_body (is_2013 edition && (id == 0x0102)) (body_case auth_2013 message.Auth auth_of) (
+    if_body (id == 0x8103) (body_case params message.SetParams set_params_of) (
     if_body (id == 0x8104) (body_case empty (λ _. message.QueryParams) query_params_of) (
+    if_body (id == 0x8106) (body_case query_some message.QuerySome query_some_of) (
+    if_body (id == 0x0104) (body_case params_reply (λ x. message.Params x.0 x.1) params_of) (
     if_body (id == 0x0200) (body_case position message.Position position_of) (
     if_body (id == 0x0201) (body_case position_reply (λ x. message.PositionReply x.0 x.1) position_reply_of) (
     if_body (id == 0x8201) (body_case empty (λ _. message.QueryPosition) query_position_of) (
-    if_body (id == 0x0704) (body_case batch message.Batch batch_of)
-    (body_case rest (message.Opaque id) (opaque_of id)))))))))))))
+    if_body (id == 0x8202) (body_case track (λ x. message.Track x.0 x.1) track_of) (
+    if_body (id == 0x0704) (body_case batch message.Batch batch_of) (
+    if_body (is_2013 edition && (id == 0x8300)) (body_case octet_and_text (λ x. message.Text x.0 None x.1) text_of) (
+    if_body (id == 0x8105) (body_case octet_and_text (λ x. message.Control x.0 x.1) control_of)
+    (body_case rest (message.Opaque id) (opaque_of id)))))))))))))))))))
 
 -- under this id, the octets are the message's fields in the order of the row
 abbrev pub HasBody : Edition → ℕ → Message → List ℕ → Type 0
@@ -48,11 +55,17 @@ id_of message.Deregister = Some 0x0003
 id_of (message.Register _) = Some 0x0100
 id_of (message.RegisterReply _) = Some 0x8100
 id_of (message.Auth _) = Some 0x0102
+id_of (message.SetParams _) = Some 0x8103
 id_of message.QueryParams = Some 0x8104
+id_of (message.QuerySome _) = Some 0x8106
+id_of (message.Params _ _) = Some 0x0104
 id_of (message.Position _) = Some 0x0200
 id_of (message.PositionReply _ _) = Some 0x0201
 id_of message.QueryPosition = Some 0x8201
+id_of (message.Track _ _) = Some 0x8202
 id_of (message.Batch _) = Some 0x0704
+id_of (message.Text _ _ _) = Some 0x8300
+id_of (message.Control _ _) = Some 0x8105
 id_of (message.Opaque id _) = Some id
 id_of (message.Part _) = None
 

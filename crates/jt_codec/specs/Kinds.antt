@@ -1,5 +1,6 @@
 -- The fields of each kind of message; a message of another kind has none of them. To be believed.
 use Rattle.std.specs.Prelude.{ℕ, ◌==◌, if◌then◌else◌, List, Option, Some, None}
+use Rattle.jt_params.specs.declared.param.Param.{Param}
 use Rattle.jt_position.specs.declared.position.Position.{Position}
 use Rattle.jt_position.specs.declared.batch.Batch.{Batch}
 use Rattle.jt_register.specs.declared.register.Register.{Register}
@@ -36,9 +37,21 @@ abbrev pub auth_of : Message → Option Auth
 auth_of (message.Auth auth) = Some auth
 auth_of _ = None
 
+abbrev pub set_params_of : Message → Option (List Param)
+set_params_of (message.SetParams params) = Some params
+set_params_of _ = None
+
 abbrev pub query_params_of : Message → Option (Unit {0})
 query_params_of message.QueryParams = Some tt
 query_params_of _ = None
+
+abbrev pub query_some_of : Message → Option (List ℕ)
+query_some_of (message.QuerySome ids) = Some ids
+query_some_of _ = None
+
+abbrev pub params_of : Message → Option (ℕ × List Param)
+params_of (message.Params reply params) = Some (reply, params)
+params_of _ = None
 
 abbrev pub position_of : Message → Option Position
 position_of (message.Position position) = Some position
@@ -52,9 +65,22 @@ abbrev pub query_position_of : Message → Option (Unit {0})
 query_position_of message.QueryPosition = Some tt
 query_position_of _ = None
 
+abbrev pub track_of : Message → Option (ℕ × Option ℕ)
+track_of (message.Track interval validity) = Some (interval, validity)
+track_of _ = None
+
 abbrev pub batch_of : Message → Option Batch
 batch_of (message.Batch batch) = Some batch
 batch_of _ = None
+
+-- a text without a kind
+abbrev pub text_of : Message → Option (ℕ × List ℕ)
+text_of (message.Text flag None text) = Some (flag, text)
+text_of _ = None
+
+abbrev pub control_of : Message → Option (ℕ × List ℕ)
+control_of (message.Control command text) = Some (command, text)
+control_of _ = None
 
 -- the octets under this id
 abbrev pub opaque_of : ℕ → Message → Option (List ℕ)

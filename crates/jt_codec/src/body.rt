@@ -11,11 +11,18 @@ ghost use Rattle.jt_codec.specs.declared.message.Message.{Message};
 
 use crate::ack::{read_ack, write_ack};
 use crate::message::{
-    AUTH, BATCH, DEREGISTER, HEARTBEAT, Message, PLATFORM_ACK, POSITION, POSITION_REPLY,
-    QUERY_PARAMS, QUERY_POSITION, REGISTER, REGISTER_REPLY, TERMINAL_ACK,
+    AUTH, BATCH, CONTROL, DEREGISTER, HEARTBEAT, Message, PARAMS, PLATFORM_ACK, POSITION,
+    POSITION_REPLY, QUERY_PARAMS, QUERY_POSITION, QUERY_SOME, REGISTER, REGISTER_REPLY, SET_PARAMS,
+    TERMINAL_ACK, TEXT, TRACK,
 };
 use crate::position_reply::{read_position_reply, write_position_reply};
+use crate::text::{read_octet_and_text, write_octet_and_text};
+use crate::track::{read_track, write_track};
 use jt_layout::Reader;
+use jt_params::{
+    read_params, read_params_reply, read_query_some, write_params, write_params_reply,
+    write_query_some,
+};
 use jt_position::{read_batch, read_position, write_batch, write_position};
 use jt_register::{
     read_auth, read_register, read_register_reply, write_auth, write_register, write_register_reply,
@@ -62,9 +69,15 @@ fn read_row(alloc: Global, edition: Edition, id: u16, octets: &[u8]) -> Result<M
         (Edition::E2013, REGISTER) => Ok(Message::Register(read_register(alloc, edition, octets)?)),
         (_, REGISTER_REPLY) => Ok(Message::RegisterReply(read_register_reply(alloc, octets)?)),
         (Edition::E2013, AUTH) => Ok(Message::Auth(read_auth(alloc, edition, octets)?)),
+        (_, SET_PARAMS) => Ok(Message::SetParams(read_params(alloc, octets)?)),
         (_, QUERY_PARAMS) => {
             read_empty(octets)?;
             Ok(Message::QueryParams)
+        }
+        (_, QUERY_SOME) => Ok(Message::QuerySome(read_query_some(alloc, octets)?)),
+        (_, PARAMS) => {
+            let (reply, params) = read_params_reply(alloc, octets)?;
+            Ok(Message::Params { reply, params })
         }
         (_, POSITION) => Ok(Message::Position(read_position(alloc, octets)?)),
         (_, POSITION_REPLY) => {
@@ -75,7 +88,23 @@ fn read_row(alloc: Global, edition: Edition, id: u16, octets: &[u8]) -> Result<M
             read_empty(octets)?;
             Ok(Message::QueryPosition)
         }
+        (_, TRACK) => {
+            let (interval, validity) = read_track(octets)?;
+            Ok(Message::Track { interval, validity })
+        }
         (_, BATCH) => Ok(Message::Batch(read_batch(alloc, octets)?)),
+        (Edition::E2013, TEXT) => {
+            let (flag, text) = read_octet_and_text(alloc, octets)?;
+            Ok(Message::Text {
+                flag,
+                kind: None,
+                text,
+            })
+        }
+        (_, CONTROL) => {
+            let (command, text) = read_octet_and_text(alloc, octets)?;
+            Ok(Message::Control { command, text })
+        }
         _ => Ok(Message::Opaque {
             id,
             body: Octets::from_vec(Vec::from_slice(alloc, octets)?),
@@ -123,9 +152,15 @@ fn write_row(alloc: Global, edition: Edition, message: &Message) -> Result<Octet
         Message::Register(register) => write_register(alloc, edition, register),
         Message::RegisterReply(reply) => write_register_reply(alloc, reply),
         Message::Auth(auth) => write_auth(alloc, edition, auth),
+        Message::SetParams(params) => write_params(alloc, params),
+        Message::QuerySome(ids) => write_query_some(alloc, ids),
+        Message::Params { reply, params } => write_params_reply(alloc, *reply, params),
         Message::Position(position) => write_position(alloc, position),
         Message::PositionReply { reply, position } => write_position_reply(alloc, *reply, position),
+        Message::Track { interval, validity } => write_track(alloc, *interval, *validity),
         Message::Batch(batch) => write_batch(alloc, batch),
+        Message::Text { flag, text, .. } => write_octet_and_text(alloc, *flag, text),
+        Message::Control { command, text } => write_octet_and_text(alloc, *command, text),
         Message::Opaque { body, .. } | Message::Part(body) => body.copy(alloc),
     }
 }

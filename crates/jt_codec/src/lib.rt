@@ -7,6 +7,8 @@ mod frame;
 mod laws;
 mod message;
 mod position_reply;
+mod text;
+mod track;
 
 pub use body::{read_body, write_body};
 pub use frame::{frame_into, parse_frame, read_message};

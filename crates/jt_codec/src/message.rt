@@ -2,11 +2,14 @@
 
 ghost use Rattle.std.specs.Prelude.{◌≡◌, ◌↔◌, IsTrue};
 ghost use Rattle.jt_codec.specs.Bodies.{Fits, body, id_of};
+ghost use Rattle.jt_codec.specs.Layouts.{octet_and_text, track};
 ghost use Rattle.jt_codec.specs.declared.message.Message.TheVariants as message;
 
+use jt_layout::octets_fit;
+use jt_params::{Param, params_fit, params_reply_fits, query_some_fits};
 use jt_position::{Batch, Position};
 use jt_register::{Auth, Register, RegisterReply};
-use jt_value::{Edition, Octets};
+use jt_value::{Edition, Octets, Seq};
 
 /// The ids of messages (the standard's message bodies).
 pub(crate) const TERMINAL_ACK: u16 = 0x0001;
@@ -23,7 +26,13 @@ pub(crate) const REGISTER_REPLY: u16 = 0x8100;
 
 pub(crate) const AUTH: u16 = 0x0102;
 
+pub(crate) const SET_PARAMS: u16 = 0x8103;
+
 pub(crate) const QUERY_PARAMS: u16 = 0x8104;
+
+pub(crate) const QUERY_SOME: u16 = 0x8106;
+
+pub(crate) const PARAMS: u16 = 0x0104;
 
 pub(crate) const POSITION: u16 = 0x0200;
 
@@ -31,16 +40,30 @@ pub(crate) const POSITION_REPLY: u16 = 0x0201;
 
 pub(crate) const QUERY_POSITION: u16 = 0x8201;
 
+pub(crate) const TRACK: u16 = 0x8202;
+
 pub(crate) const BATCH: u16 = 0x0704;
+
+pub(crate) const TEXT: u16 = 0x8300;
+
+pub(crate) const CONTROL: u16 = 0x8105;
 
 /// What the body of a frame is (the standard's message bodies).
 #[derive(Drop)]
 pub enum Message {
     /// The terminal's general response: the serial and the id of what it answers, and the result: 0 success, 1 failure,
     /// 2 message error, 3 not supported. Every octet is accepted as a result.
-    TerminalAck { reply: u16, id: u16, result: u8 },
+    TerminalAck {
+        reply: u16,
+        id: u16,
+        result: u8,
+    },
     /// The platform's general response: as the terminal's, and 4 alarm handled.
-    PlatformAck { reply: u16, id: u16, result: u8 },
+    PlatformAck {
+        reply: u16,
+        id: u16,
+        result: u8,
+    },
     /// The terminal is there. No fields.
     Heartbeat,
     /// The terminal asks to be registered no longer. No fields.
@@ -51,18 +74,51 @@ pub enum Message {
     RegisterReply(RegisterReply),
     /// The terminal authenticates itself. So far in 2013 alone.
     Auth(Auth),
+    /// The platform sets parameters, at most 255.
+    SetParams(Seq<Param>),
     /// The platform asks for all parameters. No fields.
     QueryParams,
+    /// The platform asks for the parameters of these ids, at most 255.
+    QuerySome(Seq<u32>),
+    /// The terminal's answer to a query of parameters: the serial of the query, and the parameters, at most 255.
+    Params {
+        reply: u16,
+        params: Seq<Param>,
+    },
     /// The terminal reports a position.
     Position(Position),
     /// The terminal's answer to a query of its position: the serial of the query, and the position.
-    PositionReply { reply: u16, position: Position },
+    PositionReply {
+        reply: u16,
+        position: Position,
+    },
     /// The platform asks for the position. No fields.
     QueryPosition,
+    /// The platform asks for positions one after the other: the seconds between two of them, and for how many seconds. With an
+    /// interval of 0, which ends them, the validity may be missing, and is None exactly then.
+    Track {
+        interval: u16,
+        validity: Option<u32>,
+    },
     /// The terminal reports positions together.
     Batch(Batch),
+    /// The platform shows or reads out a text, whose octets are not converted. The flag has a bit for each way. The kind is
+    /// None in 2013. So far in 2013 alone.
+    Text {
+        flag: u8,
+        kind: Option<u8>,
+        text: Octets,
+    },
+    /// The platform orders the terminal to do something, with the order's own octets.
+    Control {
+        command: u8,
+        text: Octets,
+    },
     /// The octets under an id that has no row in the table of the edition.
-    Opaque { id: u16, body: Octets },
+    Opaque {
+        id: u16,
+        body: Octets,
+    },
     /// The octets of a packet, which are kept and not read.
     Part(Octets),
 }
@@ -80,11 +136,17 @@ impl Message {
             Message::Register(_) => Some(REGISTER),
             Message::RegisterReply(_) => Some(REGISTER_REPLY),
             Message::Auth(_) => Some(AUTH),
+            Message::SetParams(_) => Some(SET_PARAMS),
             Message::QueryParams => Some(QUERY_PARAMS),
+            Message::QuerySome(_) => Some(QUERY_SOME),
+            Message::Params { .. } => Some(PARAMS),
             Message::Position(_) => Some(POSITION),
             Message::PositionReply { .. } => Some(POSITION_REPLY),
             Message::QueryPosition => Some(QUERY_POSITION),
+            Message::Track { .. } => Some(TRACK),
             Message::Batch(_) => Some(BATCH),
+            Message::Text { .. } => Some(TEXT),
+            Message::Control { .. } => Some(CONTROL),
             Message::Opaque { id, .. } => Some(*id),
             Message::Part(_) => None,
         }
@@ -110,12 +172,18 @@ impl Message {
             Message::Register(register) => register_fits(edition, register),
             Message::RegisterReply(reply) => reply.fits(),
             Message::Auth(auth) => auth_fits(edition, auth),
+            Message::SetParams(params) => params_fit(params),
+            Message::QuerySome(ids) => query_some_fits(ids),
+            Message::Params { reply, params } => params_reply_fits(*reply, params),
             Message::Position(position) => position.fits(),
             Message::PositionReply { reply, position } => {
                 let _reply = *reply;
                 position.fits()
             }
+            Message::Track { interval, validity } => track_fits(*interval, *validity),
             Message::Batch(batch) => batch.fits(),
+            Message::Text { flag, kind, text } => text_fits(edition, *flag, *kind, text),
+            Message::Control { command, text } => control_fits(*command, text),
             Message::Opaque { id, body } => is_opaque(edition, *id, body.as_slice()),
             Message::Part(_) => false,
         }
@@ -144,6 +212,33 @@ fn auth_fits(edition: Edition, auth: &Auth) -> bool
     }
 }
 
+// Whether the table has octets for the interval and the validity.
+#[tactic(auto, unfolding(crate::specs::Bodies::body, crate::specs::Layouts::track, jt_layout::specs::Layout::number, jt_layout::specs::Layout::only_if))]
+fn track_fits(interval: u16, validity: Option<u32>) -> bool
+    ensures { IsTrue result ↔ track.Fits (interval, validity) }
+{
+    interval == 0 || validity.is_some()
+}
+
+// Whether the edition has a row for the text, and octets for it.
+#[tactic(auto, unfolding(crate::specs::Bodies::body, crate::specs::Layouts::octet_and_text, jt_layout::specs::Layout::number, jt_layout::specs::Layout::rest))]
+fn text_fits(edition: Edition, flag: u8, kind: Option<u8>, text: &Octets) -> bool
+    ensures { IsTrue result ↔ Fits edition (message.Text flag kind text.now) }
+{
+    match (edition, kind) {
+        (Edition::E2013, None) => octets_fit(text.as_slice(), text.len()),
+        _ => false,
+    }
+}
+
+// Whether the table has octets for the order.
+#[tactic(auto, unfolding(crate::specs::Layouts::octet_and_text, jt_layout::specs::Layout::number, jt_layout::specs::Layout::rest))]
+fn control_fits(command: u8, text: &Octets) -> bool
+    ensures { IsTrue result ↔ octet_and_text.Fits (command, text.now) }
+{
+    octets_fit(text.as_slice(), text.len())
+}
+
 // Whether the table has no row of the edition for the id, so that these octets are opaque.
 #[tactic(auto, unfolding(crate::specs::Bodies::body, jt_layout::specs::Layout::rest))]
 fn is_opaque(edition: Edition, id: u16, octets: &[u8]) -> bool
@@ -151,8 +246,9 @@ fn is_opaque(edition: Edition, id: u16, octets: &[u8]) -> bool
 {
     match (edition, id) {
         (_, TERMINAL_ACK | PLATFORM_ACK | HEARTBEAT | DEREGISTER | REGISTER_REPLY) => false,
-        (_, QUERY_PARAMS | POSITION | POSITION_REPLY | QUERY_POSITION | BATCH) => false,
-        (Edition::E2013, REGISTER | AUTH) => false,
+        (_, SET_PARAMS | QUERY_PARAMS | QUERY_SOME | PARAMS | TRACK | CONTROL) => false,
+        (_, POSITION | POSITION_REPLY | QUERY_POSITION | BATCH) => false,
+        (Edition::E2013, REGISTER | AUTH | TEXT) => false,
         _ => true,
     }
 }

@@ -30,7 +30,7 @@ fn empty_bodies(rt: HostRuntime) -> Result<(), Fail> {
 
 #[test]
 fn opaque_bodies(rt: HostRuntime) -> Result<(), Fail> {
-    for id in [0x0000, 0x0100, 0x0102, 0x0FFF, 0x8003, 0xFFFF] {
+    for id in [0x0000, 0x0100, 0x0102, 0x0FFF, 0x8003, 0x8300, 0xFFFF] {
         let message = read_body(rt.alloc(), Edition::E2019, id, &[7, 9]).expect(&rt, "a body");
         assert_eq!(rt; message.id(), Some(id));
         assert!(rt; message.fits(Edition::E2019));
@@ -54,13 +54,26 @@ const REGISTER: [u8; 39] =
 
 #[test]
 fn bodies_with_rows(rt: HostRuntime) -> Result<(), Fail> {
-    let rows: [(u16, &[u8]); 10] = [
+    let rows: [(u16, &[u8]); 20] = [
         (0x0001, b"\0\x07\x81\x03\x02"),
         (0x8001, b"\xFF\xFF\0\x02\xFF"),
         (0x0100, &REGISTER),
         (0x8100, b"\0\x05\x03"),
         (0x8100, b"\0\x05\0A"),
         (0x0102, b"A\0"),
+        (0x8103, b"\0"),
+        (0x8103, b"\x02\0\0\0\x03\x04\0\0\0\x05\0\0\0\x03\x02\0\x05"),
+        (0x8106, b"\x01\0\0\0\x01"),
+        (
+            0x0104,
+            b"\0\x07\x02\0\0\0\x01\x04\0\0\0\x3c\0\0\0\x13\x03abc",
+        ),
+        (0x8202, b"\0\0"),
+        (0x8202, b"\0\0\0\0\0\x09"),
+        (0x8202, b"\0\x05\0\0\x02\x58"),
+        (0x8300, b"\x01"),
+        (0x8300, b"\x01\x02A"),
+        (0x8105, b"\x03\xD6\0"),
         (0x0200, &POSITION),
         (
             0x0201,
@@ -105,6 +118,65 @@ fn responses(rt: HostRuntime) -> Result<(), Fail> {
             result: 2
         }
     );
+    assert!(rt; same);
+    Ok(())
+}
+
+#[test]
+fn tracks(rt: HostRuntime) -> Result<(), Fail> {
+    for (body, interval, validity) in [
+        (b"\0\0".as_slice(), 0, None),
+        (b"\0\0\0\0\0\x09".as_slice(), 0, Some(9)),
+        (b"\0\x05\0\0\x02\x58".as_slice(), 5, Some(600)),
+    ] {
+        let message = read_body(rt.alloc(), Edition::E2019, 0x8202, body).expect(&rt, "a body");
+        let Message::Track {
+            interval: read_interval,
+            validity: read_validity,
+        } = message
+        else {
+            return Err(Fail::new("no track"));
+        };
+        assert_eq!(rt; read_interval, interval);
+        assert_eq!(rt; read_validity, validity);
+    }
+    for (body, inside, why) in [
+        (b"\0\x05".as_slice(), 2, Why::Truncated),
+        (b"\0\x05\0\0\x02".as_slice(), 2, Why::Truncated),
+        (b"\0\0\0".as_slice(), 2, Why::Truncated),
+        (b"\0".as_slice(), 0, Why::Truncated),
+        (b"\0\0\0\0\0\x09\x01".as_slice(), 6, Why::Trailing),
+    ] {
+        let refusal = CodecError::Refused(Refusal { at: 0, inside, why });
+        assert_eq!(rt;
+            read_body(rt.alloc(), Edition::E2013, 0x8202, body).err(),
+            Some(refusal)
+        );
+    }
+    let endless = Message::Track {
+        interval: 5,
+        validity: None,
+    };
+    assert!(rt; !endless.fits(Edition::E2013));
+    Ok(())
+}
+
+// A text of 2013 has no kind, and an order has its own octets.
+#[test]
+fn texts_and_orders(rt: HostRuntime) -> Result<(), Fail> {
+    let text = read_body(rt.alloc(), Edition::E2013, 0x8300, b"\x01\x02A").expect(&rt, "a body");
+    let same =
+        matches!(&text, Message::Text { flag: 1, kind: None, text } if text.as_slice() == b"\x02A".as_slice());
+    assert!(rt; same);
+    assert!(rt; !text.fits(Edition::E2019));
+    let kind = Message::Text {
+        flag: 1,
+        kind: Some(2),
+        text: Octets::new(rt.alloc()),
+    };
+    assert!(rt; !kind.fits(Edition::E2013));
+    let order = read_body(rt.alloc(), Edition::E2019, 0x8105, b"\x03").expect(&rt, "a body");
+    let same = matches!(&order, Message::Control { command: 3, text } if text.is_empty());
     assert!(rt; same);
     Ok(())
 }

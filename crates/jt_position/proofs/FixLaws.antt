@@ -10,7 +10,8 @@ use Rattle.jt_position.specs.declared.batch.Batch.{Batch}
 use Rattle.jt_position.specs.Positions.{fixed, position, batch}
 use Rattle.jt_position.specs.Views.{is_position}
 use Rattle.jt_position.specs.Fixes.{fix_limit, IsFix, position_at, fixes_of}
-use Rattle.jt_position.proofs.ItemLaws.{octets_nil, octets_append, octets_dword, octets_word, position_law, batch_law}
+use Rattle.jt_value.proofs.OctetLists.{AreOctets-nil, AreOctets-append, AreOctets-word, AreOctets-dword}
+use Rattle.jt_position.proofs.ItemLaws.{position_law, batch_law}
 
 read_is : (s : List ℕ) → AreOctets s → (r : Result Position Refusal) → position.read s 0 ≡ r → IsTrue (is_ok r) → (m : Position) × Fills position s 0 m
 read_is s bytes (Ok m) e h = (m, position_law.takes s 0 m bytes (omega arith) e)
@@ -68,8 +69,8 @@ at_octets lat =
     let time : List ℕ = 0x24 ∷ 0x01 ∷ 0x01 ∷ 0x00 ∷ 0x00 ∷ 0x00 ∷ [] in
     let zero = to_be_bytes w16 0 in
     let lon = to_be_bytes w32 113_000_000 ++ (zero ++ (zero ++ (zero ++ time))) in
-    let lon_octets = octets_append (to_be_bytes w32 113_000_000) (zero ++ (zero ++ (zero ++ time))) (octets_dword 113_000_000) (octets_append zero (zero ++ (zero ++ time)) (octets_word 0) (octets_append zero (zero ++ time) (octets_word 0) (octets_append zero time (octets_word 0) time_octets))) in
-    let lat_octets = octets_append (to_be_bytes w32 lat) lon (octets_dword lat) lon_octets in
-    let status_octets = octets_append (to_be_bytes w32 3) (to_be_bytes w32 lat ++ lon) (octets_dword 3) lat_octets in
-    let fixed_octets = octets_append (to_be_bytes w32 0) (to_be_bytes w32 3 ++ (to_be_bytes w32 lat ++ lon)) (octets_dword 0) status_octets in
-    octets_append (to_be_bytes w32 0 ++ (to_be_bytes w32 3 ++ (to_be_bytes w32 lat ++ lon))) [] fixed_octets octets_nil
+    let lon_octets = AreOctets-append (to_be_bytes w32 113_000_000) (zero ++ (zero ++ (zero ++ time))) (AreOctets-dword 113_000_000) (AreOctets-append zero (zero ++ (zero ++ time)) (AreOctets-word 0) (AreOctets-append zero (zero ++ time) (AreOctets-word 0) (AreOctets-append zero time (AreOctets-word 0) time_octets))) in
+    let lat_octets = AreOctets-append (to_be_bytes w32 lat) lon (AreOctets-dword lat) lon_octets in
+    let status_octets = AreOctets-append (to_be_bytes w32 3) (to_be_bytes w32 lat ++ lon) (AreOctets-dword 3) lat_octets in
+    let fixed_octets = AreOctets-append (to_be_bytes w32 0) (to_be_bytes w32 3 ++ (to_be_bytes w32 lat ++ lon)) (AreOctets-dword 0) status_octets in
+    AreOctets-append (to_be_bytes w32 0 ++ (to_be_bytes w32 3 ++ (to_be_bytes w32 lat ++ lon))) [] fixed_octets AreOctets-nil

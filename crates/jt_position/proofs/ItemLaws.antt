@@ -6,7 +6,7 @@ use Rattle.std.proofs.lemmas.List.{take-append-drop, drop-drop, drop_more, drop_
 use Rattle.std.proofs.lemmas.Nat.{be_bytes_2, be_bytes_4, from_be_bytes-to_be_bytes_2, from_be_bytes-to_be_bytes_4}
 use Rattle.jt_value.specs.Octets.{AreOctets}
 use Rattle.jt_layout.specs.Layout.{word, octets_of, number}
-use Rattle.jt_value.proofs.OctetLists.{AreOctets-drop, AreOctets-take}
+use Rattle.jt_value.proofs.OctetLists.{AreOctets-drop, AreOctets-take, AreOctets-nil, AreOctets-cons, AreOctets-append, AreOctets-word, AreOctets-dword, byte_back, word_back, dword_back}
 use Rattle.jt_layout.proofs.Laws.{IsPart, IsBody, byte_law, word_law, dword_law, octets_law, then_law, then_body_law, ended_law, typed_law, part_as_law, body_as_law}
 use Rattle.jt_layout.proofs.Repeats.{IsNeverEmpty, block_law, to_the_end_law, sized_law, times_law}
 use Rattle.jt_position.specs.declared.item.Item.{Item}
@@ -31,17 +31,9 @@ record Is (id : ℕ) (v : List ℕ) (k n : ℕ) : Type 0 where
 is_both : (id : ℕ) (v : List ℕ) (k n : ℕ) → is (id, v) k n ≡ true → Is id v k n
 is_both id v k n e = let b = both (eqb id k) (eqb (length v) n) e in record { id-is = eqb-true _ _ b.0; len = eqb-true _ _ b.1 }
 
-one_octet : (v : List ℕ) → length v ≡ 1 → get_or v 0 0 ∷ [] ≡ v
-one_octet [] e = absurd (omega arith)
-one_octet (a ∷ []) e = refl
-one_octet (a ∷ b ∷ v) e = absurd (omega arith)
-
 first_octet : (v : List ℕ) → 0 < length v → get_or v 0 0 ∷ drop 1 v ≡ v
 first_octet [] e = absurd (omega arith)
 first_octet (a ∷ v) e = refl
-
-dword_back : (v : List ℕ) → length v ≡ 4 → AreOctets v → (from_be_bytes w32 v < 2 ^ 32) × (to_be_bytes w32 (from_be_bytes w32 v) ≡ v)
-dword_back v len bytes = (omega (arith, bytes 0, bytes 1, bytes 2, bytes 3), be_bytes_4 v _ len bytes refl)
 
 six_octets : (v : List ℕ) → length v ≡ 6 → get_or v 0 0 ∷ (take 4 (drop 1 v) ++ get_or v 5 0 ∷ []) ≡ v
 six_octets v len =
@@ -50,18 +42,8 @@ six_octets v len =
     let tail : take 4 (drop 1 v) ++ get_or v 5 0 ∷ [] ≡ drop 1 v = ap (λ (t : List ℕ). take 4 (drop 1 v) ++ get_or v 5 0 ∷ t) (sym none) ∙ ap (λ (t : List ℕ). take 4 (drop 1 v) ++ t) (sym last ∙ sym (drop-drop 4 1 v)) ∙ take-append-drop 4 (drop 1 v) in
     ap (λ (t : List ℕ). get_or v 0 0 ∷ t) tail ∙ first_octet v (omega arith)
 
-octets_cons : (b : ℕ) (v : List ℕ) → b < 256 → AreOctets v → AreOctets (b ∷ v)
-octets_cons b v lt h zero = lt
-octets_cons b v lt h (suc i) = h i
-
-pub octets_nil : AreOctets []
-octets_nil i = omega arith
-
 abbrev Back : ℕ → List ℕ → Item → Type 0
 Back id v i = ItemFits i × (untyped i ≡ (id, v))
-
-word_back : (v : List ℕ) → length v ≡ 2 → AreOctets v → (from_be_bytes w16 v < 2 ^ 16) × (to_be_bytes w16 (from_be_bytes w16 v) ≡ v)
-word_back v len bytes = (omega (arith, bytes 0, bytes 1), be_bytes_2 v _ len bytes refl)
 
 seven_octets : (v : List ℕ) → length v ≡ 7 → take 4 v ++ (take 2 (drop 4 v) ++ get_or v 6 0 ∷ []) ≡ v
 seven_octets v len =
@@ -77,15 +59,15 @@ item_back id v lt short bytes =
     choice (Back id v) (is (id, v) 0x02 2) _ _ (λ yes. let i = is_both id v _ _ yes in let d = word_back v i.len bytes in (d.0, rw (i.id-is, d.1) refl)) (λ no2.
     choice (Back id v) (is (id, v) 0x03 2) _ _ (λ yes. let i = is_both id v _ _ yes in let d = word_back v i.len bytes in (d.0, rw (i.id-is, d.1) refl)) (λ no3.
     choice (Back id v) (is (id, v) 0x04 2) _ _ (λ yes. let i = is_both id v _ _ yes in let d = word_back v i.len bytes in (d.0, rw (i.id-is, d.1) refl)) (λ no4.
-    choice (Back id v) (is (id, v) 0x11 1) _ _ (λ yes. let i = is_both id v _ _ yes in ((bytes 0, tt), rw (i.id-is, one_octet v i.len) refl)) (λ no5.
+    choice (Back id v) (is (id, v) 0x11 1) _ _ (λ yes. let i = is_both id v _ _ yes in ((bytes 0, tt), rw (i.id-is, byte_back v i.len) refl)) (λ no5.
     choice (Back id v) (is (id, v) 0x11 5) _ _ (λ yes. let i = is_both id v _ _ yes in let len = i.len in let d = dword_back (drop 1 v) (omega (arith, length-drop 1 v)) (AreOctets-drop 1 v bytes) in ((bytes 0, d.0), rw i.id-is (ap (λ (t : List ℕ). (0x11, get_or v 0 0 ∷ t)) d.1 ∙ ap (λ (t : List ℕ). (0x11, t)) (first_octet v (omega arith))))) (λ no6.
     choice (Back id v) (is (id, v) 0x12 6) _ _ (λ yes. let i = is_both id v _ _ yes in let len = i.len in let d = dword_back (take 4 (drop 1 v)) (omega (arith, length-take 4 (drop 1 v), length-drop 1 v)) (AreOctets-take 4 (drop 1 v) (AreOctets-drop 1 v bytes)) in ((bytes 0, d.0, bytes 5), rw i.id-is (ap (λ (t : List ℕ). (0x12, get_or v 0 0 ∷ (t ++ get_or v 5 0 ∷ []))) d.1 ∙ ap (λ (t : List ℕ). (0x12, t)) (six_octets v len)))) (λ no7.
     choice (Back id v) (is (id, v) 0x13 7) _ _ (λ yes. let i = is_both id v _ _ yes in let len = i.len in let d = dword_back (take 4 v) (omega (arith, length-take 4 v)) (AreOctets-take 4 v bytes) in let k = word_back (take 2 (drop 4 v)) (omega (arith, length-take 2 (drop 4 v), length-drop 4 v)) (AreOctets-take 2 (drop 4 v) (AreOctets-drop 4 v bytes)) in ((d.0, k.0, bytes 6), rw i.id-is (ap (λ (t : List ℕ). (0x13, t ++ (to_be_bytes w16 (from_be_bytes w16 (take 2 (drop 4 v))) ++ get_or v 6 0 ∷ []))) d.1 ∙ ap (λ (t : List ℕ). (0x13, take 4 v ++ (t ++ get_or v 6 0 ∷ []))) k.1 ∙ ap (λ (t : List ℕ). (0x13, t)) (seven_octets v len)))) (λ no8.
     choice (Back id v) (is (id, v) 0x25 4) _ _ (λ yes. let i = is_both id v _ _ yes in let d = dword_back v i.len bytes in (d.0, rw (i.id-is, d.1) refl)) (λ no9.
     choice (Back id v) (is (id, v) 0x2a 2) _ _ (λ yes. let i = is_both id v _ _ yes in let d = word_back v i.len bytes in (d.0, rw (i.id-is, d.1) refl)) (λ no10.
     choice (Back id v) (is (id, v) 0x2b 4) _ _ (λ yes. let i = is_both id v _ _ yes in let d = dword_back v i.len bytes in (d.0, rw (i.id-is, d.1) refl)) (λ no11.
-    choice (Back id v) (is (id, v) 0x30 1) _ _ (λ yes. let i = is_both id v _ _ yes in (bytes 0, rw (i.id-is, one_octet v i.len) refl)) (λ no12.
-    choice (Back id v) (is (id, v) 0x31 1) _ _ (λ yes. let i = is_both id v _ _ yes in (bytes 0, rw (i.id-is, one_octet v i.len) refl)) (λ no13.
+    choice (Back id v) (is (id, v) 0x30 1) _ _ (λ yes. let i = is_both id v _ _ yes in (bytes 0, rw (i.id-is, byte_back v i.len) refl)) (λ no12.
+    choice (Back id v) (is (id, v) 0x31 1) _ _ (λ yes. let i = is_both id v _ _ yes in (bytes 0, rw (i.id-is, byte_back v i.len) refl)) (λ no13.
     ((lt, short, bytes, rw (no1, no2, no3, no4, no5, no6, no7, no8, no9, no10, no11, no12, no13) refl), refl))))))))))))))
 
 abbrev IsRaw : ℕ → List ℕ → ℕ → List ℕ → Item → Type 0
@@ -109,42 +91,25 @@ raw_only id v i w e =
     choice (IsRaw id v i w) (is (id, v) 0x30 1) _ _ (λ yes e. absurd cc) (λ _.
     choice (IsRaw id v i w) (is (id, v) 0x31 1) _ _ (λ yes e. absurd cc) (λ _. (λ e. refl)))))))))))))) e
 
-pub octets_append : (v w : List ℕ) → AreOctets v → AreOctets w → AreOctets (v ++ w)
-octets_append [] w hv hw i = hw i
-octets_append (a ∷ v) w hv hw zero = hv 0
-octets_append (a ∷ v) w hv hw (suc i) = octets_append v w (λ j. hv (suc j)) hw i
-
-pub octets_dword : (n : ℕ) → AreOctets (to_be_bytes w32 n)
-octets_dword n zero = omega arith
-octets_dword n (suc zero) = omega arith
-octets_dword n (suc (suc zero)) = omega arith
-octets_dword n (suc (suc (suc zero))) = omega arith
-octets_dword n (suc (suc (suc (suc i)))) = omega arith
-
-pub octets_word : (n : ℕ) → AreOctets (to_be_bytes w16 n)
-octets_word n zero = omega arith
-octets_word n (suc zero) = omega arith
-octets_word n (suc (suc i)) = omega arith
-
 plain_fits : (id : ℕ) (v : List ℕ) → id < 2 ^ 8 → length v < 2 ^ 8 → AreOctets v → plain_item.Fits (id, v)
 unfolding number octets_of
 plain_fits id v lt short bytes = (lt, (short, (refl, bytes)))
 
 item_forth : (i : Item) → ItemFits i → plain_item.Fits (untyped i) × (typed (untyped i) ≡ i)
 unfolding typed untyped ItemFits
-item_forth (Mileage n) fits = (plain_fits 0x01 (to_be_bytes w32 n) (lit< tt) (lit< tt) (octets_dword n), ap Mileage (from_be_bytes-to_be_bytes_4 n fits))
-item_forth (Fuel n) fits = (plain_fits 0x02 (to_be_bytes w16 n) (lit< tt) (lit< tt) (octets_word n), ap Fuel (from_be_bytes-to_be_bytes_2 n fits))
-item_forth (RecorderSpeed n) fits = (plain_fits 0x03 (to_be_bytes w16 n) (lit< tt) (lit< tt) (octets_word n), ap RecorderSpeed (from_be_bytes-to_be_bytes_2 n fits))
-item_forth (EventId n) fits = (plain_fits 0x04 (to_be_bytes w16 n) (lit< tt) (lit< tt) (octets_word n), ap EventId (from_be_bytes-to_be_bytes_2 n fits))
-item_forth (Overspeed kind None) fits = (plain_fits 0x11 (kind ∷ []) (lit< tt) (lit< tt) (octets_cons kind [] fits.0 octets_nil), refl)
-item_forth (Overspeed kind (Some region)) fits = (plain_fits 0x11 (kind ∷ to_be_bytes w32 region) (lit< tt) (lit< tt) (octets_cons kind (to_be_bytes w32 region) fits.0 (octets_dword region)), ap (λ (r : ℕ). Overspeed kind (Some r)) (from_be_bytes-to_be_bytes_4 region fits.1))
-item_forth (RegionAlarm kind region direction) fits = (plain_fits 0x12 (kind ∷ to_be_bytes w32 region ++ direction ∷ []) (lit< tt) (lit< tt) (octets_cons kind (to_be_bytes w32 region ++ direction ∷ []) fits.0 (octets_append (to_be_bytes w32 region) (direction ∷ []) (octets_dword region) (octets_cons direction [] fits.2 octets_nil))), ap (λ (r : ℕ). RegionAlarm kind r direction) (from_be_bytes-to_be_bytes_4 region fits.1))
-item_forth (Travel segment seconds result) fits = (plain_fits 0x13 (to_be_bytes w32 segment ++ (to_be_bytes w16 seconds ++ result ∷ [])) (lit< tt) (lit< tt) (octets_append (to_be_bytes w32 segment) (to_be_bytes w16 seconds ++ result ∷ []) (octets_dword segment) (octets_append (to_be_bytes w16 seconds) (result ∷ []) (octets_word seconds) (octets_cons result [] fits.2 octets_nil))), ap (λ (r : ℕ). Travel r (from_be_bytes w16 (to_be_bytes w16 seconds)) result) (from_be_bytes-to_be_bytes_4 segment fits.0) ∙ ap (λ (r : ℕ). Travel segment r result) (from_be_bytes-to_be_bytes_2 seconds fits.1))
-item_forth (Signals n) fits = (plain_fits 0x25 (to_be_bytes w32 n) (lit< tt) (lit< tt) (octets_dword n), ap Signals (from_be_bytes-to_be_bytes_4 n fits))
-item_forth (Io n) fits = (plain_fits 0x2a (to_be_bytes w16 n) (lit< tt) (lit< tt) (octets_word n), ap Io (from_be_bytes-to_be_bytes_2 n fits))
-item_forth (Analogue n) fits = (plain_fits 0x2b (to_be_bytes w32 n) (lit< tt) (lit< tt) (octets_dword n), ap Analogue (from_be_bytes-to_be_bytes_4 n fits))
-item_forth (Signal n) fits = (plain_fits 0x30 (n ∷ []) (lit< tt) (lit< tt) (octets_cons n [] fits octets_nil), refl)
-item_forth (Satellites n) fits = (plain_fits 0x31 (n ∷ []) (lit< tt) (lit< tt) (octets_cons n [] fits octets_nil), refl)
+item_forth (Mileage n) fits = (plain_fits 0x01 (to_be_bytes w32 n) (lit< tt) (lit< tt) (AreOctets-dword n), ap Mileage (from_be_bytes-to_be_bytes_4 n fits))
+item_forth (Fuel n) fits = (plain_fits 0x02 (to_be_bytes w16 n) (lit< tt) (lit< tt) (AreOctets-word n), ap Fuel (from_be_bytes-to_be_bytes_2 n fits))
+item_forth (RecorderSpeed n) fits = (plain_fits 0x03 (to_be_bytes w16 n) (lit< tt) (lit< tt) (AreOctets-word n), ap RecorderSpeed (from_be_bytes-to_be_bytes_2 n fits))
+item_forth (EventId n) fits = (plain_fits 0x04 (to_be_bytes w16 n) (lit< tt) (lit< tt) (AreOctets-word n), ap EventId (from_be_bytes-to_be_bytes_2 n fits))
+item_forth (Overspeed kind None) fits = (plain_fits 0x11 (kind ∷ []) (lit< tt) (lit< tt) (AreOctets-cons kind [] fits.0 AreOctets-nil), refl)
+item_forth (Overspeed kind (Some region)) fits = (plain_fits 0x11 (kind ∷ to_be_bytes w32 region) (lit< tt) (lit< tt) (AreOctets-cons kind (to_be_bytes w32 region) fits.0 (AreOctets-dword region)), ap (λ (r : ℕ). Overspeed kind (Some r)) (from_be_bytes-to_be_bytes_4 region fits.1))
+item_forth (RegionAlarm kind region direction) fits = (plain_fits 0x12 (kind ∷ to_be_bytes w32 region ++ direction ∷ []) (lit< tt) (lit< tt) (AreOctets-cons kind (to_be_bytes w32 region ++ direction ∷ []) fits.0 (AreOctets-append (to_be_bytes w32 region) (direction ∷ []) (AreOctets-dword region) (AreOctets-cons direction [] fits.2 AreOctets-nil))), ap (λ (r : ℕ). RegionAlarm kind r direction) (from_be_bytes-to_be_bytes_4 region fits.1))
+item_forth (Travel segment seconds result) fits = (plain_fits 0x13 (to_be_bytes w32 segment ++ (to_be_bytes w16 seconds ++ result ∷ [])) (lit< tt) (lit< tt) (AreOctets-append (to_be_bytes w32 segment) (to_be_bytes w16 seconds ++ result ∷ []) (AreOctets-dword segment) (AreOctets-append (to_be_bytes w16 seconds) (result ∷ []) (AreOctets-word seconds) (AreOctets-cons result [] fits.2 AreOctets-nil))), ap (λ (r : ℕ). Travel r (from_be_bytes w16 (to_be_bytes w16 seconds)) result) (from_be_bytes-to_be_bytes_4 segment fits.0) ∙ ap (λ (r : ℕ). Travel segment r result) (from_be_bytes-to_be_bytes_2 seconds fits.1))
+item_forth (Signals n) fits = (plain_fits 0x25 (to_be_bytes w32 n) (lit< tt) (lit< tt) (AreOctets-dword n), ap Signals (from_be_bytes-to_be_bytes_4 n fits))
+item_forth (Io n) fits = (plain_fits 0x2a (to_be_bytes w16 n) (lit< tt) (lit< tt) (AreOctets-word n), ap Io (from_be_bytes-to_be_bytes_2 n fits))
+item_forth (Analogue n) fits = (plain_fits 0x2b (to_be_bytes w32 n) (lit< tt) (lit< tt) (AreOctets-dword n), ap Analogue (from_be_bytes-to_be_bytes_4 n fits))
+item_forth (Signal n) fits = (plain_fits 0x30 (n ∷ []) (lit< tt) (lit< tt) (AreOctets-cons n [] fits AreOctets-nil), refl)
+item_forth (Satellites n) fits = (plain_fits 0x31 (n ∷ []) (lit< tt) (lit< tt) (AreOctets-cons n [] fits AreOctets-nil), refl)
 item_forth (Raw id value) fits = (plain_fits id value fits.0 fits.1 fits.2, fits.3)
 
 pub item_law : IsPart item

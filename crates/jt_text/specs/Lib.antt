@@ -1,6 +1,8 @@
 pub mod Fields
 pub mod Frames
 pub mod Names
+pub mod OrderFields
+pub mod ParamFields
 pub mod PositionFields
 pub mod Refusals
 pub mod RegistrationFields

@@ -108,6 +108,76 @@ fn positions_and_batches(rt: HostRuntime) -> Result<(), Fail> {
 }
 
 #[test]
+fn parameters(rt: HostRuntime) -> Result<(), Fail> {
+    let alloc = rt.alloc();
+    for (id, body, written) in [
+        (
+            0x8103,
+            b"\x04\0\0\0\x81\x02\0\x2c\0\0\0\x84\x01\x02\0\0\0\x01\x02\0\x3c\0\0\0\x83\0".as_slice(),
+            "7 2013 0x8103 set-params phone=013912345678 serial=3 body=26 count=4 param=0x00000081:44 param=0x00000084:2 param=0x00000001:003c param=0x00000083:-\n",
+        ),
+        (
+            0x8106,
+            b"\x01\0\0\0\x01".as_slice(),
+            "7 2013 0x8106 query-some phone=013912345678 serial=3 body=5 count=1 id=0x00000001\n",
+        ),
+        (
+            0x8106,
+            b"\0".as_slice(),
+            "7 2013 0x8106 query-some phone=013912345678 serial=3 body=1 count=0\n",
+        ),
+        (
+            0x0104,
+            b"\0\x07\x02\0\0\0\x01\x04\0\0\0\x3c\0\0\0\x13\x03abc".as_slice(),
+            "7 2013 0x0104 params phone=013912345678 serial=3 body=20 reply=7 count=2 param=0x00000001:60 param=0x00000013:616263\n",
+        ),
+    ] {
+        expect(&rt, alloc, id, body, written)?;
+    }
+    Ok(())
+}
+
+#[test]
+fn tracks_texts_and_orders(rt: HostRuntime) -> Result<(), Fail> {
+    let alloc = rt.alloc();
+    for (id, body, written) in [
+        (
+            0x8202,
+            b"\0\0".as_slice(),
+            "7 2013 0x8202 track phone=013912345678 serial=3 body=2 interval=0 validity=-\n",
+        ),
+        (
+            0x8202,
+            b"\0\x05\0\0\x02\x58".as_slice(),
+            "7 2013 0x8202 track phone=013912345678 serial=3 body=6 interval=5 validity=600\n",
+        ),
+        (
+            0x8300,
+            b"\x01\x02\x41".as_slice(),
+            "7 2013 0x8300 text phone=013912345678 serial=3 body=3 flag=1 text=0241\n",
+        ),
+        (
+            0x8105,
+            b"\x03".as_slice(),
+            "7 2013 0x8105 control phone=013912345678 serial=3 body=1 command=3 text=-\n",
+        ),
+    ] {
+        expect(&rt, alloc, id, body, written)?;
+    }
+    let text = Message::Text {
+        flag: 1,
+        kind: Some(2),
+        text: Octets::new(alloc),
+    };
+    let line = view_line(alloc, 0, &header(0x8300, None), &text, 2)?;
+    assert_eq!(rt;
+        line.as_slice(),
+        b"0 2013 0x8300 text phone=013912345678 serial=3 body=2 flag=1 kind=2 text=-\n".as_slice()
+    );
+    Ok(())
+}
+
+#[test]
 fn an_authentication_with_a_tail(rt: HostRuntime) -> Result<(), Fail> {
     let alloc = rt.alloc();
     let auth = Auth {

@@ -1,5 +1,7 @@
 //! The fields of messages.
 
+mod orders;
+mod params;
 mod position;
 mod registration;
 
@@ -9,7 +11,10 @@ ghost use Rattle.jt_codec.specs.declared.message.Message.TheVariants as message;
 
 use crate::values::{push_digits, push_number, push_octets};
 use jt_codec::Message;
+use jt_params::Param;
 use jt_position::Position;
+use orders::{push_control, push_text, push_track};
+use params::{push_params, push_query_some};
 use position::{push_batch, push_position};
 use registration::{push_auth, push_register, push_register_reply};
 use std::alloc::AllocError;
@@ -31,6 +36,14 @@ fn push_position_reply(text: &mut String, reply: u16, position: &Position) -> Re
     push_position(text, position)
 }
 
+#[tactic(auto, using(std::proofs::Common::append_assoc))]
+fn push_params_reply(text: &mut String, reply: u16, params: &[Param]) -> Result<(), AllocError>
+    ensures { OnOk result (string_bytes text.new ≡ string_bytes text.old ++ fields_of (message.Params reply params.now)) }
+{
+    push_number(text, " reply=", reply as u64)?;
+    push_params(text, params)
+}
+
 /// Puts the fields of a message at the end of a text, in the order of its layout, each behind a blank.
 pub(crate) fn push_fields(text: &mut String, message: &Message) -> Result<(), AllocError>
     ensures { OnOk result (string_bytes text.new ≡ string_bytes text.old ++ fields_of message.now) }
@@ -44,9 +57,22 @@ pub(crate) fn push_fields(text: &mut String, message: &Message) -> Result<(), Al
         Message::Register(register) => push_register(text, register),
         Message::RegisterReply(reply) => push_register_reply(text, reply),
         Message::Auth(auth) => push_auth(text, auth),
+        Message::SetParams(params) => push_params(text, params.as_slice()),
+        Message::QuerySome(ids) => push_query_some(text, ids.as_slice()),
+        Message::Params { reply, params } => push_params_reply(text, *reply, params.as_slice()),
         Message::Position(position) => push_position(text, position),
         Message::PositionReply { reply, position } => push_position_reply(text, *reply, position),
+        Message::Track { interval, validity } => push_track(text, *interval, *validity),
         Message::Batch(batch) => push_batch(text, batch),
+        Message::Text {
+            flag,
+            kind,
+            text: octets,
+        } => push_text(text, *flag, *kind, octets.as_slice()),
+        Message::Control {
+            command,
+            text: octets,
+        } => push_control(text, *command, octets.as_slice()),
         Message::Opaque { body, .. } => push_octets(text, " body-octets=", body.as_slice()),
         Message::Part(octets) => push_octets(text, " part=", octets.as_slice()),
     }

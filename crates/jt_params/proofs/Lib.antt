@@ -1,0 +1,2 @@
+pub mod ParamLaws
+pub mod TableLaws
