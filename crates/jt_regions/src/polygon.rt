@@ -9,7 +9,7 @@ use crate::limit::Limit;
 use crate::optional::{limit_fits, read_limit, read_times, times_fit, write_limit, write_times};
 use jt_layout::{Element, Reader, Writer, all_fit};
 use jt_value::{CodecError, Memory, Octets, Seq};
-use std::alloc::Global;
+use std::alloc::{AllocError, Global};
 
 /// A corner of a polygon.
 #[derive(Clone, Copy, Debug, PartialEq, Eq)]
@@ -31,6 +31,20 @@ pub struct Polygon {
     pub limit: Option<Limit>,
     /// At most 65,535.
     pub vertices: Seq<Vertex>,
+}
+
+impl Clone for Polygon {
+    ghost is_clone = { λ polygon clone. clone ≡ polygon };
+
+    fn clone(&self) -> Result<Polygon, AllocError> {
+        Ok(Polygon {
+            id: self.id,
+            attribute: self.attribute,
+            times: self.times,
+            limit: self.limit,
+            vertices: self.vertices.clone()?,
+        })
+    }
 }
 
 impl Element for Vertex {

@@ -12,7 +12,7 @@ use crate::optional::{
 };
 use jt_layout::{Element, Reader, Writer, all_fit};
 use jt_value::{CodecError, Memory, Octets, Seq};
-use std::alloc::Global;
+use std::alloc::{AllocError, Global};
 
 /// A point at which a route turns, and the segment that begins there.
 #[derive(Clone, Copy, Debug, PartialEq, Eq)]
@@ -44,6 +44,19 @@ pub struct Route {
     pub times: Option<[u8; 12]>,
     /// At most 65,535.
     pub points: Seq<RoutePoint>,
+}
+
+impl Clone for Route {
+    ghost is_clone = { λ route clone. clone ≡ route };
+
+    fn clone(&self) -> Result<Route, AllocError> {
+        Ok(Route {
+            id: self.id,
+            attribute: self.attribute,
+            times: self.times,
+            points: self.points.clone()?,
+        })
+    }
 }
 
 impl Element for RoutePoint {
