@@ -25,4 +25,6 @@ pub use region_table::RegionTable;
 pub use route::{Route, RoutePoint, law_routes, read_route, write_route};
 
 #[cfg(test)]
+mod table_tests;
+#[cfg(test)]
 mod tests;
