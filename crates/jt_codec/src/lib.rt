@@ -7,6 +7,7 @@ mod frame;
 mod laws;
 mod message;
 mod position_reply;
+mod regions;
 
 pub use body::{read_body, write_body};
 pub use frame::{frame_into, parse_frame, read_message};

@@ -4,9 +4,13 @@ ghost use Rattle.std.specs.Prelude.{◌≡◌, ◌↔◌, IsTrue};
 ghost use Rattle.jt_codec.specs.Bodies.{Fits, body, id_of};
 ghost use Rattle.jt_codec.specs.declared.message.Message.TheVariants as message;
 
+use crate::regions::{
+    circles_fit, deletion_fits, deletion_id, polygon_fits, rectangles_fit, route_fits,
+};
 use jt_position::{Batch, Position};
+use jt_regions::{Circle, Polygon, Rectangle, RegionKind, Route};
 use jt_register::{Auth, Register, RegisterReply};
-use jt_value::{Edition, Octets};
+use jt_value::{Edition, Octets, Seq};
 
 /// The ids of messages (the standard's message bodies).
 pub(crate) const TERMINAL_ACK: u16 = 0x0001;
@@ -32,6 +36,22 @@ pub(crate) const POSITION_REPLY: u16 = 0x0201;
 pub(crate) const QUERY_POSITION: u16 = 0x8201;
 
 pub(crate) const BATCH: u16 = 0x0704;
+
+pub(crate) const CIRCLES: u16 = 0x8600;
+
+pub(crate) const RECTANGLES: u16 = 0x8602;
+
+pub(crate) const POLYGON: u16 = 0x8604;
+
+pub(crate) const ROUTE: u16 = 0x8606;
+
+pub(crate) const DELETE_CIRCLES: u16 = 0x8601;
+
+pub(crate) const DELETE_RECTANGLES: u16 = 0x8603;
+
+pub(crate) const DELETE_POLYGONS: u16 = 0x8605;
+
+pub(crate) const DELETE_ROUTES: u16 = 0x8607;
 
 /// What the body of a frame is (the standard's message bodies).
 #[derive(Drop)]
@@ -61,6 +81,17 @@ pub enum Message {
     QueryPosition,
     /// The terminal reports positions together.
     Batch(Batch),
+    /// The platform sets circles: with setting 0 they are the circles, with 1 they are added, with 2 they replace those of
+    /// their ids. 2013 alone.
+    Circles { setting: u8, list: Seq<Circle> },
+    /// The same for rectangles. 2013 alone.
+    Rectangles { setting: u8, list: Seq<Rectangle> },
+    /// The platform sets a polygon. 2013 alone.
+    Polygon(Polygon),
+    /// The platform sets a route. 2013 alone.
+    Route(Route),
+    /// The platform deletes the regions of these ids, and all of the kind where there are none.
+    Delete { kind: RegionKind, ids: Seq<u32> },
     /// The octets under an id that has no row in the table of the edition.
     Opaque { id: u16, body: Octets },
     /// The octets of a packet, which are kept and not read.
@@ -85,6 +116,11 @@ impl Message {
             Message::PositionReply { .. } => Some(POSITION_REPLY),
             Message::QueryPosition => Some(QUERY_POSITION),
             Message::Batch(_) => Some(BATCH),
+            Message::Circles { .. } => Some(CIRCLES),
+            Message::Rectangles { .. } => Some(RECTANGLES),
+            Message::Polygon(_) => Some(POLYGON),
+            Message::Route(_) => Some(ROUTE),
+            Message::Delete { kind, .. } => Some(deletion_id(*kind)),
             Message::Opaque { id, .. } => Some(*id),
             Message::Part(_) => None,
         }
@@ -116,6 +152,11 @@ impl Message {
                 position.fits()
             }
             Message::Batch(batch) => batch.fits(),
+            Message::Circles { setting, list } => circles_fit(edition, *setting, list),
+            Message::Rectangles { setting, list } => rectangles_fit(edition, *setting, list),
+            Message::Polygon(polygon) => polygon_fits(edition, polygon),
+            Message::Route(route) => route_fits(edition, route),
+            Message::Delete { kind, ids } => deletion_fits(edition, *kind, ids),
             Message::Opaque { id, body } => is_opaque(edition, *id, body.as_slice()),
             Message::Part(_) => false,
         }
@@ -152,7 +193,9 @@ fn is_opaque(edition: Edition, id: u16, octets: &[u8]) -> bool
     match (edition, id) {
         (_, TERMINAL_ACK | PLATFORM_ACK | HEARTBEAT | DEREGISTER | REGISTER_REPLY) => false,
         (_, QUERY_PARAMS | POSITION | POSITION_REPLY | QUERY_POSITION | BATCH) => false,
+        (_, DELETE_CIRCLES | DELETE_RECTANGLES | DELETE_POLYGONS | DELETE_ROUTES) => false,
         (Edition::E2013, REGISTER | AUTH) => false,
+        (Edition::E2013, CIRCLES | RECTANGLES | POLYGON | ROUTE) => false,
         _ => true,
     }
 }
