@@ -9,8 +9,23 @@ ghost use Rattle.jt_codec.specs.Answer.{IsUnlessMemory};
 ghost use Rattle.jt_codec.specs.Bodies.{Fits, HasBody, IsInside, body, body_octets, id_of};
 ghost use Rattle.jt_codec.specs.declared.message.Message.{Message};
 
-use crate::message::{DEREGISTER, HEARTBEAT, Message, QUERY_PARAMS, QUERY_POSITION};
+use crate::ack::{read_ack, write_ack};
+use crate::message::{
+    AUTH, BATCH, CIRCLES, DELETE_CIRCLES, DELETE_POLYGONS, DELETE_RECTANGLES, DELETE_ROUTES,
+    DEREGISTER, HEARTBEAT, Message, PLATFORM_ACK, POLYGON, POSITION, POSITION_REPLY, QUERY_PARAMS,
+    QUERY_POSITION, RECTANGLES, REGISTER, REGISTER_REPLY, ROUTE, TERMINAL_ACK,
+};
+use crate::position_reply::{read_position_reply, write_position_reply};
+use crate::regions::write_region_ids;
 use jt_layout::Reader;
+use jt_position::{read_batch, read_position, write_batch, write_position};
+use jt_regions::{
+    Deletion, RegionKind, read_circles, read_deletion, read_polygon, read_rectangles, read_route,
+    write_circles, write_polygon, write_rectangles, write_route,
+};
+use jt_register::{
+    read_auth, read_register, read_register_reply, write_auth, write_register, write_register_reply,
+};
 use jt_value::{CodecError, Edition, Memory, Octets};
 use std::alloc::Global;
 
@@ -28,27 +43,74 @@ fn read_empty(octets: &[u8]) -> Result<(), CodecError>
     empty_in(octets)
 }
 
-// A body under any id, by the row of the id. An id without a row is opaque.
+// A body under any id, by the row of the id. An id without a row of the edition is opaque.
 #[tactic(auto, unfolding(crate::specs::Bodies::body, jt_layout::specs::Layout::rest), using(jt_layout::proofs::Answering::answers_case))]
 fn read_row(alloc: Global, edition: Edition, id: u16, octets: &[u8]) -> Result<Message, CodecError>
     ensures { Answers (body edition id) octets.now result }
 {
-    match id {
-        HEARTBEAT => {
+    match (edition, id) {
+        (_, TERMINAL_ACK) => {
+            let (reply, id, result) = read_ack(octets)?;
+            Ok(Message::TerminalAck { reply, id, result })
+        }
+        (_, PLATFORM_ACK) => {
+            let (reply, id, result) = read_ack(octets)?;
+            Ok(Message::PlatformAck { reply, id, result })
+        }
+        (_, HEARTBEAT) => {
             read_empty(octets)?;
             Ok(Message::Heartbeat)
         }
-        DEREGISTER => {
+        (_, DEREGISTER) => {
             read_empty(octets)?;
             Ok(Message::Deregister)
         }
-        QUERY_PARAMS => {
+        (Edition::E2013, REGISTER) => Ok(Message::Register(read_register(alloc, edition, octets)?)),
+        (_, REGISTER_REPLY) => Ok(Message::RegisterReply(read_register_reply(alloc, octets)?)),
+        (Edition::E2013, AUTH) => Ok(Message::Auth(read_auth(alloc, edition, octets)?)),
+        (_, QUERY_PARAMS) => {
             read_empty(octets)?;
             Ok(Message::QueryParams)
         }
-        QUERY_POSITION => {
+        (_, POSITION) => Ok(Message::Position(read_position(alloc, octets)?)),
+        (_, POSITION_REPLY) => {
+            let (reply, position) = read_position_reply(alloc, octets)?;
+            Ok(Message::PositionReply { reply, position })
+        }
+        (_, QUERY_POSITION) => {
             read_empty(octets)?;
             Ok(Message::QueryPosition)
+        }
+        (_, BATCH) => Ok(Message::Batch(read_batch(alloc, octets)?)),
+        (Edition::E2013, CIRCLES) => {
+            let (setting, list) = read_circles(alloc, octets)?;
+            Ok(Message::Circles { setting, list })
+        }
+        (Edition::E2013, RECTANGLES) => {
+            let (setting, list) = read_rectangles(alloc, octets)?;
+            Ok(Message::Rectangles { setting, list })
+        }
+        (Edition::E2013, POLYGON) => Ok(Message::Polygon(read_polygon(alloc, octets)?)),
+        (Edition::E2013, ROUTE) => Ok(Message::Route(read_route(alloc, octets)?)),
+        (_, DELETE_CIRCLES) => {
+            let Deletion { ids } = read_deletion(alloc, octets)?;
+            let kind = RegionKind::Circle;
+            Ok(Message::Delete { kind, ids })
+        }
+        (_, DELETE_RECTANGLES) => {
+            let Deletion { ids } = read_deletion(alloc, octets)?;
+            let kind = RegionKind::Rectangle;
+            Ok(Message::Delete { kind, ids })
+        }
+        (_, DELETE_POLYGONS) => {
+            let Deletion { ids } = read_deletion(alloc, octets)?;
+            let kind = RegionKind::Polygon;
+            Ok(Message::Delete { kind, ids })
+        }
+        (_, DELETE_ROUTES) => {
+            let Deletion { ids } = read_deletion(alloc, octets)?;
+            let kind = RegionKind::Route;
+            Ok(Message::Delete { kind, ids })
         }
         _ => Ok(Message::Opaque {
             id,
@@ -83,14 +145,28 @@ pub fn read_body(
 }
 
 // The octets of the row of a message.
-#[tactic(auto, unfolding(crate::specs::Bodies::body, jt_layout::specs::Layout::rest))]
+#[tactic(auto, unfolding(crate::specs::Bodies::body, crate::specs::Layouts::position_reply, jt_layout::specs::Layout::rest))]
 fn write_row(alloc: Global, edition: Edition, message: &Message) -> Result<Octets, Memory>
     requires { Fits edition message.now }
     ensures { IfOk result (λ octets. octets ≡ body_octets edition message.now) }
 {
     match message {
+        Message::TerminalAck { reply, id, result } | Message::PlatformAck { reply, id, result } => {
+            write_ack(alloc, *reply, *id, *result)
+        }
         Message::Heartbeat | Message::Deregister | Message::QueryParams | Message::QueryPosition =>
             Ok(Octets::new(alloc)),
+        Message::Register(register) => write_register(alloc, edition, register),
+        Message::RegisterReply(reply) => write_register_reply(alloc, reply),
+        Message::Auth(auth) => write_auth(alloc, edition, auth),
+        Message::Position(position) => write_position(alloc, position),
+        Message::PositionReply { reply, position } => write_position_reply(alloc, *reply, position),
+        Message::Batch(batch) => write_batch(alloc, batch),
+        Message::Circles { setting, list } => write_circles(alloc, *setting, list),
+        Message::Rectangles { setting, list } => write_rectangles(alloc, *setting, list),
+        Message::Polygon(polygon) => write_polygon(alloc, polygon),
+        Message::Route(route) => write_route(alloc, route),
+        Message::Delete { kind, ids } => write_region_ids(alloc, edition, *kind, ids),
         Message::Opaque { body, .. } | Message::Part(body) => body.copy(alloc),
     }
 }

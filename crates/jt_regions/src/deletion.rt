@@ -20,12 +20,20 @@ impl Deletion {
     ghost use Rattle.jt_regions.specs.Regions.{deletion};
 
     /// Whether the deletion has octets: at most 255 ids.
-    #[tactic(auto, unfolding(crate::specs::Regions::deletion, jt_layout::specs::Layout::number))]
+    #[tactic(auto, unfolding(crate::specs::Regions::deletion))]
     pub fn fits(&self) -> bool
         ensures { IsTrue result ↔ deletion.Fits self.now }
     {
-        self.ids.len() < 256 && all_fit(self.ids.as_slice())
+        ids_fit(&self.ids)
     }
+}
+
+/// Whether ids have octets as a deletion: at most 255.
+#[tactic(auto, unfolding(crate::specs::Regions::deletion, jt_layout::specs::Layout::number))]
+pub fn ids_fit(ids: &Seq<u32>) -> bool
+    ensures { IsTrue result ↔ layouts.deletion.Fits (record { ids = ids.now }) }
+{
+    ids.len() < 256 && all_fit(ids.as_slice())
 }
 
 #[tactic(auto, unfolding(crate::specs::Regions::deletion))]
@@ -48,14 +56,23 @@ pub fn read_deletion(alloc: Global, octets: &[u8]) -> Result<Deletion, CodecErro
 }
 
 /// The body of a deletion of at most 255 ids.
-#[tactic(auto, using(std::proofs::Common::append_assoc), unfolding(crate::specs::Regions::deletion, jt_layout::specs::Layout::number))]
+#[tactic(auto, unfolding(crate::specs::Regions::deletion))]
 pub fn write_deletion(alloc: Global, deletion: &Deletion) -> Result<Octets, Memory>
     requires { layouts.deletion.Fits deletion.now }
     ensures { IfOk result (λ octets. octets ≡ layouts.deletion.spell deletion.now) }
 {
+    write_ids(alloc, &deletion.ids)
+}
+
+/// The body of the deletion of these ids, of which there are at most 255.
+#[tactic(auto, using(std::proofs::Common::append_assoc), unfolding(crate::specs::Regions::deletion, jt_layout::specs::Layout::number))]
+pub fn write_ids(alloc: Global, ids: &Seq<u32>) -> Result<Octets, Memory>
+    requires { layouts.deletion.Fits (record { ids = ids.now }) }
+    ensures { IfOk result (λ octets. octets ≡ layouts.deletion.spell (record { ids = ids.now })) }
+{
     let mut writer = Writer::new(alloc);
-    writer.byte(deletion.ids.len() as u8)?;
-    writer.list(alloc, deletion.ids.as_slice())?;
+    writer.byte(ids.len() as u8)?;
+    writer.list(alloc, ids.as_slice())?;
     Ok(writer.finish())
 }
 

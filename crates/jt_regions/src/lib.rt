@@ -16,7 +16,7 @@ mod table;
 
 pub use change::{RegionChange, RegionKind};
 pub use circle::{Circle, circles_fit, law_circles, read_circles, write_circles};
-pub use deletion::{Deletion, law_deletions, read_deletion, write_deletion};
+pub use deletion::{Deletion, ids_fit, law_deletions, read_deletion, write_deletion, write_ids};
 pub use error::RegionError;
 pub use limit::Limit;
 pub use polygon::{Polygon, Vertex, law_polygons, read_polygon, write_polygon};

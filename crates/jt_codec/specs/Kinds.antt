@@ -1,0 +1,100 @@
+-- The fields of each kind of message; a message of another kind has none of them. To be believed.
+use Rattle.std.specs.Prelude.{ℕ, ◌==◌, if◌then◌else◌, List, Option, Some, None}
+use Rattle.jt_position.specs.declared.position.Position.{Position}
+use Rattle.jt_position.specs.declared.batch.Batch.{Batch}
+use Rattle.jt_regions.specs.declared.change.RegionKind.TheVariants as kind
+use Rattle.jt_regions.specs.declared.circle.Circle.{Circle}
+use Rattle.jt_regions.specs.declared.deletion.Deletion.{Deletion}
+use Rattle.jt_regions.specs.declared.polygon.Polygon.{Polygon}
+use Rattle.jt_regions.specs.declared.rectangle.Rectangle.{Rectangle}
+use Rattle.jt_regions.specs.declared.route.Route.{Route}
+use Rattle.jt_register.specs.declared.register.Register.{Register}
+use Rattle.jt_register.specs.declared.reply.RegisterReply.{RegisterReply}
+use Rattle.jt_register.specs.declared.auth.Auth.{Auth}
+use Rattle.jt_codec.specs.declared.message.Message.{Message}
+use Rattle.jt_codec.specs.declared.message.Message.TheVariants as message
+
+abbrev pub terminal_ack_of : Message → Option (ℕ × ℕ × ℕ)
+terminal_ack_of (message.TerminalAck reply id result) = Some (reply, id, result)
+terminal_ack_of _ = None
+
+abbrev pub platform_ack_of : Message → Option (ℕ × ℕ × ℕ)
+platform_ack_of (message.PlatformAck reply id result) = Some (reply, id, result)
+platform_ack_of _ = None
+
+abbrev pub heartbeat_of : Message → Option (Unit {0})
+heartbeat_of message.Heartbeat = Some tt
+heartbeat_of _ = None
+
+abbrev pub deregister_of : Message → Option (Unit {0})
+deregister_of message.Deregister = Some tt
+deregister_of _ = None
+
+abbrev pub register_of : Message → Option Register
+register_of (message.Register register) = Some register
+register_of _ = None
+
+abbrev pub register_reply_of : Message → Option RegisterReply
+register_reply_of (message.RegisterReply reply) = Some reply
+register_reply_of _ = None
+
+abbrev pub auth_of : Message → Option Auth
+auth_of (message.Auth auth) = Some auth
+auth_of _ = None
+
+abbrev pub query_params_of : Message → Option (Unit {0})
+query_params_of message.QueryParams = Some tt
+query_params_of _ = None
+
+abbrev pub position_of : Message → Option Position
+position_of (message.Position position) = Some position
+position_of _ = None
+
+abbrev pub position_reply_of : Message → Option (ℕ × Position)
+position_reply_of (message.PositionReply reply position) = Some (reply, position)
+position_reply_of _ = None
+
+abbrev pub query_position_of : Message → Option (Unit {0})
+query_position_of message.QueryPosition = Some tt
+query_position_of _ = None
+
+abbrev pub batch_of : Message → Option Batch
+batch_of (message.Batch batch) = Some batch
+batch_of _ = None
+
+abbrev pub circles_of : Message → Option (ℕ × List Circle)
+circles_of (message.Circles setting list) = Some (setting, list)
+circles_of _ = None
+
+abbrev pub rectangles_of : Message → Option (ℕ × List Rectangle)
+rectangles_of (message.Rectangles setting list) = Some (setting, list)
+rectangles_of _ = None
+
+abbrev pub polygon_of : Message → Option Polygon
+polygon_of (message.Polygon polygon) = Some polygon
+polygon_of _ = None
+
+abbrev pub route_of : Message → Option Route
+route_of (message.Route route) = Some route
+route_of _ = None
+
+abbrev pub delete_circles_of : Message → Option Deletion
+delete_circles_of (message.Delete kind.Circle ids) = Some (record { ids = ids })
+delete_circles_of _ = None
+
+abbrev pub delete_rectangles_of : Message → Option Deletion
+delete_rectangles_of (message.Delete kind.Rectangle ids) = Some (record { ids = ids })
+delete_rectangles_of _ = None
+
+abbrev pub delete_polygons_of : Message → Option Deletion
+delete_polygons_of (message.Delete kind.Polygon ids) = Some (record { ids = ids })
+delete_polygons_of _ = None
+
+abbrev pub delete_routes_of : Message → Option Deletion
+delete_routes_of (message.Delete kind.Route ids) = Some (record { ids = ids })
+delete_routes_of _ = None
+
+-- the octets under this id
+abbrev pub opaque_of : ℕ → Message → Option (List ℕ)
+opaque_of id (message.Opaque own octets) = if own == id then Some octets else None
+opaque_of id _ = None
