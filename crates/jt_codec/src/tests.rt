@@ -30,7 +30,9 @@ fn empty_bodies(rt: HostRuntime) -> Result<(), Fail> {
 
 #[test]
 fn opaque_bodies(rt: HostRuntime) -> Result<(), Fail> {
-    for id in [0x0000, 0x0100, 0x0102, 0x0FFF, 0x8003, 0x8600, 0x8606, 0xFFFF] {
+    for id in [
+        0x0000, 0x0100, 0x0102, 0x0FFF, 0x8003, 0x8600, 0x8606, 0xFFFF,
+    ] {
         let message = read_body(rt.alloc(), Edition::E2019, id, &[7, 9]).expect(&rt, "a body");
         assert_eq!(rt; message.id(), Some(id));
         assert!(rt; message.fits(Edition::E2019));
@@ -52,8 +54,7 @@ const POSITION: [u8; 34] =
 const REGISTER: [u8; 39] =
     *b"\0\x2C\x01\x2C70111A1\0\0\0\0\0\0\0\0\0\0\0\0\0\0\0\0\0\01234567\x02\xD4\xC1";
 
-const CIRCLE: [u8; 20] =
-    *b"\x01\x01\0\0\0\x09\0\0\x01\x31\x2D\0\x06\xBC\x3E\x40\0\0\0\x64";
+const CIRCLE: [u8; 20] = *b"\x01\x01\0\0\0\x09\0\0\x01\x31\x2D\0\x06\xBC\x3E\x40\0\0\0\x64";
 
 const RECTANGLE: [u8; 24] =
     *b"\0\x01\0\0\0\x07\0\0\x01\x31\x2D\x0A\x06\xBC\x3E\x40\x01\x31\x2D\0\x06\xBC\x3E\x4A";

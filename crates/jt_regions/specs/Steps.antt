@@ -1,5 +1,5 @@
 -- What the calls inside a table of one kind keep and do. Step definitions for the proofs; no public clause cites them.
-use Rattle.std.specs.Prelude.{◌≡◌, ℕ, ◌≤◌, List, length, Option, Some}
+use Rattle.std.specs.Prelude.{◌≡◌, ℕ, ◌≤◌, List, length, Some}
 use Rattle.jt_regions.specs.Entries.{under, after_setting, count_after}
 
 module _ {T : Type 0} (id_of : T → ℕ) where

@@ -1,4 +1,4 @@
-use Rattle.std.proofs.Common.{ℕ, ◌≡◌, ◌+◌, cond, is_some, sym, ap, ◌∙◌, arith}
+use Rattle.std.proofs.Common.{◌≡◌, cond, is_some, sym, ap, ◌∙◌, arith}
 use Rattle.jt_regions.specs.Entries.{under}
 use Rattle.jt_regions.proofs.Filling.{count_one}
 use Rattle.jt_regions.proofs.table.count_with.Goals as goal
@@ -12,6 +12,6 @@ returns-clause-count g c =
       | then-contains_key w ↦ w.more-is ∙ sym (ap (λ b. cond b 0 1) w.if-contains_key.true)
       | else-contains_key w ↦ w.more-is ∙ sym (ap (λ b. cond b 0 1) w.if-contains_key.false)
     ] in
-    let same = more ∙ ap (λ b. cond b 0 1) found in
+    let same : c.if-contains_key.more ≡ cond (is_some (under c.args.regions.now.entries (g.T.Identified.id_of c.args.region.now))) 0 1 = more ∙ ap (λ b. cond b 0 1) found in
     let len = c.len.ensures.len in
     omega arith
