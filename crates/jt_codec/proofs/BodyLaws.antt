@@ -15,12 +15,19 @@ use Rattle.jt_params.proofs.ParamLaws.{params_law, params_reply_law, query_some_
 use Rattle.jt_position.specs.declared.position.Position.{Position}
 use Rattle.jt_position.specs.declared.batch.Batch.{Batch}
 use Rattle.jt_position.proofs.ItemLaws.{position_law, batch_law}
+use Rattle.jt_regions.specs.declared.change.RegionKind.TheVariants as kind
+use Rattle.jt_regions.specs.declared.circle.Circle.{Circle}
+use Rattle.jt_regions.specs.declared.deletion.Deletion.{Deletion}
+use Rattle.jt_regions.specs.declared.polygon.Polygon.{Polygon}
+use Rattle.jt_regions.specs.declared.rectangle.Rectangle.{Rectangle}
+use Rattle.jt_regions.specs.declared.route.Route.{Route}
+use Rattle.jt_regions.proofs.RegionLaws.{circles_law, rectangles_law, polygon_law, route_law, deletion_law}
 use Rattle.jt_register.specs.declared.register.Register.{Register}
 use Rattle.jt_register.specs.declared.reply.RegisterReply.{RegisterReply}
 use Rattle.jt_register.specs.declared.auth.Auth.{Auth}
 use Rattle.jt_register.proofs.RegistrationLaws.{register_law, register_reply_law, auth_law}
 use Rattle.jt_codec.specs.Answer.{IsUnlessMemory}
-use Rattle.jt_codec.specs.Kinds.{terminal_ack_of, platform_ack_of, heartbeat_of, deregister_of, register_of, register_reply_of, auth_of, set_params_of, query_params_of, query_some_of, params_of, position_of, position_reply_of, query_position_of, track_of, batch_of, text_of, control_of, opaque_of}
+use Rattle.jt_codec.specs.Kinds.{terminal_ack_of, platform_ack_of, heartbeat_of, deregister_of, register_of, register_reply_of, auth_of, set_params_of, query_params_of, query_some_of, params_of, position_of, position_reply_of, query_position_of, track_of, batch_of, text_of, control_of, opaque_of, circles_of, rectangles_of, polygon_of, route_of, delete_circles_of, delete_rectangles_of, delete_polygons_of, delete_routes_of}
 use Rattle.jt_codec.specs.Layouts.{ack, position_reply, track, octet_and_text}
 use Rattle.jt_codec.specs.Bodies.{body, is_2013, id_of, Fits, HasBody, IsInside, body_octets, octets_under}
 use Rattle.jt_codec.specs.declared.message.Message.{Message}
@@ -106,6 +113,38 @@ text_forth _ x e = absurd cc
 control_forth : (m : Message) (x : ℕ × List ℕ) → control_of m ≡ Some x → message.Control x.0 x.1 ≡ m
 control_forth (message.Control command text) x e = ap (λ (y : ℕ × List ℕ). message.Control y.0 y.1) (some_is x (command, text) _ e refl)
 control_forth _ x e = absurd cc
+
+circles_forth : (m : Message) (x : ℕ × List Circle) → circles_of m ≡ Some x → message.Circles x.0 x.1 ≡ m
+circles_forth (message.Circles setting list) x e = ap (λ (y : ℕ × List Circle). message.Circles y.0 y.1) (some_is x (setting, list) _ e refl)
+circles_forth _ x e = absurd cc
+
+rectangles_forth : (m : Message) (x : ℕ × List Rectangle) → rectangles_of m ≡ Some x → message.Rectangles x.0 x.1 ≡ m
+rectangles_forth (message.Rectangles setting list) x e = ap (λ (y : ℕ × List Rectangle). message.Rectangles y.0 y.1) (some_is x (setting, list) _ e refl)
+rectangles_forth _ x e = absurd cc
+
+polygon_forth : (m : Message) (x : Polygon) → polygon_of m ≡ Some x → message.Polygon x ≡ m
+polygon_forth (message.Polygon polygon) x e = cc
+polygon_forth _ x e = absurd cc
+
+route_forth : (m : Message) (x : Route) → route_of m ≡ Some x → message.Route x ≡ m
+route_forth (message.Route route) x e = cc
+route_forth _ x e = absurd cc
+
+delete_circles_forth : (m : Message) (x : Deletion) → delete_circles_of m ≡ Some x → message.Delete kind.Circle x.ids ≡ m
+delete_circles_forth (message.Delete kind.Circle ids) x e = ap (λ (y : Deletion). message.Delete kind.Circle y.ids) (some_is x (record { ids = ids }) _ e refl)
+delete_circles_forth _ x e = absurd cc
+
+delete_rectangles_forth : (m : Message) (x : Deletion) → delete_rectangles_of m ≡ Some x → message.Delete kind.Rectangle x.ids ≡ m
+delete_rectangles_forth (message.Delete kind.Rectangle ids) x e = ap (λ (y : Deletion). message.Delete kind.Rectangle y.ids) (some_is x (record { ids = ids }) _ e refl)
+delete_rectangles_forth _ x e = absurd cc
+
+delete_polygons_forth : (m : Message) (x : Deletion) → delete_polygons_of m ≡ Some x → message.Delete kind.Polygon x.ids ≡ m
+delete_polygons_forth (message.Delete kind.Polygon ids) x e = ap (λ (y : Deletion). message.Delete kind.Polygon y.ids) (some_is x (record { ids = ids }) _ e refl)
+delete_polygons_forth _ x e = absurd cc
+
+delete_routes_forth : (m : Message) (x : Deletion) → delete_routes_of m ≡ Some x → message.Delete kind.Route x.ids ≡ m
+delete_routes_forth (message.Delete kind.Route ids) x e = ap (λ (y : Deletion). message.Delete kind.Route y.ids) (some_is x (record { ids = ids }) _ e refl)
+delete_routes_forth _ x e = absurd cc
 
 opaque_back : (id : ℕ) (v : List ℕ) → opaque_of id (message.Opaque id v) ≡ Some v
 opaque_back id v = rw (eq-eqb id id refl) refl
@@ -210,8 +249,16 @@ body_row edition id =
     if_row id 0x8202 _ _ _ _ track_law (λ x. refl) track_forth (λ x. refl) (
     if_row id 0x0704 _ _ _ _ batch_law (λ x. refl) batch_forth (λ x. refl) (
     if_row_2013 edition id 0x8300 _ _ _ _ octet_and_text_law (λ x. refl) text_forth (λ x. refl) (
-    if_row id 0x8105 _ _ _ _ octet_and_text_law (λ x. refl) control_forth (λ x. refl)
-    (is_row id _ _ _ rest_law (opaque_back id) (opaque_forth id) (λ x. refl)))))))))))))))))))
+    if_row id 0x8105 _ _ _ _ octet_and_text_law (λ x. refl) control_forth (λ x. refl) (
+    if_row_2013 edition id 0x8600 _ _ _ _ circles_law (λ x. refl) circles_forth (λ x. refl) (
+    if_row_2013 edition id 0x8602 _ _ _ _ rectangles_law (λ x. refl) rectangles_forth (λ x. refl) (
+    if_row_2013 edition id 0x8604 _ _ _ _ polygon_law (λ x. refl) polygon_forth (λ x. refl) (
+    if_row_2013 edition id 0x8606 _ _ _ _ route_law (λ x. refl) route_forth (λ x. refl) (
+    if_row id 0x8601 _ _ _ _ deletion_law (λ x. refl) delete_circles_forth (λ x. refl) (
+    if_row id 0x8603 _ _ _ _ deletion_law (λ x. refl) delete_rectangles_forth (λ x. refl) (
+    if_row id 0x8605 _ _ _ _ deletion_law (λ x. refl) delete_polygons_forth (λ x. refl) (
+    if_row id 0x8607 _ _ _ _ deletion_law (λ x. refl) delete_routes_forth (λ x. refl)
+    (is_row id _ _ _ rest_law (opaque_back id) (opaque_forth id) (λ x. refl)))))))))))))))))))))))))))
 
 pub body_law : (edition : Edition) (id : ℕ) → IsBody (body edition id)
 body_law edition id = (body_row edition id).law

@@ -8,8 +8,11 @@ use Rattle.jt_layout.specs.Answer.{IsPlaced}
 use Rattle.jt_layout.specs.Layout.{Body, Fills, empty, rest, if_body, body_case}
 use Rattle.jt_params.specs.Params.{params, params_reply, query_some}
 use Rattle.jt_position.specs.Positions.{position, batch}
+use Rattle.jt_regions.specs.Regions.{circles, rectangles, polygon, route, deletion}
+use Rattle.jt_regions.specs.declared.change.RegionKind.{RegionKind}
+use Rattle.jt_regions.specs.declared.change.RegionKind.TheVariants as kind
 use Rattle.jt_register.specs.Registration.{register_2013, register_reply, auth_2013}
-use Rattle.jt_codec.specs.Kinds.{terminal_ack_of, platform_ack_of, heartbeat_of, deregister_of, register_of, register_reply_of, auth_of, set_params_of, query_params_of, query_some_of, params_of, position_of, position_reply_of, query_position_of, track_of, batch_of, text_of, control_of, opaque_of}
+use Rattle.jt_codec.specs.Kinds.{terminal_ack_of, platform_ack_of, heartbeat_of, deregister_of, register_of, register_reply_of, auth_of, set_params_of, query_params_of, query_some_of, params_of, position_of, position_reply_of, query_position_of, track_of, batch_of, text_of, control_of, opaque_of, circles_of, rectangles_of, polygon_of, route_of, delete_circles_of, delete_rectangles_of, delete_polygons_of, delete_routes_of}
 use Rattle.jt_codec.specs.Layouts.{ack, position_reply, track, octet_and_text}
 use Rattle.jt_codec.specs.declared.message.Message.{Message}
 use Rattle.jt_codec.specs.declared.message.Message.TheVariants as message
@@ -39,12 +42,27 @@ body edition id =
     if_body (id == 0x8202) (body_case track (λ x. message.Track x.0 x.1) track_of) (
     if_body (id == 0x0704) (body_case batch message.Batch batch_of) (
     if_body (is_2013 edition && (id == 0x8300)) (body_case octet_and_text (λ x. message.Text x.0 None x.1) text_of) (
-    if_body (id == 0x8105) (body_case octet_and_text (λ x. message.Control x.0 x.1) control_of)
-    (body_case rest (message.Opaque id) (opaque_of id)))))))))))))))))))
+    if_body (id == 0x8105) (body_case octet_and_text (λ x. message.Control x.0 x.1) control_of) (
+    if_body (is_2013 edition && (id == 0x8600)) (body_case circles (λ x. message.Circles x.0 x.1) circles_of) (
+    if_body (is_2013 edition && (id == 0x8602)) (body_case rectangles (λ x. message.Rectangles x.0 x.1) rectangles_of) (
+    if_body (is_2013 edition && (id == 0x8604)) (body_case polygon message.Polygon polygon_of) (
+    if_body (is_2013 edition && (id == 0x8606)) (body_case route message.Route route_of) (
+    if_body (id == 0x8601) (body_case deletion (λ x. message.Delete kind.Circle x.ids) delete_circles_of) (
+    if_body (id == 0x8603) (body_case deletion (λ x. message.Delete kind.Rectangle x.ids) delete_rectangles_of) (
+    if_body (id == 0x8605) (body_case deletion (λ x. message.Delete kind.Polygon x.ids) delete_polygons_of) (
+    if_body (id == 0x8607) (body_case deletion (λ x. message.Delete kind.Route x.ids) delete_routes_of)
+    (body_case rest (message.Opaque id) (opaque_of id)))))))))))))))))))))))))))
 
 -- under this id, the octets are the message's fields in the order of the row
 abbrev pub HasBody : Edition → ℕ → Message → List ℕ → Type 0
 HasBody edition id message octets = Fills (body edition id) octets 0 message
+
+-- the id of the deletion of a kind
+abbrev pub deletion_id : RegionKind → ℕ
+deletion_id kind.Circle = 0x8601
+deletion_id kind.Rectangle = 0x8603
+deletion_id kind.Polygon = 0x8605
+deletion_id kind.Route = 0x8607
 
 -- the id that a message stands under; a part has no row, and so no id of its own
 abbrev pub id_of : Message → Option ℕ
@@ -66,6 +84,11 @@ id_of (message.Track _ _) = Some 0x8202
 id_of (message.Batch _) = Some 0x0704
 id_of (message.Text _ _ _) = Some 0x8300
 id_of (message.Control _ _) = Some 0x8105
+id_of (message.Circles _ _) = Some 0x8600
+id_of (message.Rectangles _ _) = Some 0x8602
+id_of (message.Polygon _) = Some 0x8604
+id_of (message.Route _) = Some 0x8606
+id_of (message.Delete kind _) = Some (deletion_id kind)
 id_of (message.Opaque id _) = Some id
 id_of (message.Part _) = None
 

@@ -3,6 +3,12 @@ use Rattle.std.specs.Prelude.{ℕ, ◌==◌, if◌then◌else◌, List, Option, 
 use Rattle.jt_params.specs.declared.param.Param.{Param}
 use Rattle.jt_position.specs.declared.position.Position.{Position}
 use Rattle.jt_position.specs.declared.batch.Batch.{Batch}
+use Rattle.jt_regions.specs.declared.change.RegionKind.TheVariants as kind
+use Rattle.jt_regions.specs.declared.circle.Circle.{Circle}
+use Rattle.jt_regions.specs.declared.deletion.Deletion.{Deletion}
+use Rattle.jt_regions.specs.declared.polygon.Polygon.{Polygon}
+use Rattle.jt_regions.specs.declared.rectangle.Rectangle.{Rectangle}
+use Rattle.jt_regions.specs.declared.route.Route.{Route}
 use Rattle.jt_register.specs.declared.register.Register.{Register}
 use Rattle.jt_register.specs.declared.reply.RegisterReply.{RegisterReply}
 use Rattle.jt_register.specs.declared.auth.Auth.{Auth}
@@ -81,6 +87,38 @@ text_of _ = None
 abbrev pub control_of : Message → Option (ℕ × List ℕ)
 control_of (message.Control command text) = Some (command, text)
 control_of _ = None
+
+abbrev pub circles_of : Message → Option (ℕ × List Circle)
+circles_of (message.Circles setting list) = Some (setting, list)
+circles_of _ = None
+
+abbrev pub rectangles_of : Message → Option (ℕ × List Rectangle)
+rectangles_of (message.Rectangles setting list) = Some (setting, list)
+rectangles_of _ = None
+
+abbrev pub polygon_of : Message → Option Polygon
+polygon_of (message.Polygon polygon) = Some polygon
+polygon_of _ = None
+
+abbrev pub route_of : Message → Option Route
+route_of (message.Route route) = Some route
+route_of _ = None
+
+abbrev pub delete_circles_of : Message → Option Deletion
+delete_circles_of (message.Delete kind.Circle ids) = Some (record { ids = ids })
+delete_circles_of _ = None
+
+abbrev pub delete_rectangles_of : Message → Option Deletion
+delete_rectangles_of (message.Delete kind.Rectangle ids) = Some (record { ids = ids })
+delete_rectangles_of _ = None
+
+abbrev pub delete_polygons_of : Message → Option Deletion
+delete_polygons_of (message.Delete kind.Polygon ids) = Some (record { ids = ids })
+delete_polygons_of _ = None
+
+abbrev pub delete_routes_of : Message → Option Deletion
+delete_routes_of (message.Delete kind.Route ids) = Some (record { ids = ids })
+delete_routes_of _ = None
 
 -- the octets under this id
 abbrev pub opaque_of : ℕ → Message → Option (List ℕ)

@@ -11,11 +11,13 @@ ghost use Rattle.jt_codec.specs.declared.message.Message.{Message};
 
 use crate::ack::{read_ack, write_ack};
 use crate::message::{
-    AUTH, BATCH, CONTROL, DEREGISTER, HEARTBEAT, Message, PARAMS, PLATFORM_ACK, POSITION,
-    POSITION_REPLY, QUERY_PARAMS, QUERY_POSITION, QUERY_SOME, REGISTER, REGISTER_REPLY, SET_PARAMS,
-    TERMINAL_ACK, TEXT, TRACK,
+    AUTH, BATCH, CIRCLES, CONTROL, DELETE_CIRCLES, DELETE_POLYGONS, DELETE_RECTANGLES,
+    DELETE_ROUTES, DEREGISTER, HEARTBEAT, Message, PARAMS, PLATFORM_ACK, POLYGON, POSITION,
+    POSITION_REPLY, QUERY_PARAMS, QUERY_POSITION, QUERY_SOME, RECTANGLES, REGISTER, REGISTER_REPLY,
+    ROUTE, SET_PARAMS, TERMINAL_ACK, TEXT, TRACK,
 };
 use crate::position_reply::{read_position_reply, write_position_reply};
+use crate::regions::write_region_ids;
 use crate::text::{read_octet_and_text, write_octet_and_text};
 use crate::track::{read_track, write_track};
 use jt_layout::Reader;
@@ -24,6 +26,10 @@ use jt_params::{
     write_query_some,
 };
 use jt_position::{read_batch, read_position, write_batch, write_position};
+use jt_regions::{
+    Deletion, RegionKind, read_circles, read_deletion, read_polygon, read_rectangles, read_route,
+    write_circles, write_polygon, write_rectangles, write_route,
+};
 use jt_register::{
     read_auth, read_register, read_register_reply, write_auth, write_register, write_register_reply,
 };
@@ -105,6 +111,36 @@ fn read_row(alloc: Global, edition: Edition, id: u16, octets: &[u8]) -> Result<M
             let (command, text) = read_octet_and_text(alloc, octets)?;
             Ok(Message::Control { command, text })
         }
+        (Edition::E2013, CIRCLES) => {
+            let (setting, list) = read_circles(alloc, octets)?;
+            Ok(Message::Circles { setting, list })
+        }
+        (Edition::E2013, RECTANGLES) => {
+            let (setting, list) = read_rectangles(alloc, octets)?;
+            Ok(Message::Rectangles { setting, list })
+        }
+        (Edition::E2013, POLYGON) => Ok(Message::Polygon(read_polygon(alloc, octets)?)),
+        (Edition::E2013, ROUTE) => Ok(Message::Route(read_route(alloc, octets)?)),
+        (_, DELETE_CIRCLES) => {
+            let Deletion { ids } = read_deletion(alloc, octets)?;
+            let kind = RegionKind::Circle;
+            Ok(Message::Delete { kind, ids })
+        }
+        (_, DELETE_RECTANGLES) => {
+            let Deletion { ids } = read_deletion(alloc, octets)?;
+            let kind = RegionKind::Rectangle;
+            Ok(Message::Delete { kind, ids })
+        }
+        (_, DELETE_POLYGONS) => {
+            let Deletion { ids } = read_deletion(alloc, octets)?;
+            let kind = RegionKind::Polygon;
+            Ok(Message::Delete { kind, ids })
+        }
+        (_, DELETE_ROUTES) => {
+            let Deletion { ids } = read_deletion(alloc, octets)?;
+            let kind = RegionKind::Route;
+            Ok(Message::Delete { kind, ids })
+        }
         _ => Ok(Message::Opaque {
             id,
             body: Octets::from_vec(Vec::from_slice(alloc, octets)?),
@@ -161,6 +197,11 @@ fn write_row(alloc: Global, edition: Edition, message: &Message) -> Result<Octet
         Message::Batch(batch) => write_batch(alloc, batch),
         Message::Text { flag, text, .. } => write_octet_and_text(alloc, *flag, text),
         Message::Control { command, text } => write_octet_and_text(alloc, *command, text),
+        Message::Circles { setting, list } => write_circles(alloc, *setting, list),
+        Message::Rectangles { setting, list } => write_rectangles(alloc, *setting, list),
+        Message::Polygon(polygon) => write_polygon(alloc, polygon),
+        Message::Route(route) => write_route(alloc, route),
+        Message::Delete { kind, ids } => write_region_ids(alloc, edition, *kind, ids),
         Message::Opaque { body, .. } | Message::Part(body) => body.copy(alloc),
     }
 }

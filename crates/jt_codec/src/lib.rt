@@ -7,6 +7,7 @@ mod frame;
 mod laws;
 mod message;
 mod position_reply;
+mod regions;
 mod text;
 mod track;
 

@@ -5,9 +5,13 @@ ghost use Rattle.jt_codec.specs.Bodies.{Fits, body, id_of};
 ghost use Rattle.jt_codec.specs.Layouts.{octet_and_text, track};
 ghost use Rattle.jt_codec.specs.declared.message.Message.TheVariants as message;
 
+use crate::regions::{
+    circles_fit, deletion_fits, deletion_id, polygon_fits, rectangles_fit, route_fits,
+};
 use jt_layout::octets_fit;
 use jt_params::{Param, params_fit, params_reply_fits, query_some_fits};
 use jt_position::{Batch, Position};
+use jt_regions::{Circle, Polygon, Rectangle, RegionKind, Route};
 use jt_register::{Auth, Register, RegisterReply};
 use jt_value::{Edition, Octets, Seq};
 
@@ -47,6 +51,22 @@ pub(crate) const BATCH: u16 = 0x0704;
 pub(crate) const TEXT: u16 = 0x8300;
 
 pub(crate) const CONTROL: u16 = 0x8105;
+
+pub(crate) const CIRCLES: u16 = 0x8600;
+
+pub(crate) const RECTANGLES: u16 = 0x8602;
+
+pub(crate) const POLYGON: u16 = 0x8604;
+
+pub(crate) const ROUTE: u16 = 0x8606;
+
+pub(crate) const DELETE_CIRCLES: u16 = 0x8601;
+
+pub(crate) const DELETE_RECTANGLES: u16 = 0x8603;
+
+pub(crate) const DELETE_POLYGONS: u16 = 0x8605;
+
+pub(crate) const DELETE_ROUTES: u16 = 0x8607;
 
 /// What the body of a frame is (the standard's message bodies).
 #[derive(Drop)]
@@ -114,6 +134,26 @@ pub enum Message {
         command: u8,
         text: Octets,
     },
+    /// The platform sets circles: with setting 0 they are the circles, with 1 they are added, with 2 they replace those of
+    /// their ids. 2013 alone.
+    Circles {
+        setting: u8,
+        list: Seq<Circle>,
+    },
+    /// The same for rectangles. 2013 alone.
+    Rectangles {
+        setting: u8,
+        list: Seq<Rectangle>,
+    },
+    /// The platform sets a polygon. 2013 alone.
+    Polygon(Polygon),
+    /// The platform sets a route. 2013 alone.
+    Route(Route),
+    /// The platform deletes the regions of these ids, and all of the kind where there are none.
+    Delete {
+        kind: RegionKind,
+        ids: Seq<u32>,
+    },
     /// The octets under an id that has no row in the table of the edition.
     Opaque {
         id: u16,
@@ -147,6 +187,11 @@ impl Message {
             Message::Batch(_) => Some(BATCH),
             Message::Text { .. } => Some(TEXT),
             Message::Control { .. } => Some(CONTROL),
+            Message::Circles { .. } => Some(CIRCLES),
+            Message::Rectangles { .. } => Some(RECTANGLES),
+            Message::Polygon(_) => Some(POLYGON),
+            Message::Route(_) => Some(ROUTE),
+            Message::Delete { kind, .. } => Some(deletion_id(*kind)),
             Message::Opaque { id, .. } => Some(*id),
             Message::Part(_) => None,
         }
@@ -184,6 +229,11 @@ impl Message {
             Message::Batch(batch) => batch.fits(),
             Message::Text { flag, kind, text } => text_fits(edition, *flag, *kind, text),
             Message::Control { command, text } => control_fits(*command, text),
+            Message::Circles { setting, list } => circles_fit(edition, *setting, list),
+            Message::Rectangles { setting, list } => rectangles_fit(edition, *setting, list),
+            Message::Polygon(polygon) => polygon_fits(edition, polygon),
+            Message::Route(route) => route_fits(edition, route),
+            Message::Delete { kind, ids } => deletion_fits(edition, *kind, ids),
             Message::Opaque { id, body } => is_opaque(edition, *id, body.as_slice()),
             Message::Part(_) => false,
         }
@@ -249,6 +299,8 @@ fn is_opaque(edition: Edition, id: u16, octets: &[u8]) -> bool
         (_, SET_PARAMS | QUERY_PARAMS | QUERY_SOME | PARAMS | TRACK | CONTROL) => false,
         (_, POSITION | POSITION_REPLY | QUERY_POSITION | BATCH) => false,
         (Edition::E2013, REGISTER | AUTH | TEXT) => false,
+        (_, DELETE_CIRCLES | DELETE_RECTANGLES | DELETE_POLYGONS | DELETE_ROUTES) => false,
+        (Edition::E2013, CIRCLES | RECTANGLES | POLYGON | ROUTE) => false,
         _ => true,
     }
 }

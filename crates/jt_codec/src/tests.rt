@@ -30,7 +30,9 @@ fn empty_bodies(rt: HostRuntime) -> Result<(), Fail> {
 
 #[test]
 fn opaque_bodies(rt: HostRuntime) -> Result<(), Fail> {
-    for id in [0x0000, 0x0100, 0x0102, 0x0FFF, 0x8003, 0x8300, 0xFFFF] {
+    for id in [
+        0x0000, 0x0100, 0x0102, 0x0FFF, 0x8003, 0x8300, 0x8600, 0x8606, 0xFFFF,
+    ] {
         let message = read_body(rt.alloc(), Edition::E2019, id, &[7, 9]).expect(&rt, "a body");
         assert_eq!(rt; message.id(), Some(id));
         assert!(rt; message.fits(Edition::E2019));
@@ -52,9 +54,21 @@ const POSITION: [u8; 34] =
 const REGISTER: [u8; 39] =
     *b"\0\x2C\x01\x2C70111A1\0\0\0\0\0\0\0\0\0\0\0\0\0\0\0\0\0\01234567\x02\xD4\xC1";
 
+const CIRCLE: [u8; 20] = *b"\x01\x01\0\0\0\x09\0\0\x01\x31\x2D\0\x06\xBC\x3E\x40\0\0\0\x64";
+
+const RECTANGLE: [u8; 24] =
+    *b"\0\x01\0\0\0\x07\0\0\x01\x31\x2D\x0A\x06\xBC\x3E\x40\x01\x31\x2D\0\x06\xBC\x3E\x4A";
+
+const POLYGON: [u8; 32] =
+    *b"\0\0\0\x09\0\0\0\x03\0\0\0\0\x06\xBC\x3E\x36\0\0\0\x0A\x06\xBC\x3E\x4A\0\0\0\0\x06\xBC\x3E\x4A";
+
+// A route with times and one point, which has thresholds and a limit.
+const ROUTE: [u8; 45] =
+    *b"\0\0\0\x05\0\x01\x24\x01\x01\0\0\0\x24\x01\x02\0\0\0\0\x01\0\0\0\x06\0\0\0\x07\x01\x31\x2D\0\x06\xBC\x3E\x40\x0A\x03\0\x3C\0\x1E\0\x50\x05";
+
 #[test]
 fn bodies_with_rows(rt: HostRuntime) -> Result<(), Fail> {
-    let rows: [(u16, &[u8]); 20] = [
+    let rows: [(u16, &[u8]); 28] = [
         (0x0001, b"\0\x07\x81\x03\x02"),
         (0x8001, b"\xFF\xFF\0\x02\xFF"),
         (0x0100, &REGISTER),
@@ -84,6 +98,14 @@ fn bodies_with_rows(rt: HostRuntime) -> Result<(), Fail> {
             0x0704,
             b"\0\x01\0\0\x1C\0\0\0\0\0\0\0\0\0\0\0\0\0\0\0\0\0\0\0\0\0\0\0\0\0\0\0\0",
         ),
+        (0x8600, &CIRCLE),
+        (0x8602, &RECTANGLE),
+        (0x8604, &POLYGON),
+        (0x8606, &ROUTE),
+        (0x8601, b"\0"),
+        (0x8603, b"\0"),
+        (0x8605, b"\x01\0\0\0\x07"),
+        (0x8607, b"\x02\0\0\0\x07\0\0\x01\0"),
     ];
     for (id, body) in rows {
         let message = read_body(rt.alloc(), Edition::E2013, id, body).expect(&rt, "a body");

@@ -1,0 +1,4 @@
+pub mod Regions
+pub mod Entries
+pub mod Steps
+pub mod Tables

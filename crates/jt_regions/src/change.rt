@@ -1,0 +1,31 @@
+//! Changes of a terminal's regions.
+
+use crate::circle::Circle;
+use crate::polygon::Polygon;
+use crate::rectangle::Rectangle;
+use crate::route::Route;
+use jt_value::Seq;
+
+/// The kinds of regions.
+#[derive(Clone, Copy, Debug, PartialEq, Eq)]
+pub enum RegionKind {
+    Circle,
+    Rectangle,
+    Polygon,
+    Route,
+}
+
+/// What a platform asks of a terminal's regions.
+#[derive(Drop)]
+pub enum RegionChange {
+    /// Setting 0 makes the list the circles, 1 adds each circle or replaces the one of its id, 2 replaces it.
+    Circles { setting: u8, list: Seq<Circle> },
+    /// The same for rectangles.
+    Rectangles { setting: u8, list: Seq<Rectangle> },
+    /// The polygon is added or replaces the one of its id.
+    Polygon(Polygon),
+    /// The route is added or replaces the one of its id.
+    Route(Route),
+    /// The regions of these ids go, and all of the kind where there are no ids.
+    Delete { kind: RegionKind, ids: Seq<u32> },
+}
