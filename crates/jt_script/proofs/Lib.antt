@@ -3,3 +3,4 @@ pub mod Lines
 pub mod Cutting
 pub mod Numbers
 pub mod Events
+pub mod Saying

@@ -76,7 +76,8 @@ reads_number octets text most number read m same h is_read within plain = record
       let e : number ≡ n = cc in ap (λ (x : ℕ). Some x) e;
 }
 
-not_all : (n : ℕ) → n ≤ 1000000000 → codes "all" ≡ decimal n → ⊥
+-- a decimal is not the word for all
+pub not_all : (n : ℕ) → n ≤ 1000000000 → codes "all" ≡ decimal n → ⊥
 not_all n h is =
     let digits = (decimal_is_IsNumeral n (omega arith)).0.1 in
     let first : digit_value 97 < 10 = (subst (AllDigits 10) (sym is) digits).0 in omega arith

@@ -1,4 +1,4 @@
--- How the lines of a script are written: this project's own forms. To be believed, but for the function that reads a line.
+-- How the lines of a script are written: this project's own forms. To be believed.
 use Rattle.std.specs.Prelude.{◌≡◌, ℕ, ◌<◌, ◌≤◌, ◌^◌, List, [], ◌∷◌, ◌++◌, codes, Option, Some, None, IfSome}
 use Rattle.std.specs.Fmt.{decimal}
 use Rattle.jt_script.specs.declared.event.WorldEvent.{WorldEvent}

@@ -3,6 +3,7 @@
 ghost use Rattle.std.specs.Prelude.{◌≡◌, ◌≢◌, ◌↔◌, ◌≤◌, ◌<◌, ◌^◌, ◌++◌, ℕ, Option, IsTrue, codes, length, slice_index, ◌==◌, position};
 ghost use Rattle.std.specs.Fmt.{decimal};
 ghost use Rattle.jt_script.specs.ScriptLine.{amount, line_and_amount, line_of, IsAmount, IsInRange, IsPassed, Reads};
+ghost use Rattle.jt_script.specs.Said.{said};
 ghost use Rattle.jt_script.specs.declared.event.WorldEvent.{WorldEvent};
 
 use crate::event::WorldEvent;
@@ -119,10 +120,9 @@ fn event(line: &[u8]) -> Option<WorldEvent>
     None
 }
 
-/// Reads a line of a script.
-pub fn script_line(line: &[u8]) -> ScriptLine
+// What a line says, by the forms of lines.
+fn read(line: &[u8]) -> ScriptLine
     ensures passed { (result ≡ ScriptLine.Passed) ↔ IsPassed line.now }
-    // An event exactly where the line is written as that event is, and its numbers are in range.
     ensures event { (event : WorldEvent) → result ≡ ScriptLine.Event event → (line.now ≡ line_of event) × IsInRange event }
     ensures each_event { (event : WorldEvent) → IsInRange event → line.now ≡ line_of event → result ≡ ScriptLine.Event event }
 {
@@ -133,4 +133,16 @@ pub fn script_line(line: &[u8]) -> ScriptLine
             None => ScriptLine::Bad,
         },
     }
+}
+
+/// Reads a line of a script, without its line feed.
+pub fn script_line(line: &[u8]) -> ScriptLine
+    ensures passed { (result ≡ ScriptLine.Passed) ↔ IsPassed line.now }
+    // An event exactly where the line is written as that event is, and its numbers are in range.
+    ensures event { (event : WorldEvent) → result ≡ ScriptLine.Event event → (line.now ≡ line_of event) × IsInRange event }
+    ensures each_event { (event : WorldEvent) → IsInRange event → line.now ≡ line_of event → result ≡ ScriptLine.Event event }
+    // As a function of the line:
+    ensures said { result ≡ said line.now }
+{
+    read(line)
 }
