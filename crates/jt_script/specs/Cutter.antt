@@ -1,5 +1,5 @@
 -- What a cutter of lines holds, and what its calls tell. To be believed.
-use Rattle.std.specs.Prelude.{◌≡◌, ℕ, ◌+◌, Bool, true, false, List, [], ◌∷◌, ◌++◌, length}
+use Rattle.std.specs.Prelude.{◌≡◌, ℕ, ◌+◌, ◌-◌, ◌*◌, Bool, true, false, List, [], ◌∷◌, ◌++◌, length}
 use Rattle.jt_script.specs.Text.{Cuts, lines_of, is_within}
 use Rattle.jt_script.specs.declared.line_cutter.Cut.{Cut}
 use Rattle.jt_script.specs.declared.line_cutter.Cut.TheVariants as cut
@@ -37,3 +37,7 @@ abbrev pub IsBeyond : Held → List ℕ → Type 0
 IsBeyond held octets = (text rest : List ℕ) (lines : List (List ℕ)) → Cuts text lines (begun_of held)
     → (line : List ℕ) × (more : List (List ℕ))
     × (lines_of ((text ++ octets) ++ rest) ≡ lines ++ line ∷ more) × (is_within (held.number + 1) line ≡ false)
+
+-- at most so many octets may come before a line is beyond the limits
+abbrev pub room_of : Held → ℕ
+room_of held = (10000000 - held.number) * 4097 + (4096 - length (begun_of held))

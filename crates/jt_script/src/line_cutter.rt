@@ -2,7 +2,7 @@
 
 ghost use Rattle.std.specs.Prelude.{◌≡◌, ◌≤◌, ◌<◌, ◌+◌, ◌++◌, [], ◌∷◌, List, ℕ, length, take, true, false, IsTrue, IfSome, ◌==◌, position, option_to_list, option_copied};
 ghost use Rattle.jt_script.specs.Text.{Cuts, lines_of, is_within};
-ghost use Rattle.jt_script.specs.Cutter.{Takes, IsBeyond, begun_of, told};
+ghost use Rattle.jt_script.specs.Cutter.{Takes, IsBeyond, begun_of, room_of, told};
 
 use arrayvec::ArrayVec;
 use std::marker::Model;
@@ -99,6 +99,7 @@ impl LineCutter {
         ensures taken { result.0 ≤ length piece.now }
         ensures takes { Takes self.old self.new (take result.0 piece.now) (told result.1 self.new) }
         ensures more { result.1 ≡ Cut.More → result.0 ≡ length piece.now }
+        ensures room { room_of self.new + result.0 ≤ room_of self.old }
         ensures line { result.1 ≡ Cut.Line → (0 < result.0) × IsTrue (is_within self.new.number self.new.line) }
         ensures bad { result.1 ≡ Cut.Bad → (result.0 ≡ 0) × IsBeyond self.old piece.now }
     {
