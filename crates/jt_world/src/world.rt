@@ -1,0 +1,240 @@
+//! The world of a rehearsal.
+
+ghost use Rattle.std.specs.Prelude.{◌≡◌, ◌↔◌, length, take, IsTrue, OnOk, OnErr, IfOk, IfErr};
+ghost use Rattle.jt_world.specs.Claim.{Kept};
+ghost use Rattle.jt_world.specs.Reaching.{Leads, Reached};
+ghost use Rattle.jt_world.specs.Script.{IsAllowed, entries_between, fix_limit, world_after};
+ghost use Rattle.jt_world.specs.World.{empty, fixes_in};
+
+use crate::platform::Platform;
+use crate::terminal::Terminal;
+use crate::wire::Wire;
+use jt_position::Fix;
+use jt_script::WorldEvent;
+use jt_value::{Memory, Seq};
+use std::alloc::{AllocError, AllocFailed, Global};
+use std::marker::Model;
+
+/// The most fixes that are recorded.
+const FIX_LIMIT: usize = 32_766;
+
+/// A unit that was stored (this project's own).
+#[derive(Clone, Copy, Debug, PartialEq, Eq)]
+pub struct SmallEntry {
+    /// The serial of its message.
+    pub serial: u16,
+    /// The number of its row.
+    pub number: u64,
+}
+
+/// Why a step was not done.
+#[derive(Clone, Copy, Debug, PartialEq, Eq)]
+pub enum WorldError {
+    /// This line was not opened.
+    NoLine(u32),
+    /// So many fixes are not accepted, the limit.
+    Full(u64),
+    /// Memory was wanted and refused.
+    Memory,
+}
+
+/// How far a world came.
+#[derive(Clone, Copy, Debug, PartialEq, Eq)]
+pub struct Counts {
+    /// The fixes recorded.
+    pub recorded: u64,
+    /// The fixes in accepted units.
+    pub accepted: u64,
+    /// The rows of the platform.
+    pub rows: u64,
+    /// The fixes in these rows.
+    pub stored: u64,
+}
+
+/// One terminal and one platform over one line, number 1, which is open at both ends. What each end reads is what the other
+/// wrote, octet by octet.
+#[derive(Drop)]
+pub struct World {
+    terminal: Terminal,
+    platform: Platform,
+    up: Wire,
+    down: Wire,
+}
+
+impl Model for World {
+    ghost use Rattle.std.specs.Prelude.{◌≡◌, ◌≤◌, length, take, map};
+    ghost use Rattle.std.specs.List.{range_with_len};
+    ghost use Rattle.jt_world.specs.Holding.{AllPositions, units_from};
+    ghost use Rattle.jt_world.specs.World as defined;
+    ghost use Rattle.jt_world.specs.World.{fixes_in};
+
+    ghost Value = { defined.World };
+
+    ghost view = { λ world. record {
+      recorded = world.terminal.recorded.items;
+      units = units_from 0 (take world.terminal.formed world.terminal.recorded.items);
+      accepted = world.terminal.accepted;
+      line = record {
+        up = world.up.wire;
+        down = world.down.wire;
+        sent = range_with_len 0 world.terminal.formed;
+        serial = world.platform.serial;
+      };
+      rows = world.platform.rows.items;
+      told = world.terminal.told.items;
+      just = world.terminal.just;
+    } };
+
+    ghost invariant = { λ world.
+        (world.terminal.accepted ≤ world.terminal.formed)
+        × (world.terminal.formed ≤ length world.terminal.recorded.items)
+        × (length world.terminal.recorded.items ≤ 32766)
+        × AllPositions world.terminal.recorded.items
+        × (length (fixes_in world.platform.rows.items) ≡ length world.platform.rows.items) };
+}
+
+impl World {
+    /// The world in which nothing has happened.
+    pub fn new(alloc: Global) -> Result<World, Memory>
+        ensures { IfOk result (λ world. world ≡ empty) }
+    {
+        Ok(World {
+            terminal: Terminal::new(alloc),
+            platform: Platform::new(alloc),
+            up: Wire::new(alloc),
+            down: Wire::new(alloc),
+        })
+    }
+
+    /// Whether an event may come: line 1 in an Up, 0 in a Tick, and for a Fix fewer than 32,766 fixes recorded.
+    pub fn accepts(&self, event: WorldEvent) -> bool
+        ensures { IsTrue result ↔ IsAllowed self.now event }
+    {
+        match event {
+            WorldEvent::Fix(_lat) => self.terminal.recorded.len() < FIX_LIMIT,
+            WorldEvent::Up { line, .. } => line == 1,
+            WorldEvent::Down(_count) => true,
+            WorldEvent::Tick(milliseconds) => milliseconds == 0,
+        }
+    }
+
+    /// How far the world came.
+    pub fn counts(&self) -> Counts
+        ensures recorded { result.recorded ≡ length self.now.recorded }
+        ensures accepted { result.accepted ≡ length (fixes_in (take self.now.accepted self.now.units)) }
+        ensures rows { result.rows ≡ length self.now.rows }
+        ensures stored { result.stored ≡ length (fixes_in self.now.rows) }
+    {
+        Counts {
+            recorded: self.terminal.recorded.len() as u64,
+            accepted: self.terminal.accepted as u64,
+            rows: self.platform.rows.len() as u64,
+            stored: self.platform.rows.len() as u64,
+        }
+    }
+
+    fn record(&mut self, alloc: Global, lat: u32) -> Result<(), Memory> {
+        let fix = Fix::at(alloc, lat)?;
+        self.terminal.record(fix)
+    }
+
+    // The platform takes one more octet.
+    fn take_up(&mut self, alloc: Global) -> Result<(), Memory> {
+        self.up.look();
+        self.platform.see(alloc, self.up.message(), &mut self.down)?;
+        self.up.pass();
+        self.terminal.just = None;
+        Ok(())
+    }
+
+    // The terminal takes one more octet, and an acceptance if it comes.
+    fn take_down(&mut self) -> Result<(), Memory> {
+        self.down.look();
+        self.terminal.hear(self.down.message())?;
+        self.down.pass();
+        self.terminal.accept();
+        Ok(())
+    }
+
+    fn take_all_up(&mut self, alloc: Global, count: usize) -> Result<(), Memory> {
+        for _ in 0..count {
+            self.take_up(alloc)?;
+        }
+        Ok(())
+    }
+
+    fn take_all_down(&mut self, count: usize) -> Result<(), Memory> {
+        for _ in 0..count {
+            self.take_down()?;
+        }
+        Ok(())
+    }
+
+    fn report_all(&mut self) -> Result<(), Memory> {
+        for _ in self.terminal.formed..self.terminal.recorded.len() {
+            self.terminal.report(&mut self.up)?;
+        }
+        Ok(())
+    }
+
+    // The rows from this place on, as they are told.
+    fn entries_from(&self, alloc: Global, place: usize) -> Result<Seq<SmallEntry>, Memory> {
+        let mut entries = Seq::new(alloc);
+        for row in &self.platform.rows.as_slice()[place..] {
+            entries.push(SmallEntry {
+                serial: row.number as u16,
+                number: row.number,
+            })?;
+        }
+        Ok(entries)
+    }
+
+    fn step_on(&mut self, alloc: Global, event: WorldEvent) -> Result<(), Memory> {
+        match event {
+            WorldEvent::Fix(lat) => self.record(alloc, lat),
+            WorldEvent::Up { count, .. } => {
+                let count = moving(count, self.up.left());
+                self.take_all_up(alloc, count)
+            }
+            WorldEvent::Down(count) => {
+                let count = moving(count, self.down.left());
+                self.take_all_down(count)
+            }
+            WorldEvent::Tick(_milliseconds) => self.report_all(),
+        }
+    }
+
+    /// The world after an event, which `accepts` tells to be one that may come. Answers what it stored. After Memory the
+    /// event was done in part, or not at all.
+    pub fn step(&mut self, alloc: Global, event: WorldEvent) -> Result<Seq<SmallEntry>, WorldError>
+        requires { IsAllowed self.old event }
+        ensures after { OnOk result (self.new ≡ world_after self.old event) }
+        ensures entries { IfOk result (λ entries. entries ≡ entries_between self.old self.new) }
+        // Whatever is answered, steps lead to the new world from the old one, so that it is reached if that was.
+        ensures leads { Leads self.old self.new }
+        ensures reached { Reached self.old → Reached self.new }
+        ensures memory { IfErr result (λ error. error ≡ WorldError.Memory) }
+    {
+        let stored = self.platform.rows.len();
+        self.step_on(alloc, event)?;
+        Ok(self.entries_from(alloc, stored)?)
+    }
+}
+
+// How many of the octets left move.
+fn moving(count: Option<u32>, left: usize) -> usize {
+    match count {
+        None => left,
+        Some(count) => left.min(count as usize),
+    }
+}
+
+impl From<Memory> for WorldError {
+    ghost use Rattle.jt_world.specs.declared.world.WorldError.TheVariants as errors;
+
+    ghost from_gives = { λ _ error. error ≡ errors.Memory };
+
+    fn from(_memory: Memory) -> WorldError {
+        WorldError::Memory
+    }
+}
