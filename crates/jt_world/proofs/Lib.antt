@@ -1,1 +1,5 @@
 mod View
+mod Lists
+mod Meaning
+mod Invariant
+mod Keeping

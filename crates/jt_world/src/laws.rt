@@ -7,6 +7,7 @@ ghost use Rattle.jt_world.specs.Claim.{EachReachedIsKept};
 pub fn law_world()
     ensures { EachReachedIsKept }
 {
+    jt_header::law_of_contents();
     jt_stream::law_front();
     jt_stream::law_one_octet();
     jt_stream::law_frames();
