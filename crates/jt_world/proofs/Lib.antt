@@ -3,3 +3,4 @@ mod Lists
 mod Meaning
 mod Invariant
 mod Keeping
+mod Looking

@@ -11,6 +11,14 @@ some_is x y e = cc
 pub none_some : {A B : Type 0} (x : A) → ◌≡◌ {A = Option A} None (Some x) → B
 none_some x e = absurd cc
 
+pub at_length : {A : Type 0} (xs : List A) → slice_get xs (length xs) ≡ None
+at_length [] = refl
+at_length (x ∷ xs) = at_length xs
+
+pub at_push : {A : Type 0} (xs : List A) (y : A) → slice_get (xs ++ y ∷ []) (length xs) ≡ Some y
+at_push [] y = refl
+at_push (x ∷ xs) y = at_push xs y
+
 pub get_left : {A : Type 0} (xs ys : List A) (i : ℕ) (x : A) → slice_get xs i ≡ Some x → slice_get (xs ++ ys) i ≡ Some x
 get_left [] ys i x e = none_some x e
 get_left (z ∷ xs) ys zero x e = e

@@ -9,6 +9,7 @@ use Rattle.jt_escape.specs.Span.{IsContent}
 use Rattle.jt_header.specs.Content.{Content}
 use Rattle.jt_header.specs.declared.header.Header.{Header}
 use Rattle.jt_stream.specs.Unplaced.{Unplaced, Message, items, of_content}
+use Rattle.jt_world.proofs.Lists.{at_length, at_push}
 use Rattle.jt_world.specs.World.{Wire, written, moved, completed, silent}
 
 -- what streams promise of their items
@@ -40,14 +41,6 @@ view_written wire waiting content v is =
       within = omega (arith, v.within, length-append wire.octets (framed content));
       read = ap items (take-append-le wire.taken wire.octets (framed content) v.within) ∙ v.read;
     }
-
-at_length : {A : Type 0} (xs : List A) → slice_get xs (length xs) ≡ None
-at_length [] = refl
-at_length (x ∷ xs) = at_length xs
-
-at_push : {A : Type 0} (xs : List A) (y : A) → slice_get (xs ++ y ∷ []) (length xs) ≡ Some y
-at_push [] y = refl
-at_push (x ∷ xs) y = at_push xs y
 
 -- what one more octet brings
 abbrev pub Comes : Wire → List (List ℕ) → Type 0

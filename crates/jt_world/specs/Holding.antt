@@ -1,12 +1,14 @@
 -- What the running world keeps for the defined one. For the proofs.
-use Rattle.std.specs.Prelude.{◌≡◌, ℕ, ◌+◌, Bool, true, false, List, [], ◌∷◌, length, Option, Some, None, IsTrue, All}
+use Rattle.std.specs.Prelude.{◌≡◌, ℕ, ◌+◌, ◌^◌, ◌<◌, ◌≤◌, Bool, true, false, List, [], ◌∷◌, length, take, Option, Some, None, IsTrue, All}
+use Rattle.jt_value.specs.Octets.{AreOctets}
+use Rattle.jt_escape.specs.Splitter.{StandsFor}
 use Rattle.jt_header.specs.declared.header.Header.{Header}
 use Rattle.jt_header.specs.Fields.{header_at, body_at}
 use Rattle.jt_position.specs.Views.{is_position}
 use Rattle.jt_stream.specs.Stream.{Held}
 use Rattle.jt_stream.specs.Unplaced.{Unplaced, Message, Fault}
 use Rattle.jt_world.specs.declared.row.Row.{Row}
-use Rattle.jt_world.specs.World.{Wire}
+use Rattle.jt_world.specs.World.{Wire, completed}
 
 -- a wire, and whether the reader has already seen its next octet
 pub record Looked : Type 0 where
@@ -30,6 +32,15 @@ IsNoMessage (Some (Message header body)) = ⊥
 abbrev pub seen_by : Bool → ℕ → ℕ
 seen_by false taken = taken
 seen_by true taken = taken + 1
+
+-- The reader has seen the octets that were taken, and the next one where it is ahead.
+pub record IsRead (octets : List ℕ) (taken : ℕ) (ahead : Bool) (held : Held) : Type 0 where
+  pub are : AreOctets octets
+  pub short : length octets < 2 ^ 63
+  pub within : seen_by ahead taken ≤ length octets
+  pub place : held.splitter.place ≡ seen_by ahead taken
+  pub stands : StandsFor held.splitter (take (seen_by ahead taken) octets)
+  pub tells : ahead ≡ true → Tells held (completed (record { octets = octets; taken = taken }))
 
 -- units of one fix each, numbered from here on
 abbrev pub units_from : ℕ → List (List ℕ) → List Row

@@ -7,7 +7,7 @@ ghost use Rattle.jt_world.specs.Holding.{IsNoMessage};
 ghost use Rattle.jt_world.specs.World.{completed, moved, silent, written};
 
 use jt_header::Header;
-use jt_stream::Stream;
+use jt_stream::{Stream, law_items, law_one_list};
 use jt_value::Memory;
 use std::alloc::Global;
 use std::marker::Model;
@@ -27,21 +27,13 @@ pub(crate) struct Wire {
 }
 
 impl Model for Wire {
-    ghost use Rattle.std.specs.Prelude.{◌≡◌, ◌≤◌, ◌<◌, ◌^◌, true, take, length};
-    ghost use Rattle.jt_escape.specs.Splitter.{StandsFor};
-    ghost use Rattle.jt_world.specs.Holding.{Looked, Tells, seen_by};
-    ghost use Rattle.jt_world.specs.World.{completed};
+    ghost use Rattle.jt_world.specs.Holding.{IsRead, Looked};
 
     ghost Value = { Looked };
 
     ghost view = { λ wire. record { wire = record { octets = wire.octets.items; taken = wire.taken }; ahead = wire.ahead } };
 
-    ghost invariant = { λ wire.
-        (length wire.octets.items < 2 ^ 63)
-        × (seen_by wire.ahead wire.taken ≤ length wire.octets.items)
-        × (wire.stream.splitter.place ≡ seen_by wire.ahead wire.taken)
-        × StandsFor wire.stream.splitter (take (seen_by wire.ahead wire.taken) wire.octets.items)
-        × (wire.ahead ≡ true → Tells wire.stream (completed (record { octets = wire.octets.items; taken = wire.taken }))) };
+    ghost invariant = { λ wire. IsRead wire.octets.items wire.taken wire.ahead wire.stream };
 }
 
 impl Wire {
@@ -86,8 +78,10 @@ impl Wire {
         if self.ahead {
             return;
         }
-        let octet = &self.octets[self.taken..self.taken + 1];
-        self.stream.take(octet);
+        law_one_list();
+        law_items();
+        let octet = self.octets[self.taken];
+        self.stream.take(&[octet]);
         self.ahead = true;
     }
 
