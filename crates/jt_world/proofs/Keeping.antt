@@ -68,7 +68,7 @@ fixes_push : FixesAre → (units : List Row) (unit : Row) → IsGood unit → fi
 fixes_push are units unit good =
     ap fixes (map-append carried units (unit ∷ []))
     ∙ (flat_map-append fixes_of (map carried units) (carried unit ∷ [])
-      ∙ ap (λ (more : List (List ℕ)). fixes_in units ++ more) one)
+    ∙ ap (λ (more : List (List ℕ)). fixes_in units ++ more) one)
   where
     one : fixes (carried unit ∷ []) ≡ unit.body ∷ []
     one = append-nil (fixes_of (carried unit)) ∙ (ap (λ (id : ℕ). fixes_of (id, unit.body)) good.position ∙ fix_one are unit.body good.fix)
@@ -178,7 +178,7 @@ send_kept below w place v may = go (get_has w.units place may.formed)
       queue = v.queue ++ this ∷ [];
       up = subst (λ (frame : List ℕ). View (written w.line.up frame) (map content_sent (v.queue ++ this ∷ []))) (sym (ap frame_at found.1))
           (subst (λ (contents : List (List ℕ)). View (written w.line.up (unit_frame found.0)) contents) (sym (map-append content_sent v.queue (this ∷ [])))
-            (view_written w.line.up (map content_sent v.queue) (unit_content found.0) v.up (content_fits below.long (unit_header found.0) found.0.body (unit_content found.0) (unit_content_is found.0 (v.units.good place found.0 found.1)))));
+          (view_written w.line.up (map content_sent v.queue) (unit_content found.0) v.up (content_fits below.long (unit_header found.0) found.0.body (unit_content found.0) (unit_content_is found.0 (v.units.good place found.0 found.1)))));
       in_order = in_order_push w.units (length w.rows) v.queue this v.in_order found.1 (near place refl);
       sent = λ other is. sent_or_this w.line place other (frame_at (slice_get w.units place)) (end_of (length w.rows) v.queue) (end_of (length w.rows) (v.queue ++ this ∷ [])) (end_push (length w.rows) v.queue this) (v.sent other) is;
       replies = v.replies;
@@ -258,10 +258,10 @@ stored_grown : (units rows : List Row) (unit : Row) (place : ℕ) → UnitsOk un
     → place ≤ length rows → Grown units rows (stored rows unit) place
 stored_grown units rows unit place ok first within at le =
     subst (λ (new : Bool). Grown units rows (if new then rows ++ unit ∷ [] else rows) place) (sym (is_new_at units rows unit place ok first within at le))
-      (elim (cases_lt (length rows) (suc place)) [
-        | inl lt ↦ subst (λ (new : Bool). Grown units rows (if new then rows ++ unit ∷ [] else rows) place) (sym (lt-ltb (length rows) (suc place) lt)) (fresh (omega (arith, lt)))
-        | inr ge ↦ subst (λ (new : Bool). Grown units rows (if new then rows ++ unit ∷ [] else rows) place) (sym (le-ltb (length rows) (suc place) ge)) (record { long = omega (arith, ge); within = within; first = first })
-      ])
+    (elim (cases_lt (length rows) (suc place)) [
+      | inl lt ↦ subst (λ (new : Bool). Grown units rows (if new then rows ++ unit ∷ [] else rows) place) (sym (lt-ltb (length rows) (suc place) lt)) (fresh (omega (arith, lt)))
+      | inr ge ↦ subst (λ (new : Bool). Grown units rows (if new then rows ++ unit ∷ [] else rows) place) (sym (le-ltb (length rows) (suc place) ge)) (record { long = omega (arith, ge); within = within; first = first })
+    ])
   where
     fresh : place ≡ length rows → Grown units rows (rows ++ unit ∷ []) place
     fresh is =
@@ -324,9 +324,9 @@ up_kept below w v queue order sent (inl none) = subst (λ (item : Option Unplace
 up_kept below w v [] order sent (inr came) = absurd (let e : [] ≡ came.0 ∷ came.1 = came.2 in cc)
 up_kept below w v (m ∷ ms) order sent (inr came) =
     subst (λ (item : Option Unplaced). Inv (seen (moved_up w) item)) (sym done)
-      (subst (λ (is : Bool). Inv (if is then unit_taken (moved_up w) (unit_header m.unit) m.unit.body else moved_up w)) (sym (good_unit below.fixes m.unit good))
-        (subst (λ (unit : Row). Inv (record (moved_up w) { rows = stored w.rows unit; line = answered (moved_up w).line (answer_frame (unit_header m.unit) w.line.serial) })) (sym (good_of m.unit good))
-          (unit_kept below w v m ms order sent (subst (View (moved w.line.up)) (sym rest) came.4) (stored w.rows m.unit) (stored_grown w.units w.rows m.unit m.place v.units v.first_units v.stored order.0 order.1))))
+    (subst (λ (is : Bool). Inv (if is then unit_taken (moved_up w) (unit_header m.unit) m.unit.body else moved_up w)) (sym (good_unit below.fixes m.unit good))
+    (subst (λ (unit : Row). Inv (record (moved_up w) { rows = stored w.rows unit; line = answered (moved_up w).line (answer_frame (unit_header m.unit) w.line.serial) })) (sym (good_of m.unit good))
+    (unit_kept below w v m ms order sent (subst (View (moved w.line.up)) (sym rest) came.4) (stored w.rows m.unit) (stored_grown w.units w.rows m.unit m.place v.units v.first_units v.stored order.0 order.1))))
   where
     good : IsGood m.unit
     good = v.units.good m.place m.unit order.0
@@ -383,8 +383,8 @@ told_kept w v rs all view ack names = record {
   serial = v.serial;
   told = All-append (λ (place : ℕ). place < length w.rows) w.told (accepted_by (moved_down w) ack) v.told
       (filter_passes (is_accepted_by (moved_down w) ack) (λ (place : ℕ). place < length w.rows)
-        (λ place is. names place (and_left (is_named ack (slice_get w.units place)) (was_sent w.line place && nat_le w.accepted place) (and_right (is_acceptance ack) (is_named ack (slice_get w.units place) && (was_sent w.line place && nat_le w.accepted place)) is)))
-        (range_with_len 0 (length w.units)));
+      (λ place is. names place (and_left (is_named ack (slice_get w.units place)) (was_sent w.line place && nat_le w.accepted place) (and_right (is_acceptance ack) (is_named ack (slice_get w.units place) && (was_sent w.line place && nat_le w.accepted place)) is)))
+      (range_with_len 0 (length w.units)));
   just = λ other e place is. names place (subst (λ (a : Acknowledgement). IsTrue (is_named a (slice_get w.units place))) (sym (some_is ack other e)) is);
 }
 
@@ -410,8 +410,8 @@ down_kept below w v replies all (inl none) = subst (λ (item : Option Unplaced).
 down_kept below w v [] all (inr came) = absurd (let e : [] ≡ came.0 ∷ came.1 = came.2 in cc)
 down_kept below w v (r ∷ rs) all (inr came) =
     subst (λ (item : Option Unplaced). Inv (heard (moved_down w) item)) (sym done)
-      (subst (λ (ack : Option Acknowledgement). Inv (told_of (moved_down w) ack)) (sym (answer_read (unit_header r.unit) r.serial good))
-        (told_kept w v rs all.3 (subst (View (moved w.line.down)) (sym rest) came.4) (answer (unit_header r.unit)) (named_stored w.units (length w.rows) r.place r.unit v.units all.0 all.1)))
+    (subst (λ (ack : Option Acknowledgement). Inv (told_of (moved_down w) ack)) (sym (answer_read (unit_header r.unit) r.serial good))
+    (told_kept w v rs all.3 (subst (View (moved w.line.down)) (sym rest) came.4) (answer (unit_header r.unit)) (named_stored w.units (length w.rows) r.place r.unit v.units all.0 all.1)))
   where
     good : IsHeader (unit_header r.unit)
     good = unit_header_good r.unit (v.units.good r.place r.unit all.0)

@@ -69,7 +69,7 @@ pub looked : ((stream : List ℕ) → AreOctets stream → (list : List Item) ×
     → Gains old.splitter new.splitter (take result.0 (octet ∷ [])) (told result.1 new.splitter) → (IsTrue new.found ↔ (result.1 ≡ answer.Frame)) → IsRead octets taken true new
 looked some unplaced_are octets taken ahead old new octet result not_ahead read lt is one above place gains found =
     let g = grows some unplaced_are octets taken old.splitter new.splitter octet result.0 (told result.1 new.splitter) read.are lt (is ∙ get_or_default octets taken octet 0 lt) (omega (arith, one, above))
-        (subst (λ (b : Bool). StandsFor old.splitter (take (seen_by b taken) octets)) not_ahead read.stands) gains in
+    (subst (λ (b : Bool). StandsFor old.splitter (take (seen_by b taken) octets)) not_ahead read.stands) gains in
     let from : old.splitter.place ≡ taken = read.place ∙ ap (λ b. seen_by b taken) not_ahead in
     record {
       are = read.are;

@@ -1,5 +1,6 @@
 -- What the running world keeps for the defined one. For the proofs.
-use Rattle.std.specs.Prelude.{◌≡◌, ℕ, ◌+◌, ◌^◌, ◌<◌, ◌≤◌, Bool, true, false, List, [], ◌∷◌, length, take, Option, Some, None, IsTrue, All}
+use Rattle.std.specs.Prelude.{◌≡◌, ℕ, ◌+◌, ◌^◌, ◌<◌, ◌≤◌, Bool, true, false, List, [], ◌∷◌, length, take, Option, Some, None, IsTrue, All, slice_index_or}
+use Rattle.std.specs.List.{range_with_len}
 use Rattle.jt_value.specs.Octets.{AreOctets}
 use Rattle.jt_escape.specs.Splitter.{StandsFor}
 use Rattle.jt_header.specs.declared.header.Header.{Header}
@@ -8,7 +9,9 @@ use Rattle.jt_position.specs.Views.{is_position}
 use Rattle.jt_stream.specs.Stream.{Held}
 use Rattle.jt_stream.specs.Unplaced.{Unplaced, Message, Fault}
 use Rattle.jt_world.specs.declared.row.Row.{Row}
-use Rattle.jt_world.specs.World.{Wire, completed}
+use Rattle.jt_world.specs.declared.acknowledgement.Acknowledgement.{Acknowledgement}
+use Rattle.jt_world.specs.Messages.{unit_frame}
+use Rattle.jt_world.specs.World.{World, Wire, completed}
 
 -- a wire, and whether the reader has already seen its next octet
 pub record Looked : Type 0 where
@@ -42,11 +45,51 @@ pub record IsRead (octets : List ℕ) (taken : ℕ) (ahead : Bool) (held : Held)
   pub stands : StandsFor held.splitter (take (seen_by ahead taken) octets)
   pub tells : ahead ≡ true → Tells held (completed (record { octets = octets; taken = taken }))
 
--- units of one fix each, numbered from here on
+-- the unit of a place, which carries the fix of that place
+abbrev pub unit_at : ℕ → List ℕ → Row
+unit_at place fix = record { number = place; id = 0x0200; body = fix }
+
+-- units of one fix each, from this place on
 abbrev pub units_from : ℕ → List (List ℕ) → List Row
-units_from number [] = []
-units_from number (fix ∷ more) = record { number = number; id = 0x0200; body = fix } ∷ units_from (number + 1) more
+units_from place [] = []
+units_from place (fix ∷ more) = unit_at place fix ∷ units_from (place + 1) more
+
+-- What the terminal holds. Units are numbered by their places, and each was sent.
+pub record Terminal : Type 0 where
+  pub recorded : List (List ℕ)
+  pub formed : ℕ
+  pub accepted : ℕ
+  pub told : List ℕ
+  pub just : Option Acknowledgement
 
 -- each fix is a position
 abbrev pub AllPositions : List (List ℕ) → Type 0
 AllPositions fixes = All (λ (fix : List ℕ). IsTrue (is_position fix)) fixes
+
+-- units are numbered below 65,536 and carry the first fixes
+pub record IsNumbered (recorded : List (List ℕ)) (formed accepted : ℕ) : Type 0 where
+  pub accepted_formed : accepted ≤ formed
+  pub formed_recorded : formed ≤ length recorded
+  pub limited : length recorded ≤ 32766
+  pub positions : AllPositions recorded
+
+-- what the platform holds: its rows, and the serial of its next frame
+pub record Platform : Type 0 where
+  pub rows : List Row
+  pub serial : ℕ
+
+-- the world of both ends and the line between them
+abbrev pub world_of : Terminal → Platform → Wire → Wire → World
+world_of terminal platform up down = record {
+  recorded = terminal.recorded;
+  units = units_from 0 (take terminal.formed terminal.recorded);
+  accepted = terminal.accepted;
+  line = record { up = up; down = down; sent = range_with_len 0 terminal.formed; serial = platform.serial };
+  rows = platform.rows;
+  told = terminal.told;
+  just = terminal.just;
+}
+
+-- the frame of the next fix
+abbrev pub frame_of_next : Terminal → List ℕ
+frame_of_next terminal = unit_frame (unit_at terminal.formed (slice_index_or terminal.recorded terminal.formed []))

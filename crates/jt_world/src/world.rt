@@ -1,9 +1,9 @@
 //! The world of a rehearsal.
 
-ghost use Rattle.std.specs.Prelude.{◌≡◌, ◌↔◌, length, take, IsTrue, OnOk, OnErr, IfOk, IfErr};
-ghost use Rattle.jt_world.specs.Claim.{Kept};
+ghost use Rattle.std.specs.Prelude.{◌≡◌, ◌<◌, ◌≤◌, ◌-◌, ◌↔◌, length, take, drop, map, min, None, IsTrue, OnOk, OnErr, IfOk, IfErr, IfSome};
+ghost use Rattle.jt_world.specs.Events.{Up, Down, after};
 ghost use Rattle.jt_world.specs.Reaching.{Leads, Reached};
-ghost use Rattle.jt_world.specs.Script.{IsAllowed, entries_between, fix_limit, world_after};
+ghost use Rattle.jt_world.specs.Script.{IsAllowed, accepting, all_reported, entries_between, entry_of, fix_limit, taken_down, taken_up, waiting, world_after};
 ghost use Rattle.jt_world.specs.World.{empty, fixes_in};
 
 use crate::platform::Platform;
@@ -14,9 +14,6 @@ use jt_script::WorldEvent;
 use jt_value::{Memory, Seq};
 use std::alloc::{AllocError, AllocFailed, Global};
 use std::marker::Model;
-
-/// The most fixes that are recorded.
-const FIX_LIMIT: usize = 32_766;
 
 /// A unit that was stored (this project's own).
 #[derive(Clone, Copy, Debug, PartialEq, Eq)]
@@ -62,35 +59,12 @@ pub struct World {
 }
 
 impl Model for World {
-    ghost use Rattle.std.specs.Prelude.{◌≡◌, ◌≤◌, length, take, map};
-    ghost use Rattle.std.specs.List.{range_with_len};
-    ghost use Rattle.jt_world.specs.Holding.{AllPositions, units_from};
+    ghost use Rattle.jt_world.specs.Holding.{world_of};
     ghost use Rattle.jt_world.specs.World as defined;
-    ghost use Rattle.jt_world.specs.World.{fixes_in};
 
     ghost Value = { defined.World };
 
-    ghost view = { λ world. record {
-      recorded = world.terminal.recorded.items;
-      units = units_from 0 (take world.terminal.formed world.terminal.recorded.items);
-      accepted = world.terminal.accepted;
-      line = record {
-        up = world.up.wire;
-        down = world.down.wire;
-        sent = range_with_len 0 world.terminal.formed;
-        serial = world.platform.serial;
-      };
-      rows = world.platform.rows.items;
-      told = world.terminal.told.items;
-      just = world.terminal.just;
-    } };
-
-    ghost invariant = { λ world.
-        (world.terminal.accepted ≤ world.terminal.formed)
-        × (world.terminal.formed ≤ length world.terminal.recorded.items)
-        × (length world.terminal.recorded.items ≤ 32766)
-        × AllPositions world.terminal.recorded.items
-        × (length (fixes_in world.platform.rows.items) ≡ length world.platform.rows.items) };
+    ghost view = { λ world. world_of world.terminal world.platform world.up.wire world.down.wire };
 }
 
 impl World {
@@ -111,7 +85,7 @@ impl World {
         ensures { IsTrue result ↔ IsAllowed self.now event }
     {
         match event {
-            WorldEvent::Fix(_lat) => self.terminal.recorded.len() < FIX_LIMIT,
+            WorldEvent::Fix(_lat) => self.terminal.has_room(),
             WorldEvent::Up { line, .. } => line == 1,
             WorldEvent::Down(_count) => true,
             WorldEvent::Tick(milliseconds) => milliseconds == 0,
@@ -126,29 +100,41 @@ impl World {
         ensures stored { result.stored ≡ length (fixes_in self.now.rows) }
     {
         Counts {
-            recorded: self.terminal.recorded.len() as u64,
-            accepted: self.terminal.accepted as u64,
-            rows: self.platform.rows.len() as u64,
-            stored: self.platform.rows.len() as u64,
+            recorded: self.terminal.recorded() as u64,
+            accepted: self.terminal.accepted() as u64,
+            rows: self.platform.rows().len() as u64,
+            stored: self.platform.rows().len() as u64,
         }
     }
 
-    fn record(&mut self, alloc: Global, lat: u32) -> Result<(), Memory> {
+    fn record(&mut self, alloc: Global, lat: u32) -> Result<(), Memory>
+        requires { length self.old.recorded < fix_limit }
+        ensures ok { OnOk result (self.new ≡ world_after self.old (WorldEvent.Fix lat)) }
+        ensures leads { Leads self.old self.new }
+    {
         let fix = Fix::at(alloc, lat)?;
         self.terminal.record(fix)
     }
 
     // The platform takes one more octet.
-    fn take_up(&mut self, alloc: Global) -> Result<(), Memory> {
+    fn take_up(&mut self, alloc: Global) -> Result<(), Memory>
+        requires { self.old.line.up.taken < length self.old.line.up.octets }
+        ensures ok { OnOk result (self.new ≡ after self.old Up) }
+        ensures err { OnErr result (self.new ≡ self.old) }
+    {
         self.up.look();
         self.platform.see(alloc, self.up.message(), &mut self.down)?;
         self.up.pass();
-        self.terminal.just = None;
+        self.terminal.pass();
         Ok(())
     }
 
     // The terminal takes one more octet, and an acceptance if it comes.
-    fn take_down(&mut self) -> Result<(), Memory> {
+    fn take_down(&mut self) -> Result<(), Memory>
+        requires { self.old.line.down.taken < length self.old.line.down.octets }
+        ensures ok { OnOk result (self.new ≡ accepting (after self.old Down)) }
+        ensures err { OnErr result (self.new ≡ self.old) }
+    {
         self.down.look();
         self.terminal.hear(self.down.message())?;
         self.down.pass();
@@ -156,40 +142,59 @@ impl World {
         Ok(())
     }
 
-    fn take_all_up(&mut self, alloc: Global, count: usize) -> Result<(), Memory> {
+    fn take_all_up(&mut self, alloc: Global, count: usize) -> Result<(), Memory>
+        requires { count ≤ length self.old.line.up.octets - self.old.line.up.taken }
+        ensures ok { OnOk result (self.new ≡ taken_up count self.old) }
+        ensures leads { Leads self.old self.new }
+    {
         for _ in 0..count {
             self.take_up(alloc)?;
         }
         Ok(())
     }
 
-    fn take_all_down(&mut self, count: usize) -> Result<(), Memory> {
+    fn take_all_down(&mut self, count: usize) -> Result<(), Memory>
+        requires { count ≤ length self.old.line.down.octets - self.old.line.down.taken }
+        ensures ok { OnOk result (self.new ≡ taken_down count self.old) }
+        ensures leads { Leads self.old self.new }
+    {
         for _ in 0..count {
             self.take_down()?;
         }
         Ok(())
     }
 
-    fn report_all(&mut self) -> Result<(), Memory> {
-        for _ in self.terminal.formed..self.terminal.recorded.len() {
+    // A unit of each fix that is in none, which is sent.
+    fn report_all(&mut self) -> Result<(), Memory>
+        ensures ok { OnOk result (self.new ≡ all_reported self.old (waiting self.old)) }
+        ensures leads { Leads self.old self.new }
+    {
+        for _ in self.terminal.formed()..self.terminal.recorded() {
             self.terminal.report(&mut self.up)?;
         }
         Ok(())
     }
 
     // The rows from this place on, as they are told.
-    fn entries_from(&self, alloc: Global, place: usize) -> Result<Seq<SmallEntry>, Memory> {
+    fn entries_from(&self, alloc: Global, place: usize) -> Result<Seq<SmallEntry>, Memory>
+        requires { place ≤ length self.now.rows }
+        ensures { IfOk result (λ entries. entries ≡ map entry_of (drop place self.now.rows)) }
+    {
         let mut entries = Seq::new(alloc);
-        for row in &self.platform.rows.as_slice()[place..] {
+        for row in &self.platform.rows()[place..] {
             entries.push(SmallEntry {
-                serial: row.number as u16,
+                serial: (row.number % 65536) as u16,
                 number: row.number,
             })?;
         }
         Ok(entries)
     }
 
-    fn step_on(&mut self, alloc: Global, event: WorldEvent) -> Result<(), Memory> {
+    fn step_on(&mut self, alloc: Global, event: WorldEvent) -> Result<(), Memory>
+        requires { IsAllowed self.old event }
+        ensures ok { OnOk result (self.new ≡ world_after self.old event) }
+        ensures leads { Leads self.old self.new }
+    {
         match event {
             WorldEvent::Fix(lat) => self.record(alloc, lat),
             WorldEvent::Up { count, .. } => {
@@ -215,14 +220,17 @@ impl World {
         ensures reached { Reached self.old → Reached self.new }
         ensures memory { IfErr result (λ error. error ≡ WorldError.Memory) }
     {
-        let stored = self.platform.rows.len();
+        let stored = self.platform.rows().len();
         self.step_on(alloc, event)?;
         Ok(self.entries_from(alloc, stored)?)
     }
 }
 
 // How many of the octets left move.
-fn moving(count: Option<u32>, left: usize) -> usize {
+fn moving(count: Option<u32>, left: usize) -> usize
+    ensures all { count ≡ None → result ≡ left }
+    ensures some { IfSome count (λ count. result ≡ min count left) }
+{
     match count {
         None => left,
         Some(count) => left.min(count as usize),
