@@ -4,3 +4,4 @@ mod Meaning
 mod Invariant
 mod Keeping
 mod Looking
+mod Numbered

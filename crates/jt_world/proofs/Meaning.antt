@@ -22,7 +22,7 @@ pub record IsGood (unit : Row) : Type 0 where
   pub position : unit.id ≡ 0x0200
   pub fix : IsFix unit.body
 
-serial_same : (n : ℕ) → n < 65536 → serial_of n ≡ n
+pub serial_same : (n : ℕ) → n < 65536 → serial_of n ≡ n
 serial_same n lt = omega arith
 
 serial_small : (n : ℕ) → serial_of n < 2 ^ 16
@@ -31,10 +31,10 @@ serial_small n = omega arith
 phone_good : IsPhone phone
 phone_good = record { len = refl; padded = refl; decimal = refl }
 
-pub unit_header_good : (unit : Row) → IsGood unit → IsHeader (unit_header unit)
-unit_header_good unit good = record {
+pub header_good : (unit : Row) → unit.id < 65536 → IsHeader (unit_header unit)
+header_good unit small = record {
   edition = refl;
-  id = omega (arith, good.position);
+  id = small;
   version = refl;
   phone_edition = refl;
   phone = phone_good;
@@ -42,7 +42,11 @@ unit_header_good unit good = record {
   packet = tt;
 }
 
+pub unit_header_good : (unit : Row) → IsGood unit → IsHeader (unit_header unit)
+unit_header_good unit good = header_good unit (omega (arith, good.position))
+
 pub unit_content_is : (unit : Row) → IsGood unit → Content (unit_header unit) unit.body (unit_content unit)
+unfolding unit_content
 unit_content_is unit good = record { header = unit_header_good unit good; short = omega (arith, good.fix.short); octets = refl }
 
 pub answer_header_good : (header : Header) (serial : ℕ) → IsHeader header → serial < 65536 → IsHeader (answer_header header serial)
@@ -69,6 +73,7 @@ unfolding acknowledgement number
 fits ack reply id result = (reply, (id, result))
 
 pub answer_content_is : (header : Header) (serial : ℕ) → IsHeader header → serial < 65536 → Content (answer_header header serial) (acknowledgement.spell (answer header)) (answer_content header serial)
+unfolding answer_content
 answer_content_is header serial good lt = record { header = answer_header_good header serial good lt; short = omega (arith, spell_length (answer header)); octets = refl }
 
 -- the terminal reads an answer as what it is

@@ -25,7 +25,7 @@ phone = record { edition = E2013; digits = 0 ∷ 0 ∷ 0 ∷ 0 ∷ 0x01 ∷ 0x39
 abbrev pub unit_header : Row → Header
 unit_header unit = record { edition = E2013; id = unit.id; bit15 = false; version = 0; phone = phone; serial = serial_of unit.number; packet = None }
 
-abbrev pub unit_content : Row → List ℕ
+unfoldable pub unit_content : Row → List ℕ
 unit_content unit = content_of (unit_header unit) unit.body
 
 -- the frame that carries a unit
@@ -54,7 +54,7 @@ answer_header header serial = record { edition = header.edition; id = 0x8001; bi
 abbrev pub answer : Header → Acknowledgement
 answer header = record { reply = header.serial; id = header.id; result = 0 }
 
-abbrev pub answer_content : Header → ℕ → List ℕ
+unfoldable pub answer_content : Header → ℕ → List ℕ
 answer_content header serial = content_of (answer_header header serial) (acknowledgement.spell (answer header))
 
 -- the frame that answers a message

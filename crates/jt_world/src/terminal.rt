@@ -1,11 +1,12 @@
 //! The terminal's end of the world.
 
 ghost use Rattle.std.specs.Prelude.{◌≡◌, ◌<◌, ◌≤◌, ◌↔◌, ◌++◌, ◌+◌, [], ◌∷◌, ℕ, List, length, true, IsTrue, None, Some, Option, MatchOption, OnOk, OnErr};
+ghost use Rattle.jt_header.specs.Content.{IsHeader};
 ghost use Rattle.jt_position.specs.Fixes.{IsFix};
 ghost use Rattle.jt_stream.specs.Unplaced.{Unplaced, Message};
-ghost use Rattle.jt_world.specs.Events.{heard, is_accepted_by, told_of};
+ghost use Rattle.jt_world.specs.Events.{heard, told_of};
 ghost use Rattle.jt_world.specs.Holding as holding;
-ghost use Rattle.jt_world.specs.Holding.{IsNoMessage, IsNumbered, Platform, frame_of_next, unit_at, world_of};
+ghost use Rattle.jt_world.specs.Holding.{IsNoMessage, IsNumbered, Platform, frame_of_next, unit_at, world_of, accepts_at, told_by};
 ghost use Rattle.jt_world.specs.Messages as messages;
 ghost use Rattle.jt_world.specs.Messages.{acknowledgement_in};
 ghost use Rattle.jt_world.specs.Script.{accepting, fix_limit};
@@ -63,7 +64,8 @@ impl Model for Terminal {
 
 fn unit_header(place: usize) -> Header
     requires { place < 65536 }
-    ensures { (fix : List ℕ) → result ≡ messages.unit_header (unit_at place fix) }
+    ensures header { (fix : List ℕ) → result ≡ messages.unit_header (unit_at place fix) }
+    ensures good { IsHeader result }
 {
     Header {
         edition: Edition::E2013,
@@ -77,6 +79,16 @@ fn unit_header(place: usize) -> Header
         serial: place as u16,
         packet: None,
     }
+}
+
+// The frame of the unit of a place.
+#[tactic(auto, unfolding(crate::specs::Messages::unit_content))]
+fn unit_frame(place: usize, fix: &Fix, frame: &mut ArrayVec<u8, 2092>)
+    requires place { place < 65536 }
+    requires empty { frame.old.items ≡ [] }
+    ensures { frame.new.items ≡ messages.unit_frame (unit_at place fix.now) }
+{
+    frame_into(&unit_header(place), fix.as_slice(), frame);
 }
 
 // The acknowledgement that a message is, if it is one.
@@ -157,11 +169,8 @@ impl Terminal {
         ensures not_sent { OnErr result (up.new.wire ≡ up.old.wire) }
     {
         let mut frame = ArrayVec::new();
-        frame_into(
-            &unit_header(self.formed),
-            self.recorded[self.formed].as_slice(),
-            &mut frame,
-        );
+        let fix = &self.recorded[self.formed];
+        unit_frame(self.formed, fix, &mut frame);
         up.write(frame.as_slice())?;
         self.formed += 1;
         self.just = None;
@@ -170,8 +179,8 @@ impl Terminal {
 
     // Whether an acknowledgement accepts the unit of a place.
     fn is_accepted_by(&self, ack: &Acknowledgement, place: usize) -> bool
-        ensures { (platform : Platform) (up down : defined.Wire) →
-            result ≡ is_accepted_by (world_of self.now platform up down) ack.now place }
+        ensures accepts { result ≡ accepts_at self.now ack.now place }
+        ensures numbered { IsNumbered self.now.recorded self.now.formed self.now.accepted }
     {
         (ack.result == 0 || ack.result == 4)
             && place < self.formed
@@ -187,26 +196,43 @@ impl Terminal {
             world_of self.new platform up down ≡ heard (world_of self.old platform up down) item) }
         ensures err { OnErr result (self.new ≡ self.old) }
     {
-        let ack = match message {
-            None => None,
-            Some((header, body)) => acknowledgement_of(&header, body),
-        };
-        self.take_acknowledgement(ack)
+        match message {
+            None => {
+                self.pass();
+                Ok(())
+            }
+            Some((header, body)) => self.take_acknowledgement(acknowledgement_of(&header, body)),
+        }
     }
 
-    // Notes which unit an acknowledgement accepts.
     fn take_acknowledgement(&mut self, ack: Option<Acknowledgement>) -> Result<(), Memory>
         ensures ok { OnOk result ((platform : Platform) (up down : defined.Wire) →
             world_of self.new platform up down ≡ told_of (world_of self.old platform up down) ack) }
         ensures err { OnErr result (self.new ≡ self.old) }
     {
-        if let Some(ack) = ack {
-            let place = ack.reply as usize;
-            if self.is_accepted_by(&ack, place) {
-                self.told.push(place)?;
+        match ack {
+            None => {
+                self.pass();
+                Ok(())
             }
+            Some(ack) => self.tell(ack),
         }
-        self.just = ack;
+    }
+
+    // Notes which unit an acknowledgement accepts.
+    #[tactic(auto, using(std::proofs::lemmas::Grind::common_steps))]
+    fn tell(&mut self, ack: Acknowledgement) -> Result<(), Memory>
+        ensures ok { OnOk result (self.new ≡ record self.old { told = self.old.told ++ told_by self.old ack; just = Some ack }) }
+        ensures err { OnErr result (self.new ≡ self.old) }
+        ensures numbered { IsNumbered self.old.recorded self.old.formed self.old.accepted }
+    {
+        let place = ack.reply as usize;
+        if self.is_accepted_by(&ack, place) {
+            self.told.push(place)?;
+            self.just = Some(ack);
+            return Ok(());
+        }
+        self.just = Some(ack);
         Ok(())
     }
 
@@ -215,11 +241,12 @@ impl Terminal {
         ensures { (platform : Platform) (up down : defined.Wire) →
             world_of self.new platform up down ≡ accepting (world_of self.old platform up down) }
     {
-        if let Some(ack) = self.just {
-            if self.is_accepted_by(&ack, self.accepted) {
-                self.accepted += 1;
-                self.just = None;
-            }
+        let Some(ack) = self.just else {
+            return;
+        };
+        if self.is_accepted_by(&ack, self.accepted) {
+            self.accepted += 1;
+            self.just = None;
         }
     }
 
