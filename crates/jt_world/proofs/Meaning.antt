@@ -1,6 +1,7 @@
 -- What the frames of this world are read as.
-use Rattle.std.proofs.Common.{ℕ, suc, ◌+◌, ◌%◌, ◌^◌, ◌<◌, ◌≤◌, ◌≡◌, List, [], ◌∷◌, ◌++◌, length, Option, Some, None, Result, Ok, Err, arith, refl, ap, sym, ◌∙◌, subst}
-use Rattle.std.specs.Prelude.{Bool, true, false, IsTrue, is_none, is_some, is_ok, ◌&&◌, ◌==◌, if◌then◌else◌}
+use Rattle.std.proofs.Common.{ℕ, suc, ◌+◌, ◌%◌, ◌^◌, ◌<◌, ◌≤◌, ◌≡◌, List, [], ◌∷◌, ◌++◌, length, get_or, Option, Some, None, Result, Ok, Err, arith, refl, ap, sym, ◌∙◌, subst}
+use Rattle.std.specs.Prelude.{Bool, true, false, IsTrue, is_none, is_some, is_ok, ◌&&◌, ◌==◌, if◌then◌else◌, MatchResult}
+use Rattle.std.specs.Int.{w16, to_be_bytes}
 use Rattle.jt_escape.specs.Span.{IsContent}
 use Rattle.jt_header.specs.Content.{Content, IsHeader, IsPhone, content_of, header_len}
 use Rattle.jt_header.specs.Law.{IsLengthOfContent}
@@ -9,6 +10,9 @@ use Rattle.jt_layout.specs.Layout.{Body, Fills, number}
 use Rattle.jt_layout.proofs.Laws.{IsBody, byte_law, word_law, then_law, ended_law, body_as_law}
 use Rattle.jt_position.specs.Fixes.{IsFix, FixesAre, fixes_of, of_position}
 use Rattle.jt_position.specs.Positions.{position}
+use Rattle.jt_position.specs.declared.position.Position.{Position}
+use Rattle.jt_value.specs.declared.refusal.Refusal.{Refusal}
+use Rattle.std.proofs.lemmas.Bool.{eq-eqb}
 use Rattle.jt_position.specs.Views.{is_position}
 use Rattle.jt_stream.specs.Unplaced.{Unplaced, Message, of_content}
 use Rattle.jt_world.specs.declared.row.Row.{Row}
@@ -88,7 +92,7 @@ content_fits long header body content is =
     (omega (arith, sized.0), sized.1)
 
 -- the fixes of a position report
-of_read : (body : List ℕ) (read : Result _ _) → of_position body read ≡ body ∷ [] → IsTrue (is_ok read)
+of_read : (body : List ℕ) (read : Result Position Refusal) → of_position body read ≡ body ∷ [] → IsTrue (is_ok read)
 of_read body (Ok m) e = refl
 of_read body (Err r) e = absurd cc
 
@@ -109,3 +113,27 @@ good_of unit good =
   where
     record_of : ℕ → Row
     record_of n = record { number = n; id = unit.id; body = unit.body }
+
+of_refused : (body : List ℕ) (read : Result Position Refusal) → of_position body read ≡ [] → is_ok read ≡ false
+of_refused body (Ok m) e = absurd cc
+of_refused body (Err r) e = refl
+
+-- what a reader of positions answers tells whether the octets are one
+pub position_told : FixesAre → {V : Type 0} (view : V → Position) (body : List ℕ) (answer : Result V Refusal)
+    → MatchResult answer (λ v. Fills position body 0 (view v)) (λ refusal. position.Refuses body 0 refusal) → is_ok answer ≡ is_position body
+position_told are view body (Ok v) fills = sym (of_read body (position.read body 0) (are.of_a_position body (view v) fills))
+position_told are view body (Err refusal) refuses = sym (of_refused body (position.read body 0) (are.none_of_a_refused_position body refusal refuses))
+
+pub unit_told : (header : Header) (body : List ℕ) (told : Bool) → header.id ≡ 0x0200 → is_none header.packet ≡ true → told ≡ is_position body → told ≡ is_unit header body
+unit_told header body told id packet is =
+    is ∙ sym (ap (λ (b : Bool). b && (is_none header.packet && is_position body)) (eq-eqb header.id 0x0200 id) ∙ ap (λ (b : Bool). b && is_position body) packet)
+
+-- the octets of an acknowledgement, by those of its words
+pub spelled : (ack : Acknowledgement) (reply id : List ℕ) → reply ≡ to_be_bytes w16 ack.reply → id ≡ to_be_bytes w16 ack.id → ack.result < 256
+    → ◌≡◌ {A = List ℕ} (get_or reply 0 0 ∷ get_or reply 1 0 ∷ get_or id 0 0 ∷ get_or id 1 0 ∷ ack.result ∷ []) (acknowledgement.spell ack)
+unfolding acknowledgement number
+spelled ack reply id e f small =
+    let same : ack.result ≡ ack.result % 256 = omega arith in
+    ap (λ (x : List ℕ). get_or x 0 0 ∷ get_or x 1 0 ∷ get_or id 0 0 ∷ get_or id 1 0 ∷ ack.result ∷ []) e
+    ∙ (ap (λ (x : List ℕ). get_or (to_be_bytes w16 ack.reply) 0 0 ∷ get_or (to_be_bytes w16 ack.reply) 1 0 ∷ get_or x 0 0 ∷ get_or x 1 0 ∷ ack.result ∷ []) f
+      ∙ ap (λ (n : ℕ). get_or (to_be_bytes w16 ack.reply) 0 0 ∷ get_or (to_be_bytes w16 ack.reply) 1 0 ∷ get_or (to_be_bytes w16 ack.id) 0 0 ∷ get_or (to_be_bytes w16 ack.id) 1 0 ∷ n ∷ []) same)

@@ -36,12 +36,12 @@ pub(crate) fn read_acknowledgement(octets: &[u8]) -> Result<Acknowledgement, Ref
 }
 
 impl Acknowledgement {
-    #[tactic(auto, unfolding(crate::specs::Messages::acknowledgement, jt_layout::specs::Layout::number))]
-    pub(crate) fn octets(&self) -> [u8; 5]
-        ensures { result ≡ acknowledgement.spell self.now }
+    // The body of the message.
+    pub(crate) fn octets(self) -> [u8; 5]
+        ensures { result ≡ acknowledgement.spell self }
     {
-        let [reply_high, reply_low] = self.reply.to_be_bytes();
-        let [id_high, id_low] = self.id.to_be_bytes();
-        [reply_high, reply_low, id_high, id_low, self.result]
+        let reply = self.reply.to_be_bytes();
+        let id = self.id.to_be_bytes();
+        [reply[0], reply[1], id[0], id[1], self.result]
     }
 }
