@@ -5,3 +5,5 @@ mod Invariant
 mod Keeping
 mod Looking
 mod Numbered
+mod Leading
+mod Reporting

@@ -136,4 +136,4 @@ spelled ack reply id e f small =
     let same : ack.result ≡ ack.result % 256 = omega arith in
     ap (λ (x : List ℕ). get_or x 0 0 ∷ get_or x 1 0 ∷ get_or id 0 0 ∷ get_or id 1 0 ∷ ack.result ∷ []) e
     ∙ (ap (λ (x : List ℕ). get_or (to_be_bytes w16 ack.reply) 0 0 ∷ get_or (to_be_bytes w16 ack.reply) 1 0 ∷ get_or x 0 0 ∷ get_or x 1 0 ∷ ack.result ∷ []) f
-      ∙ ap (λ (n : ℕ). get_or (to_be_bytes w16 ack.reply) 0 0 ∷ get_or (to_be_bytes w16 ack.reply) 1 0 ∷ get_or (to_be_bytes w16 ack.id) 0 0 ∷ get_or (to_be_bytes w16 ack.id) 1 0 ∷ n ∷ []) same)
+    ∙ ap (λ (n : ℕ). get_or (to_be_bytes w16 ack.reply) 0 0 ∷ get_or (to_be_bytes w16 ack.reply) 1 0 ∷ get_or (to_be_bytes w16 ack.id) 0 0 ∷ get_or (to_be_bytes w16 ack.id) 1 0 ∷ n ∷ []) same)

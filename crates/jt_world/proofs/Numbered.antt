@@ -34,7 +34,7 @@ no_unit from (other ∷ more) zero le = absurd (omega arith)
 no_unit from (other ∷ more) (suc place) le = no_unit (from + 1) more place (omega arith)
 
 -- all of these places
-in_range : (a n place : ℕ) → a ≤ place → place < a + n → list_any (λ other. other == place) (range_with_len a n) ≡ true
+pub in_range : (a n place : ℕ) → a ≤ place → place < a + n → list_any (λ other. other == place) (range_with_len a n) ≡ true
 in_range a zero place le lt = absurd (omega arith)
 in_range a (suc n) place le lt = elim (cases_eq a place) [
   | inl same ↦ ap (λ (b : Bool). b || list_any (λ other. other == place) (range_with_len (a + 1) n)) (eq-eqb a place same)
@@ -82,9 +82,9 @@ accepted_at t platform up down ack place ok = elim (cases_lt place t.formed) [ i
         let at : slice_get units place ≡ Some (unit_at place found.0) = unit_found 0 (take t.formed t.recorded) place found.0 (get_take t.recorded t.formed place lt ∙ found.1) ∙ ap (λ (n : ℕ). Some (unit_at n found.0)) zero_place in
         ap (λ (one : Option Row). is_acceptance ack && (is_named ack one && (was_sent (world_of t platform up down).line place && nat_le t.accepted place))) at
         ∙ (ap (λ (b : Bool). is_acceptance ack && (((ack.reply == serial_of place) && (ack.id == 0x0200)) && (b && nat_le t.accepted place))) (in_range 0 t.formed place (omega arith) (omega (arith, lt)))
-          ∙ (ap (λ (n : ℕ). is_acceptance ack && (((ack.reply == n) && (ack.id == 0x0200)) && nat_le t.accepted place)) (serial_same place (omega (arith, lt, ok.formed_recorded, ok.limited)))
-            ∙ (ap (λ (b : Bool). is_acceptance ack && b) (regroup (ack.reply == place) (ack.id == 0x0200) (nat_le t.accepted place))
-              ∙ sym (ap (λ (b : Bool). is_acceptance ack && (b && ((ack.reply == place) && ((ack.id == 0x0200) && nat_le t.accepted place)))) (lt-ltb place t.formed lt)))))
+        ∙ (ap (λ (n : ℕ). is_acceptance ack && (((ack.reply == n) && (ack.id == 0x0200)) && nat_le t.accepted place)) (serial_same place (omega (arith, lt, ok.formed_recorded, ok.limited)))
+        ∙ (ap (λ (b : Bool). is_acceptance ack && b) (regroup (ack.reply == place) (ack.id == 0x0200) (nat_le t.accepted place))
+        ∙ sym (ap (λ (b : Bool). is_acceptance ack && (b && ((ack.reply == place) && ((ack.id == 0x0200) && nat_le t.accepted place)))) (lt-ltb place t.formed lt)))))
       where
         zero_place : 0 + place ≡ place
         zero_place = omega arith

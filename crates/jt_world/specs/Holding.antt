@@ -1,5 +1,5 @@
 -- What the running world keeps for the defined one. For the proofs.
-use Rattle.std.specs.Prelude.{◌≡◌, ℕ, ◌+◌, ◌^◌, ◌<◌, ◌≤◌, Bool, true, false, List, [], ◌∷◌, length, take, Option, Some, None, IsTrue, All, slice_index_or, ◌&&◌, ◌==◌, nat_lt, nat_le, if◌then◌else◌}
+use Rattle.std.specs.Prelude.{◌≡◌, ℕ, ◌+◌, ◌^◌, ◌<◌, ◌≤◌, Bool, true, false, List, [], ◌∷◌, length, take, drop, Option, Some, None, IsTrue, All, slice_index_or, ◌&&◌, ◌==◌, nat_lt, nat_le, if◌then◌else◌}
 use Rattle.std.specs.List.{range_with_len}
 use Rattle.jt_value.specs.Octets.{AreOctets}
 use Rattle.jt_escape.specs.Splitter.{StandsFor}
@@ -11,6 +11,7 @@ use Rattle.jt_stream.specs.Unplaced.{Unplaced, Message, Fault}
 use Rattle.jt_world.specs.declared.row.Row.{Row}
 use Rattle.jt_world.specs.declared.acknowledgement.Acknowledgement.{Acknowledgement}
 use Rattle.jt_world.specs.Messages.{is_acceptance, unit_frame}
+use Rattle.jt_world.specs.Script.{waiting}
 use Rattle.jt_world.specs.World.{World, Wire, completed}
 
 -- a wire, and whether the reader has already seen its next octet
@@ -93,6 +94,12 @@ world_of terminal platform up down = record {
 -- the frame of the next fix
 abbrev pub frame_of_next : Terminal → List ℕ
 frame_of_next terminal = unit_frame (unit_at terminal.formed (slice_index_or terminal.recorded terminal.formed []))
+
+-- what is known of the units between two reports
+pub record IsFormed (w : World) (formed : ℕ) : Type 0 where
+  pub count : formed ≡ length w.units
+  pub waits : waiting w ≡ drop formed w.recorded
+  pub within : formed ≤ length w.recorded
 
 -- an acknowledgement accepts the unit of a place, which it names by its number
 abbrev pub accepts_at : Terminal → Acknowledgement → ℕ → Bool

@@ -134,7 +134,8 @@ impl Terminal {
 
     /// How many units are accepted.
     pub(crate) fn accepted(&self) -> usize
-        ensures { result ≡ self.now.accepted }
+        ensures accepted { result ≡ self.now.accepted }
+        ensures numbered { IsNumbered self.now.recorded self.now.formed self.now.accepted }
     {
         self.accepted
     }

@@ -1,9 +1,10 @@
 //! The world of a rehearsal.
 
-ghost use Rattle.std.specs.Prelude.{◌≡◌, ◌<◌, ◌≤◌, ◌-◌, ◌↔◌, length, take, drop, map, min, None, IsTrue, OnOk, OnErr, IfOk, IfErr, IfSome};
+ghost use Rattle.std.specs.Prelude.{◌≡◌, ◌<◌, ◌≤◌, ◌-◌, ◌↔◌, [], length, take, drop, map, min, slice_index_or, None, IsTrue, OnOk, OnErr, IfOk, IfErr, IfSome};
 ghost use Rattle.jt_world.specs.Events.{Up, Down, after};
+ghost use Rattle.jt_world.specs.Holding.{IsFormed};
 ghost use Rattle.jt_world.specs.Reaching.{Leads, Reached};
-ghost use Rattle.jt_world.specs.Script.{IsAllowed, accepting, all_reported, entries_between, entry_of, fix_limit, taken_down, taken_up, waiting, world_after};
+ghost use Rattle.jt_world.specs.Script.{IsAllowed, accepting, all_reported, entries_between, entry_of, fix_limit, reported, taken_down, taken_up, waiting, world_after};
 ghost use Rattle.jt_world.specs.World.{empty, fixes_in};
 
 use crate::platform::Platform;
@@ -107,13 +108,15 @@ impl World {
         }
     }
 
+    // A fix is recorded.
     fn record(&mut self, alloc: Global, lat: u32) -> Result<(), Memory>
         requires { length self.old.recorded < fix_limit }
         ensures ok { OnOk result (self.new ≡ world_after self.old (WorldEvent.Fix lat)) }
         ensures leads { Leads self.old self.new }
     {
         let fix = Fix::at(alloc, lat)?;
-        self.terminal.record(fix)
+        self.terminal.record(fix)?;
+        Ok(())
     }
 
     // The platform takes one more octet.
@@ -129,16 +132,33 @@ impl World {
         Ok(())
     }
 
-    // The terminal takes one more octet, and an acceptance if it comes.
-    fn take_down(&mut self) -> Result<(), Memory>
+    // The terminal takes one more octet.
+    fn hear(&mut self) -> Result<(), Memory>
         requires { self.old.line.down.taken < length self.old.line.down.octets }
-        ensures ok { OnOk result (self.new ≡ accepting (after self.old Down)) }
+        ensures ok { OnOk result (self.new ≡ after self.old Down) }
         ensures err { OnErr result (self.new ≡ self.old) }
     {
         self.down.look();
         self.terminal.hear(self.down.message())?;
         self.down.pass();
+        Ok(())
+    }
+
+    // The terminal takes an acceptance, if one was just completed.
+    fn accept(&mut self)
+        ensures { self.new ≡ accepting self.old }
+    {
         self.terminal.accept();
+    }
+
+    // The terminal takes one more octet, and an acceptance if that completes it.
+    fn take_down(&mut self) -> Result<(), Memory>
+        requires { self.old.line.down.taken < length self.old.line.down.octets }
+        ensures ok { OnOk result (self.new ≡ accepting (after self.old Down)) }
+        ensures err { OnErr result (self.new ≡ self.old) }
+    {
+        self.hear()?;
+        self.accept();
         Ok(())
     }
 
@@ -164,13 +184,32 @@ impl World {
         Ok(())
     }
 
-    // A unit of each fix that is in none, which is sent.
+    // How many fixes are in units, one in each.
+    fn formed(&self) -> usize
+        ensures { IsFormed self.now result }
+    {
+        self.terminal.formed()
+    }
+
+    // The next fix becomes a unit, which is sent.
+    fn report(&mut self) -> Result<(), Memory>
+        requires { length self.old.units < length self.old.recorded }
+        ensures ok { OnOk result (self.new ≡ reported self.old (slice_index_or self.old.recorded (length self.old.units) [])) }
+        ensures leads { Leads self.old self.new }
+        ensures err { OnErr result (self.new ≡ self.old) }
+    {
+        let _formed = self.terminal.formed();
+        self.terminal.report(&mut self.up)?;
+        Ok(())
+    }
+
+    // Each fix that is in no unit becomes one.
     fn report_all(&mut self) -> Result<(), Memory>
         ensures ok { OnOk result (self.new ≡ all_reported self.old (waiting self.old)) }
         ensures leads { Leads self.old self.new }
     {
-        for _ in self.terminal.formed()..self.terminal.recorded() {
-            self.terminal.report(&mut self.up)?;
+        for _ in self.formed()..self.terminal.recorded() {
+            self.report()?;
         }
         Ok(())
     }

@@ -11,4 +11,4 @@ unfolding unit_content
 returns c =
     c.frame_into.ensures
     ∙ (ap (λ (header : Header). framed (content_of header c.as_slice.result.now)) (c.unit_header.ensures.header c.args.fix.now)
-      ∙ ap (λ (body : List ℕ). framed (content_of (unit_header (unit_at c.args.place c.args.fix.now)) body)) c.as_slice.ensures.octets)
+    ∙ ap (λ (body : List ℕ). framed (content_of (unit_header (unit_at c.args.place c.args.fix.now)) body)) c.as_slice.ensures.octets)

@@ -12,4 +12,4 @@ returns-clause-sent c =
     let fix : c.index-fix.result.now ≡ get_or c.self.inside.recorded.items c.self.inside.formed [] = c.index-fix.ensures ∙ get_or_default c.self.inside.recorded.items c.self.inside.formed c.index-fix.result.now [] room in
     c.in_ok-write.ensures.ok
     ∙ ap (λ (octets : List ℕ). written c.args.up.now.wire octets)
-      (c.as_slice.ensures.value ∙ (c.unit_frame.ensures ∙ (ap (λ (body : List ℕ). unit_frame (unit_at c.self.inside.formed body)) fix ∙ ap frame_of_next c.self.view_is)))
+    (c.as_slice.ensures.value ∙ (c.unit_frame.ensures ∙ (ap (λ (body : List ℕ). unit_frame (unit_at c.self.inside.formed body)) fix ∙ ap frame_of_next c.self.view_is)))

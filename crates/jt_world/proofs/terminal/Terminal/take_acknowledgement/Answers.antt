@@ -8,5 +8,5 @@ use Rattle.jt_world.proofs.terminal.Terminal.take_acknowledgement.Goals as goal
 pub returns-in-Some-clause-ok : goal.returns-in-Some-clause-ok
 returns-in-Some-clause-ok c =
     on_ok c.tell.result (λ (e : c.tell.new.self ≡ record c.args.self.now { told = c.args.self.now.told ++ told_by c.args.self.now c.in-Some.ack; just = Some c.in-Some.ack }). λ platform up down.
-      told_is c.args.self.now c.tell.new.self c.in-Some.ack c.tell.ensures.numbered e platform up down ∙ ap (λ (one : Option Acknowledgement). told_of (world_of c.args.self.now platform up down) one) (sym c.in-Some.is))
+    told_is c.args.self.now c.tell.new.self c.in-Some.ack c.tell.ensures.numbered e platform up down ∙ ap (λ (one : Option Acknowledgement). told_of (world_of c.args.self.now platform up down) one) (sym c.in-Some.is))
     c.tell.ensures.ok
