@@ -2,19 +2,19 @@
 use Rattle.std.proofs.Common.{ℕ, zero, suc, ◌+◌, ◌-◌, ◌<◌, ◌≤◌, ◌≡◌, List, [], ◌∷◌, ◌++◌, length, take, drop, get_or, map, Option, Some, None, slice_get, arith, refl, ap, sym, ◌∙◌, subst}
 use Rattle.std.specs.Prelude.{Bool, true, false, cond, IsTrue, is_ok, All, Result, Ok, Err, if◌then◌else◌, ◌==◌}
 use Rattle.std.specs.List.{range_with_len, list_any}
-use Rattle.std.proofs.lemmas.List.{length-take-le, take-take, take-append-drop, drop_more, take_more, append_assoc, length-append, length_push, drop_all}
+use Rattle.std.proofs.lemmas.List.{length-take-le, take-take, take-append-drop, drop_more, take_more, take-append-le, append_assoc, length-append, length_push, drop_all}
 use Rattle.std.proofs.lemmas.List.Elements.{All-take, All-head, All-tail, All-nil, All-cons}
 use Rattle.std.proofs.lemmas.List.FromFn.{length-range_with_len}
 use Rattle.std.proofs.lemmas.Option.{slice_get-get_or}
 use Rattle.jt_value.specs.declared.refusal.Refusal.{Refusal}
 use Rattle.jt_position.specs.declared.position.Position.{Position}
-use Rattle.jt_position.specs.Fixes.{fixes_of, of_position}
+use Rattle.jt_position.specs.Fixes.{IsFix, fixes_of, of_position}
 use Rattle.jt_position.specs.Positions.{position}
 use Rattle.jt_position.specs.Views.{is_position}
 use Rattle.jt_world.specs.declared.row.Row.{Row}
 use Rattle.jt_world.specs.Messages.{unit_frame}
 use Rattle.jt_world.specs.World.{World, Line, Wire, written, carried, fixes_in}
-use Rattle.jt_world.specs.Events.{Event, Form, Send, IsPrefixOf, MayForm, MaySend, MayCome, after, was_sent, frame_at, past, past_accepted}
+use Rattle.jt_world.specs.Events.{Event, Record, Form, Send, IsPrefixOf, MayForm, MaySend, MayCome, after, was_sent, frame_at, past, past_accepted}
 use Rattle.jt_world.specs.Reaching.{Leads}
 use Rattle.jt_world.specs.Script.{next_unit, reported, all_reported, waiting}
 use Rattle.jt_world.specs.Holding.{Terminal, Platform, IsNumbered, AllPositions, unit_at, units_from, world_of, frame_of_next, IsFormed}
@@ -115,28 +115,20 @@ reported_is t platform up down ok lt =
     places_more = let e : 0 + t.formed ≡ length units = omega (arith, count) in range_more 0 t.formed ∙ ap (λ (n : ℕ). range_with_len 0 t.formed ++ n ∷ []) e
 
 -- the accepted units are numbered from 0 on
-past_is : (t : Terminal) (platform : Platform) (up down : Wire) → IsNumbered t.recorded t.formed t.accepted → past_accepted (world_of t platform up down) ≡ t.accepted
-past_is t platform up down ok = by t.accepted refl
-  where
-    units : List Row
-    units = units_from 0 (take t.formed t.recorded)
-
-    by : (n : ℕ) → t.accepted ≡ n → past (if n == 0 then None else slice_get units (n - 1)) ≡ n
-    by zero e = refl
-    by (suc n) e =
-        let back : suc n - 1 ≡ n = omega arith in
-        let lt : n < t.formed = omega (arith, e, ok.accepted_formed) in
-        let found = get_has t.recorded n (omega (arith, lt, ok.formed_recorded)) in
-        let at : slice_get units n ≡ Some (unit_at (0 + n) found.0) = unit_found 0 (take t.formed t.recorded) n found.0 (get_take t.recorded t.formed n lt ∙ found.1) in
-        let number : (0 + n) + 1 ≡ suc n = omega arith in
-        ap (λ (k : ℕ). past (slice_get units k)) back ∙ (ap past at ∙ number)
+past_is : (t : Terminal) (n : ℕ) → (n ≤ t.formed) × (t.formed ≤ length t.recorded) → past_accepted (units_from 0 (take t.formed t.recorded)) n ≡ n
+past_is t zero enough = refl
+past_is t (suc n) enough =
+    let found = get_has t.recorded n (omega (arith, enough)) in
+    let at : slice_get (units_from 0 (take t.formed t.recorded)) n ≡ Some (unit_at (0 + n) found.0) = unit_found 0 (take t.formed t.recorded) n found.0 (get_take t.recorded t.formed n (omega (arith, enough)) ∙ found.1) in
+    let number : (0 + n) + 1 ≡ suc n = omega arith in
+    ap past at ∙ number
 
 may_form : (t : Terminal) (platform : Platform) (up down : Wire) → IsNumbered t.recorded t.formed t.accepted → t.formed < length t.recorded
     → MayForm (world_of t platform up down) (next_unit (world_of t platform up down) (get_or t.recorded t.formed []))
 may_form t platform up down ok lt = record {
   above = below 0 (take t.formed t.recorded) (length units) (omega (arith, length_units 0 (take t.formed t.recorded)));
-  after_accepted = omega (arith, past_is t platform up down ok, count, ok.accepted_formed);
-  near = omega (arith, past_is t platform up down ok, count, lt, ok.limited);
+  after_accepted = omega (arith, past_is t t.accepted (ok.accepted_formed, ok.formed_recorded), count, ok.accepted_formed);
+  near = omega (arith, past_is t t.accepted (ok.accepted_formed, ok.formed_recorded), count, lt, ok.limited);
   unwrapped = omega (arith, count, lt, ok.limited);
   position = refl;
   next = (drop (t.formed + 1) t.recorded, sym (take-append-drop (t.formed + 1) t.recorded) ∙ ap (λ (list : List (List ℕ)). list ++ drop (t.formed + 1) t.recorded) (first_fixes t lt ∙ ap (λ (list : List (List ℕ)). list ++ get_or t.recorded t.formed [] ∷ []) (sym (units_fixes t ok))));
@@ -202,3 +194,41 @@ reports_next old new next done goes lt e leads = record {
 
 pub reports_last : (old new : World) (done : ℕ) → GoesOn old new done → length new.recorded ≤ done → new ≡ all_reported old (waiting old)
 reports_last old new done goes le = sym (ap (all_reported new) (drop_all done new.recorded le)) ∙ goes.same
+
+-- what a report did, seen from the world before it
+pub report_room : (now : World) (t : Terminal) (platform : Platform) (up down : Wire) → world_of t platform up down ≡ now → IsNumbered t.recorded t.formed t.accepted → length now.units < length now.recorded → t.formed < length t.recorded
+report_room now t platform up down is ok lt =
+    let there : length (units_from 0 (take t.formed t.recorded)) < length t.recorded = subst (λ (w : World). length w.units < length w.recorded) (sym is) lt in
+    omega (arith, there, units_length t ok)
+
+fix_next : (now : World) (t : Terminal) (platform : Platform) (up down : Wire) → world_of t platform up down ≡ now → IsNumbered t.recorded t.formed t.accepted
+    → reported (world_of t platform up down) (get_or t.recorded t.formed []) ≡ reported now (get_or now.recorded (length now.units) [])
+fix_next now t platform up down is ok =
+    ap (λ (n : ℕ). reported (world_of t platform up down) (get_or t.recorded n [])) (sym (units_length t ok))
+    ∙ ap (λ (w : World). reported w (get_or w.recorded (length w.units) [])) is
+
+pub report_done : (now : World) (t other : Terminal) (platform : Platform) (up wire down : Wire) → world_of t platform up down ≡ now → IsNumbered t.recorded t.formed t.accepted → length now.units < length now.recorded
+    → other ≡ record t { formed = t.formed + 1; just = None } → wire ≡ written up (frame_of_next t) → world_of other platform wire down ≡ reported now (get_or now.recorded (length now.units) [])
+report_done now t other platform up wire down is ok lt terminal sent =
+    ap (λ (held : Terminal). world_of held platform wire down) terminal
+    ∙ (ap (λ (line : Wire). world_of (record t { formed = t.formed + 1; just = None }) platform line down) sent
+    ∙ (reported_is t platform up down ok (report_room now t platform up down is ok lt) ∙ fix_next now t platform up down is ok))
+
+pub report_leads : (now : World) (t other : Terminal) (platform : Platform) (up wire down : Wire) → world_of t platform up down ≡ now → IsNumbered t.recorded t.formed t.accepted → length now.units < length now.recorded
+    → other ≡ record t { formed = t.formed + 1; just = None } → wire ≡ written up (frame_of_next t) → Leads now (world_of other platform wire down)
+report_leads now t other platform up wire down is ok lt terminal sent =
+    subst (Leads now) (sym (report_done now t other platform up wire down is ok lt terminal sent))
+    (subst (λ (w : World). Leads w (reported now (get_or now.recorded (length now.units) []))) is
+    (subst (Leads (world_of t platform up down)) (fix_next now t platform up down is ok) (leads_reported t platform up down ok (report_room now t platform up down is ok lt))))
+
+-- ---- a fix is recorded
+
+pub record_done : (now : World) (t other : Terminal) (platform : Platform) (up down : Wire) (fix octets : List ℕ) → world_of t platform up down ≡ now → t.formed ≤ length t.recorded
+    → other ≡ record t { recorded = t.recorded ++ fix ∷ []; just = None } → fix ≡ octets → world_of other platform up down ≡ after now (Record octets)
+record_done now t other platform up down fix octets is le terminal same =
+    ap (λ (held : Terminal). world_of held platform up down) terminal
+    ∙ (ap (λ (fixes : List (List ℕ)). record (world_of t platform up down) { recorded = t.recorded ++ fix ∷ []; units = units_from 0 fixes; just = None }) (take-append-le t.formed t.recorded (fix ∷ []) le)
+    ∙ (ap (λ (f : List ℕ). after (world_of t platform up down) (Record f)) same ∙ ap (λ (w : World). after w (Record octets)) is))
+
+pub record_leads : (now new : World) (fix octets : List ℕ) → IsFix fix → fix ≡ octets → new ≡ after now (Record octets) → Leads now new
+record_leads now new fix octets is same e = leads_one now new (Record octets) (subst IsFix same is) e

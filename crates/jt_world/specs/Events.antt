@@ -1,6 +1,6 @@
 -- The steps of the world: which may come, and what each leaves. To be believed. Neither end sees more than the octets that
 -- it took: the two meet in the line alone.
-use Rattle.std.specs.Prelude.{◌≡◌, ℕ, ◌+◌, ◌-◌, ◌<◌, ◌≤◌, Bool, true, false, ◌&&◌, ◌==◌, nat_lt, nat_le, if◌then◌else◌, IsTrue, List, [], ◌∷◌, ◌++◌, length, Option, Some, None, All, slice_get}
+use Rattle.std.specs.Prelude.{◌≡◌, ℕ, zero, suc, ◌+◌, ◌-◌, ◌<◌, ◌≤◌, Bool, true, false, ◌&&◌, ◌==◌, nat_lt, nat_le, if◌then◌else◌, IsTrue, List, [], ◌∷◌, ◌++◌, length, Option, Some, None, All, slice_get}
 use Rattle.std.specs.List.{filter, list_any, range_with_len}
 use Rattle.jt_position.specs.Fixes.{IsFix}
 use Rattle.jt_header.specs.declared.header.Header.{Header}
@@ -30,21 +30,21 @@ IsPrefixOf {A} xs ys = (rest : List A) × (ys ≡ xs ++ rest)
 
 -- ---- the terminal
 
--- one past the number of the last unit of these, 0 without one
 abbrev pub past : Option Row → ℕ
 past None = 0
 past (Some unit) = unit.number + 1
 
--- one past the number of the last accepted unit
-abbrev pub past_accepted : World → ℕ
-past_accepted w = past (if w.accepted == 0 then None else slice_get w.units (w.accepted - 1))
+-- one past the number of the last of so many accepted units, 0 without one
+abbrev pub past_accepted : List Row → ℕ → ℕ
+past_accepted units zero = 0
+past_accepted units (suc last) = past (slice_get units last)
 
 -- The unit carries the next fix that is in no unit. Its number is above those of all units, from the one after the last
 -- accepted unit's on, and so near that serials tell it from all that are not accepted. Below 65,536 numbers do not wrap.
 pub record MayForm (w : World) (unit : Row) : Type 0 where
   pub above : All (λ (older : Row). older.number < unit.number) w.units
-  pub after_accepted : past_accepted w ≤ unit.number
-  pub near : unit.number < past_accepted w + 32766
+  pub after_accepted : past_accepted w.units w.accepted ≤ unit.number
+  pub near : unit.number < past_accepted w.units w.accepted + 32766
   pub unwrapped : unit.number < 65536
   pub position : unit.id ≡ 0x0200
   pub next : IsPrefixOf (fixes_in w.units ++ unit.body ∷ []) w.recorded

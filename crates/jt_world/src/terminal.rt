@@ -153,6 +153,7 @@ impl Terminal {
         ensures ok { OnOk result (self.new ≡ record self.old { recorded = self.old.recorded ++ fix ∷ []; just = None }) }
         ensures err { OnErr result (self.new ≡ self.old) }
         ensures fix { IsFix fix }
+        ensures within { self.old.formed ≤ length self.old.recorded }
     {
         law_fixes();
         let _octets = fix.as_slice();
