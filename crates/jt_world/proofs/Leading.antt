@@ -1,12 +1,14 @@
 -- Steps one after another.
 use Rattle.std.proofs.Common.{ℕ, zero, suc, ◌+◌, ◌-◌, ◌<◌, ◌≤◌, ◌≡◌, List, [], ◌∷◌, ◌++◌, length, Option, Some, None, arith, refl, ap, sym, ◌∙◌, subst}
 use Rattle.std.specs.Prelude.{Bool, true, false, cond, IsTrue, if◌then◌else◌}
+use Rattle.std.proofs.lemmas.List.{length_push}
+use Rattle.jt_world.specs.declared.row.Row.{Row}
 use Rattle.jt_header.specs.declared.header.Header.{Header}
 use Rattle.jt_stream.specs.Unplaced.{Unplaced, Message, Fault}
 use Rattle.jt_world.specs.declared.acknowledgement.Acknowledgement.{Acknowledgement}
-use Rattle.jt_world.specs.Messages.{is_unit, acknowledgement_in}
-use Rattle.jt_world.specs.World.{World, Wire, moved, completed}
-use Rattle.jt_world.specs.Events.{Event, Up, Down, Accept, MayCome, after, seen, heard, told_of, unit_taken, moved_up, moved_down, may_accept}
+use Rattle.jt_world.specs.Messages.{is_unit, unit_of, acknowledgement_in}
+use Rattle.jt_world.specs.World.{World, Wire, moved, completed, empty}
+use Rattle.jt_world.specs.Events.{Event, Record, Form, Send, Up, Down, Accept, is_new, MayCome, after, seen, heard, told_of, unit_taken, moved_up, moved_down, may_accept}
 use Rattle.jt_world.specs.Reaching.{MayAll, after_all, Leads, Reached}
 use Rattle.jt_world.specs.Script.{taken_up, taken_down, accepting}
 
@@ -135,3 +137,45 @@ pub down_last : (old new : World) (count : ℕ) → GoesDown old new count count
 down_last old new count goes =
     let none : count - count ≡ 0 = omega arith in
     sym (ap (λ (n : ℕ). taken_down n new) none) ∙ goes.same
+
+-- ---- rows stay
+
+stored_longer : (rows : List Row) (unit : Row) (new : Bool) → length rows ≤ length (if new then rows ++ unit ∷ [] else rows)
+stored_longer rows unit true = omega (arith, length_push rows unit)
+stored_longer rows unit false = omega arith
+
+if_longer : (w : World) (header : Header) (body : List ℕ) (is : Bool) → length w.rows ≤ length (if is then unit_taken w header body else w).rows
+if_longer w header body true = stored_longer w.rows (unit_of header body) (is_new w.rows header.serial)
+if_longer w header body false = omega arith
+
+seen_longer : (w : World) (item : Option Unplaced) → length w.rows ≤ length (seen w item).rows
+seen_longer w None = omega arith
+seen_longer w (Some (Fault place reason)) = omega arith
+seen_longer w (Some (Message header body)) = if_longer w header body (is_unit header body)
+
+told_rows : (w : World) (ack : Option Acknowledgement) → length w.rows ≤ length (told_of w ack).rows
+told_rows w None = omega arith
+told_rows w (Some ack) = omega arith
+
+heard_longer : (w : World) (item : Option Unplaced) → length w.rows ≤ length (heard w item).rows
+heard_longer w None = omega arith
+heard_longer w (Some (Fault place reason)) = omega arith
+heard_longer w (Some (Message header body)) = told_rows w (acknowledgement_in header body)
+
+longer : (w : World) (event : Event) → length w.rows ≤ length (after w event).rows
+longer w (Record fix) = omega arith
+longer w (Form unit) = omega arith
+longer w (Send place) = omega arith
+longer w Up = seen_longer (moved_up w) (completed w.line.up)
+longer w Down = heard_longer (moved_down w) (completed w.line.down)
+longer w Accept = omega arith
+
+all_longer : (w : World) (events : List Event) → length w.rows ≤ length (after_all w events).rows
+all_longer w [] = omega arith
+all_longer w (event ∷ events) = omega (arith, longer w event, all_longer (after w event) events)
+
+pub rows_stay : (a b : World) → Leads a b → length a.rows ≤ length b.rows
+rows_stay a b leads = subst (λ (w : World). length a.rows ≤ length w.rows) leads.to (all_longer a leads.events)
+
+pub reached_on : (a b : World) → Leads a b → Reached a → Reached b
+reached_on a b leads reached = leads_both empty a b reached leads
