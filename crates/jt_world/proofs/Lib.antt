@@ -1,0 +1,9 @@
+mod View
+mod Lists
+mod Meaning
+mod Invariant
+mod Keeping
+mod Looking
+mod Numbered
+mod Leading
+mod Reporting
