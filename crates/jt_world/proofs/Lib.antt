@@ -7,3 +7,5 @@ mod Looking
 mod Numbered
 mod Leading
 mod Reporting
+mod OverSource
+mod Standing

@@ -5,3 +5,6 @@ pub mod Messages
 pub mod Reaching
 pub mod Script
 pub mod World
+pub mod Hearing
+pub mod Rehearsal
+pub mod Rehearsing

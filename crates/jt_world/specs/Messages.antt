@@ -1,6 +1,6 @@
 -- The messages of this world: positions, which carry a unit each, and the platform's acknowledgements. To be believed. The
 -- layouts and the header are the standard's.
-use Rattle.std.specs.Prelude.{◌≡◌, ℕ, ◌+◌, ◌%◌, ◌^◌, Bool, true, false, ◌&&◌, ◌||◌, ◌==◌, if◌then◌else◌, List, [], ◌∷◌, Option, Some, None, is_none, Result, Ok, Err}
+use Rattle.std.specs.Prelude.{ℕ, ◌%◌, Bool, false, ◌&&◌, ◌||◌, ◌==◌, if◌then◌else◌, List, [], ◌∷◌, Option, Some, None, is_none, Result, Ok, Err}
 use Rattle.jt_value.specs.declared.phone.Edition.TheVariants.{E2013}
 use Rattle.jt_value.specs.declared.phone.Phone.{Phone}
 use Rattle.jt_value.specs.declared.refusal.Refusal.{Refusal}
@@ -9,7 +9,6 @@ use Rattle.jt_header.specs.Content.{content_of}
 use Rattle.jt_header.specs.declared.header.Header.{Header}
 use Rattle.jt_layout.specs.Layout.{Body, byte, word, ◌▹◌, ended, body_as}
 use Rattle.jt_position.specs.Views.{is_position}
-use Rattle.jt_stream.specs.Unplaced.{Unplaced, Message, Fault}
 use Rattle.jt_world.specs.declared.row.Row.{Row}
 use Rattle.jt_world.specs.declared.acknowledgement.Acknowledgement.{Acknowledgement}
 

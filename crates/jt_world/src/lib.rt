@@ -4,7 +4,10 @@
 mod acknowledgement;
 mod laws;
 mod platform;
+mod rehearsing;
 mod row;
+mod script_run;
+mod script_text;
 mod terminal;
 mod wire;
 mod world;
@@ -12,6 +15,7 @@ mod world;
 pub use acknowledgement::Acknowledgement;
 pub use jt_script::WorldEvent;
 pub use laws::law_world;
+pub use rehearsing::{Rehearsed, rehearse};
 pub use row::Row;
 pub use world::{Counts, SmallEntry, World, WorldError};
 
