@@ -1,0 +1,4 @@
+pub mod Text
+pub mod Cutter
+pub mod ScriptLine
+pub mod Said

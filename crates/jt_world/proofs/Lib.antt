@@ -1,0 +1,11 @@
+mod View
+mod Lists
+mod Meaning
+mod Invariant
+mod Keeping
+mod Looking
+mod Numbered
+mod Leading
+mod Reporting
+mod OverSource
+mod Standing

@@ -1,0 +1,10 @@
+pub mod Claim
+pub mod Events
+pub mod Holding
+pub mod Messages
+pub mod Reaching
+pub mod Script
+pub mod World
+pub mod Hearing
+pub mod Rehearsal
+pub mod Rehearsing
