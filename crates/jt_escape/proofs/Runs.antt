@@ -10,7 +10,7 @@ use Rattle.jt_escape.specs.declared.splitter.Mode.TheVariants as modes
 use Rattle.jt_escape.specs.declared.splitter.Split.{Split}
 use Rattle.jt_escape.specs.declared.splitter.Split.TheVariants as split
 use Rattle.jt_escape.specs.Span.{Event, HasNoFlag, Events}
-use Rattle.jt_escape.specs.Scan.{State, start, after, events_of, run, scan, IsPlain, keeping_all, passing_all, Runs}
+use Rattle.jt_escape.specs.Scan.{State, start, after, events_of, run, scan, IsPlain, keeping_all, passing_all, opening, Runs}
 use Rattle.jt_escape.specs.Splitter.{StandsFor, Takes, IsSilent}
 use Rattle.jt_escape.proofs.Scanning.{at}
 use Rattle.jt_escape.proofs.Reading.{scan-append, run-append, events_held, events_only}
@@ -81,6 +81,16 @@ pub Runs-next : (a b c : State) (piece : List ℕ) (i : ℕ) (g : List Event) �
 Runs-next a b c piece i g within first reached read =
     subst (λ (octets : List ℕ). Runs a c octets g) (sym (take_more piece i 0 within)) (Runs-then a b c _ _ g first (Runs-one b c (get_or piece i 0) g reached read))
 
+-- the first octet, and then the front of what is left
+pub Runs-first : (a b c : State) (piece : List ℕ) (n : ℕ) (g : List Event) → 0 < length piece → b ≡ after a (get_or piece 0 0) → events_of a (get_or piece 0 0) ≡ []
+    → Runs b c (take n (slice_range piece 1 (length piece))) g → Runs a c (take (1 + n) piece) g
+Runs-first a b c piece n g some reached quiet second = Runs-onward a b c piece 1 n g (Runs-next a a b piece 0 [] some (Runs-none a) reached (sym quiet)) second
+
+-- a flag outside opens a frame
+pub opens_frame : (old : State) (octet : ℕ) → old.mode ≡ modes.Outside → octet ≡ 0x7E → (after old octet ≡ opening old) × (events_of old octet ≡ [])
+unfolding after events_of
+opens_frame old octet is flag = (rw (is, flag) refl, rw (is, flag) refl)
+
 -- ---- what a run is to the streams
 
 place_run : (state : State) (octets : List ℕ) → (run state octets).place ≡ state.place + length octets
@@ -133,8 +143,7 @@ keeps_run : (octets kept : List ℕ) (place opened : ℕ) → IsPlain octets →
 keeps_run [] kept place opened plain le = (moved modes.Inside kept (kept ++ []) place (place + 0) opened (sym (append-nil kept)) (omega arith), refl)
 keeps_run (octet ∷ octets) kept place opened plain le =
     let first = keeps_one octet kept place opened plain.0 plain.1 (omega (arith, le)) in
-    let others = keeps_run octets (kept ++ octet ∷ []) (place + 1) opened plain.2 (omega (arith, le, length-append kept (octet ∷ []))) in
-    (
+    let others = keeps_run octets (kept ++ octet ∷ []) (place + 1) opened plain.2 (omega (arith, le, length-append kept (octet ∷ []))) in (
       ap (λ (state : State). run state octets) first.0 ∙ others.0
           ∙ moved modes.Inside ((kept ++ octet ∷ []) ++ octets) (kept ++ octet ∷ octets) _ _ opened (append_assoc kept (octet ∷ []) octets) (omega arith),
       ap (λ (xs : List Event). xs ++ scan (after (at modes.Inside kept place opened) octet) octets) first.1
@@ -175,8 +184,7 @@ passes_run : (mode : Mode) → Passes mode → (octets kept : List ℕ) (place o
 passes_run mode passes [] kept place opened none = (moved mode kept kept place (place + 0) opened refl (omega arith), refl)
 passes_run mode passes (octet ∷ octets) kept place opened none =
     let first = passes octet kept place opened none.0 in
-    let others = passes_run mode passes octets kept (place + 1) opened none.1 in
-    (
+    let others = passes_run mode passes octets kept (place + 1) opened none.1 in (
       ap (λ (state : State). run state octets) first.0 ∙ others.0 ∙ moved mode kept kept _ _ opened refl (omega arith),
       ap (λ (xs : List Event). xs ++ scan (after (at mode kept place opened) octet) octets) first.1
           ∙ ap (λ (state : State). scan state octets) first.0 ∙ others.1,

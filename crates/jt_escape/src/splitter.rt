@@ -1,10 +1,10 @@
 //! Contents and refusals of a stream that comes octet by octet, or in pieces.
 
-ghost use Rattle.std.specs.Prelude.{◌≡◌, ◌⊎◌, ◌<◌, ◌≤◌, ◌+◌, ◌^◌, [], ◌∷◌, List, ℕ, length, take};
+ghost use Rattle.std.specs.Prelude.{◌≡◌, ◌⊎◌, ◌<◌, ◌≤◌, ◌+◌, ◌-◌, ◌^◌, [], ◌∷◌, List, ℕ, length, take};
 ghost use Rattle.jt_value.specs.declared.refusal.Refusal.{Refusal};
 ghost use Rattle.jt_escape.specs.declared.splitter.Mode.TheVariants.{Outside, Straying, Inside, Escaping, Skipping};
 ghost use Rattle.jt_escape.specs.Span.{Ends, HasNoFlag, refusal_at};
-ghost use Rattle.jt_escape.specs.Scan.{opening, passing, passing_all, keeping, keeping_all, after_in, after, events_in, events_of, end_in, IsPlain, Runs};
+ghost use Rattle.jt_escape.specs.Scan.{State, opening, passing, passing_all, keeping, keeping_all, after_in, after, events_in, events_of, end_in, IsPlain, Runs};
 ghost use Rattle.jt_escape.specs.Splitter.{StandsFor, Takes, IsSilent, told};
 
 use crate::framing::{CONTENT_LIMIT, ESCAPE, ESCAPE_CODE, FLAG, FLAG_CODE};
@@ -279,21 +279,74 @@ impl Splitter {
         run
     }
 
-    // Takes octets that complete nothing, whole runs at once, and answers how many.
-    fn take_run(&mut self, octets: &[u8]) -> usize
-        requires { self.old.place + length octets.now < 2 ^ 63 }
-        ensures within { result ≤ length octets.now }
-        ensures place { self.new.place ≡ self.old.place + result }
-        ensures runs { Runs self.old self.new (take result octets.now) [] }
+    // Takes the octet behind a run of so many that was taken, if there is one.
+    fn take_behind(&mut self, octets: &[u8], run: usize) -> (usize, Split)
+        requires run { run ≤ length octets.now }
+        requires place { self.old.place + (length octets.now - run) < 2 ^ 63 }
+        ensures some { 0 < length octets.now → 0 < result.0 }
+        ensures within { (run ≤ result.0) × (result.0 ≤ length octets.now) }
+        ensures place { self.new.place + run ≡ self.old.place + result.0 }
+        ensures runs { (before : State) → Runs before self.old (take run octets.now) []
+            → Runs before self.new (take result.0 octets.now) (told result.1 self.new) }
+        ensures content { result.1 ≡ Split.Content → 0 < length self.new.content }
     {
-        match self.mode {
-            Mode::Inside => self.keep_run(octets),
-            Mode::Straying | Mode::Skipping => self.pass_run(octets),
-            Mode::Outside | Mode::Escaping => 0,
+        if run == octets.len() {
+            return (run, Split::More);
         }
+        let split = self.step(octets[run]);
+        (run + 1, split)
     }
 
-    // Takes a run and the octet behind it.
+    // Takes octets of a content up to the first flag or escape, and it, or all.
+    fn take_content(&mut self, octets: &[u8]) -> (usize, Split)
+        requires some { 0 < length octets.now }
+        requires place { self.old.place + length octets.now < 2 ^ 63 }
+        requires mode { self.old.mode ≡ Inside }
+        ensures some { 0 < result.0 }
+        ensures within { result.0 ≤ length octets.now }
+        ensures place { self.new.place ≡ self.old.place + result.0 }
+        ensures runs { Runs self.old self.new (take result.0 octets.now) (told result.1 self.new) }
+        ensures content { result.1 ≡ Split.Content → 0 < length self.new.content }
+    {
+        let run = self.keep_run(octets);
+        self.take_behind(octets, run)
+    }
+
+    // Takes octets that are in no frame up to the next flag, and it, or all.
+    fn take_passed(&mut self, octets: &[u8]) -> (usize, Split)
+        requires some { 0 < length octets.now }
+        requires place { self.old.place + length octets.now < 2 ^ 63 }
+        requires mode { (self.old.mode ≡ Straying) ⊎ (self.old.mode ≡ Skipping) }
+        ensures some { 0 < result.0 }
+        ensures within { result.0 ≤ length octets.now }
+        ensures place { self.new.place ≡ self.old.place + result.0 }
+        ensures runs { Runs self.old self.new (take result.0 octets.now) (told result.1 self.new) }
+        ensures content { result.1 ≡ Split.Content → 0 < length self.new.content }
+    {
+        let run = self.pass_run(octets);
+        self.take_behind(octets, run)
+    }
+
+    // Takes a frame up to the first flag or escape in it, or one octet where none begins.
+    fn take_frame(&mut self, octets: &[u8]) -> (usize, Split)
+        requires some { 0 < length octets.now }
+        requires place { self.old.place + length octets.now < 2 ^ 63 }
+        requires mode { self.old.mode ≡ Outside }
+        ensures some { 0 < result.0 }
+        ensures within { result.0 ≤ length octets.now }
+        ensures place { self.new.place ≡ self.old.place + result.0 }
+        ensures runs { Runs self.old self.new (take result.0 octets.now) (told result.1 self.new) }
+        ensures content { result.1 ≡ Split.Content → 0 < length self.new.content }
+    {
+        if octets.len() == 1 || octets[0] != FLAG {
+            return self.take_behind(octets, 0);
+        }
+        self.open();
+        let (count, split) = self.take_content(&octets[1..]);
+        (1 + count, split)
+    }
+
+    // Takes octets up to the first that brings an event, or some of them, whole runs of plain octets at once.
     fn take_some(&mut self, octets: &[u8]) -> (usize, Split)
         requires some { 0 < length octets.now }
         requires place { self.old.place + length octets.now < 2 ^ 63 }
@@ -303,12 +356,12 @@ impl Splitter {
         ensures runs { Runs self.old self.new (take result.0 octets.now) (told result.1 self.new) }
         ensures content { result.1 ≡ Split.Content → 0 < length self.new.content }
     {
-        let run = self.take_run(octets);
-        if run == octets.len() {
-            return (run, Split::More);
+        match self.mode {
+            Mode::Outside => self.take_frame(octets),
+            Mode::Inside => self.take_content(octets),
+            Mode::Straying | Mode::Skipping => self.take_passed(octets),
+            Mode::Escaping => self.take_behind(octets, 0),
         }
-        let split = self.step(octets[run]);
-        (run + 1, split)
     }
 
     fn take_all(&mut self, piece: &[u8]) -> (usize, Split)

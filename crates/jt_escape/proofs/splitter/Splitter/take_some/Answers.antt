@@ -1,14 +1,5 @@
-use Rattle.std.proofs.Common.{arith}
-use Rattle.jt_escape.proofs.Taking.{place_next, content_some}
-use Rattle.jt_escape.proofs.Runs.{Runs-next}
+use Rattle.jt_escape.proofs.Runs.{Runs-none}
 use Rattle.jt_escape.proofs.splitter.Splitter.take_some.Goals as goal
 
-pub returns-clause-place : goal.returns-clause-place
-returns-clause-place c = omega (arith, place_next _ _ _ c.step-split.ensures.next)
-
-pub returns-clause-runs : goal.returns-clause-runs
-returns-clause-runs c =
-    Runs-next _ c.take_run-run.new.self _ c.args.octets.now c.take_run-run.result _ (omega arith) c.take_run-run.ensures.runs c.step-split.ensures.next c.step-split.ensures.told
-
-pub returns-clause-content : goal.returns-clause-content
-returns-clause-content c = content_some _ _ _ _ c.step-split.ensures.told
+pub returns-in-Escaping-clause-runs : goal.returns-in-Escaping-clause-runs
+returns-in-Escaping-clause-runs c = c.take_behind.ensures.runs _ (Runs-none _)
