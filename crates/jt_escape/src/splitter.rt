@@ -107,6 +107,7 @@ impl Splitter {
         }
     }
 
+    #[inline(always)]
     fn open(&mut self)
         requires { self.old.place < 2 ^ 63 }
         ensures { self.new ≡ opening self.old }
@@ -136,6 +137,7 @@ impl Splitter {
         self.place += 1;
     }
 
+    #[inline(always)]
     fn take_inside(&mut self, octet: u8) -> Split
         requires { self.old.place < 2 ^ 63 }
         ensures next { self.new ≡ after_in Inside self.old octet }
@@ -163,6 +165,7 @@ impl Splitter {
         }
     }
 
+    #[inline(never)]
     fn take_escaped(&mut self, octet: u8) -> Split
         requires place { self.old.place < 2 ^ 63 }
         requires mode { self.old.mode ≡ Escaping }
@@ -205,6 +208,7 @@ impl Splitter {
         }
     }
 
+    #[inline(always)]
     #[tactic(auto, unfolding(crate::specs::Scan::after, crate::specs::Scan::events_of))]
     fn step(&mut self, octet: u8) -> Split
         requires { self.old.place < 2 ^ 63 }
@@ -235,13 +239,14 @@ impl Splitter {
     }
 
     // Keeps content octets that stand for themselves.
+    #[inline(always)]
     fn keep_all(&mut self, octets: &[u8])
         requires place { self.old.place + length octets.now < 2 ^ 63 }
         requires room { length self.old.content + length octets.now ≤ 1045 }
         ensures { self.new ≡ keeping_all self.old octets.now }
     {
-        self.mode = Mode::Inside;
         self.content.try_extend_from_slice(octets).unwrap();
+        self.mode = Mode::Inside;
         self.place += octets.len() as u64;
     }
 
@@ -253,6 +258,7 @@ impl Splitter {
     }
 
     // Keeps content octets up to the first flag or escape, as far as there is room.
+    #[inline(always)]
     fn keep_run(&mut self, octets: &[u8]) -> usize
         requires place { self.old.place + length octets.now < 2 ^ 63 }
         requires mode { self.old.mode ≡ Inside }
@@ -280,6 +286,7 @@ impl Splitter {
     }
 
     // Takes the octet behind a run of so many that was taken, if there is one.
+    #[inline(always)]
     fn take_behind(&mut self, octets: &[u8], run: usize) -> (usize, Split)
         requires run { run ≤ length octets.now }
         requires place { self.old.place + (length octets.now - run) < 2 ^ 63 }
@@ -298,6 +305,7 @@ impl Splitter {
     }
 
     // Takes octets of a content up to the first flag or escape, and it, or all.
+    #[inline(always)]
     fn take_content(&mut self, octets: &[u8]) -> (usize, Split)
         requires some { 0 < length octets.now }
         requires place { self.old.place + length octets.now < 2 ^ 63 }
@@ -313,6 +321,7 @@ impl Splitter {
     }
 
     // Takes octets that are in no frame up to the next flag, and it, or all.
+    #[inline(never)]
     fn take_passed(&mut self, octets: &[u8]) -> (usize, Split)
         requires some { 0 < length octets.now }
         requires place { self.old.place + length octets.now < 2 ^ 63 }
@@ -328,6 +337,7 @@ impl Splitter {
     }
 
     // Takes a frame up to the first flag or escape in it, or one octet where none begins.
+    #[inline(always)]
     fn take_frame(&mut self, octets: &[u8]) -> (usize, Split)
         requires some { 0 < length octets.now }
         requires place { self.old.place + length octets.now < 2 ^ 63 }
@@ -347,6 +357,7 @@ impl Splitter {
     }
 
     // Takes octets up to the first that brings an event, or some of them, whole runs of plain octets at once.
+    #[inline(always)]
     fn take_some(&mut self, octets: &[u8]) -> (usize, Split)
         requires some { 0 < length octets.now }
         requires place { self.old.place + length octets.now < 2 ^ 63 }
