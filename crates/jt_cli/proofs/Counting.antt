@@ -30,6 +30,18 @@ pub entries_of-more : (before octets : List ℕ) (gained : List Item) → all_it
 unfolding entries_of
 entries_of-more before octets gained more = ap (map entry_of) more ∙ map-append entry_of (all_items before) gained
 
+-- the entry of what a stream tells
+pub told_entry : (told_item : StreamItem) (state : State) → option_to_list (entry_told told_item state) ≡ map entry_of (told told_item state)
+told_entry answer.More state = refl
+told_entry answer.Frame state = refl
+told_entry (answer.Refused refusal) state = refl
+
+-- a frame whose body is judged
+pub judged_told : (place : ℕ) (header : Header) (body : List ℕ) (read : Result Message Refusal) (judgement : Option Refusal) → judgement ≡ result_err read
+    → judged (Some (frame_entry place header body read)) ≡ judged_at place judgement
+judged_told place header body (Ok message) judgement e = rw e refl
+judged_told place header body (Err refusal) judgement e = rw e refl
+
 -- octets that gained items were taken, and the entry of these was counted
 pub brings : ((stream : List ℕ) (list : List Item) → Items stream list → list ≡ all_items stream)
     → (old mid new : Tally) (octets : List ℕ) (gained : List Item) (entry : Option Entry)
