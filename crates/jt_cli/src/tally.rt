@@ -2,6 +2,7 @@
 
 ghost use Rattle.std.specs.Prelude.{◌≡◌, ◌<◌, ◌≤◌, ◌+◌, ◌^◌, [], ◌∷◌, List, ℕ, Option, length, take, map, IfOk, IsTrue, option_to_list};
 ghost use Rattle.jt_escape.specs.Scan.{end_of_stream};
+ghost use Rattle.jt_stream.specs.Item.{placed};
 ghost use Rattle.jt_stream.specs.Stream.{told};
 ghost use Rattle.jt_cli.specs.Entry.{entry_of, first_refusal};
 ghost use Rattle.jt_cli.specs.Reporting.{Counts, Brings, Checks, IsCounted, entry_told, judged};
@@ -34,6 +35,17 @@ impl Model for Tally {
     ghost invariant = { λ tally. tally.frames + tally.refused ≤ tally.stream.splitter.place };
 }
 
+// What is refused in the content of the frame that opens at this place.
+fn placed(place: u64, refusal: Refusal) -> Refusal
+    ensures { result ≡ placed place refusal }
+{
+    Refusal {
+        at: place,
+        inside: refusal.inside,
+        why: refusal.why,
+    }
+}
+
 // The entry of the frame that the stream just told.
 fn frame_entry(alloc: Global, stream: &Stream) -> Result<Option<Entry>, Memory>
     requires { IsTrue stream.now.found }
@@ -49,11 +61,7 @@ fn frame_entry(alloc: Global, stream: &Stream) -> Result<Option<Entry>, Memory>
             message,
             body_len: body.len() as u16,
         })),
-        Err(CodecError::Refused(refusal)) => Ok(Some(Entry::Refused(Refusal {
-            at: place,
-            inside: refusal.inside,
-            why: refusal.why,
-        }))),
+        Err(CodecError::Refused(refusal)) => Ok(Some(Entry::Refused(placed(place, refusal)))),
         Err(CodecError::Memory) => Err(Memory),
     }
 }
@@ -80,11 +88,7 @@ fn judged_frame(alloc: Global, stream: &Stream) -> Result<Judged, Memory>
     };
     match judge_message(alloc, &header, body)? {
         None => Ok(Judged::Frame),
-        Some(refusal) => Ok(Judged::Refused(Refusal {
-            at: place,
-            inside: refusal.inside,
-            why: refusal.why,
-        })),
+        Some(refusal) => Ok(Judged::Refused(placed(place, refusal))),
     }
 }
 
