@@ -45,16 +45,6 @@ told_entry answer.More state = refl
 told_entry answer.Frame state = refl
 told_entry (answer.Refused refusal) state = refl
 
--- a frame whose body is judged
-pub judged_good : (place : ℕ) (header : Header) (body : List ℕ) (read : Result Message Refusal) → None ≡ result_err read → judgement.Frame ≡ judged (Some (frame_entry place header body read))
-judged_good place header body (Ok message) e = refl
-judged_good place header body (Err refusal) e = absurd cc
-
-pub judged_refused : (place : ℕ) (header : Header) (body : List ℕ) (read : Result Message Refusal) (refusal : Refusal) → Some refusal ≡ result_err read
-    → judgement.Refused (placed place refusal) ≡ judged (Some (frame_entry place header body read))
-judged_refused place header body (Ok message) refusal e = absurd cc
-judged_refused place header body (Err other) refusal e = cc
-
 -- octets that gained items were taken, and the entry of these was counted
 pub brings : ((stream : List ℕ) (list : List Item) → Items stream list → list ≡ all_items stream)
     → (old mid new : Tally) (octets : List ℕ) (gained : List Item) (entry : Option Entry)
