@@ -17,7 +17,7 @@ use Rattle.jt_cli.specs.declared.judged.Judged.{Judged}
 use Rattle.jt_cli.specs.declared.judged.Judged.TheVariants as judgement
 use Rattle.jt_cli.specs.declared.closing.Closing.{Closing}
 use Rattle.jt_cli.specs.declared.status.Status.{Status}
-use Rattle.jt_cli.specs.Line.{refusal_line}
+use Rattle.jt_text.specs.Refusals.{refusal_line}
 use Rattle.jt_cli.specs.Report.{printed, report_text, closed_entries}
 use Rattle.jt_cli.specs.Entry.{lines, entry_of, entries_of, frames, refusals, first_refusal}
 

@@ -1,6 +1,6 @@
 use Rattle.std.proofs.Common.{append_assoc}
-use Rattle.jt_cli.specs.Line.{refusal_line}
-use Rattle.jt_cli.proofs.lines.push_refusal_line.Goals as goal
+use Rattle.jt_text.specs.Refusals.{refusal_line}
+use Rattle.jt_text.proofs.refusal.push_refusal_line.Goals as goal
 
 pub returns : goal.returns
 unfolding refusal_line
