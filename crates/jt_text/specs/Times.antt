@@ -1,8 +1,8 @@
 -- The times of positions: this project's texts. To be believed.
-use Rattle.std.specs.Prelude.{ℕ, ◌+◌, ◌/◌, ◌%◌, Bool, ◌&&◌, nat_le, if◌then◌else◌, pos, List, [], ◌∷◌, ◌++◌, slice_index, codes}
+use Rattle.std.specs.Prelude.{ℕ, ◌+◌, ◌/◌, ◌%◌, Bool, ◌&&◌, nat_le, if◌then◌else◌, pos, List, [], ◌∷◌, ◌++◌, slice_index, IsTrue, ◌↔◌, codes}
 use Rattle.hex.specs.Hex.{encode_lower}
 use Rattle.jiff.specs.Words.{days_in_month}
-use Rattle.jt_position.specs.Moments.{part}
+use Rattle.jt_position.specs.Moments.{NamesMoment, part}
 use Rattle.jt_text.specs.Values.{byte_digits}
 
 -- both digits of octet i are at most 9
@@ -30,6 +30,10 @@ is_time hour minute second = nat_le hour 23 && (nat_le minute 59 && nat_le secon
 unfoldable pub names_moment : List ℕ → Bool
 names_moment time =
     are_decimal time && (is_date (part time 0) (part time 1) (part time 2) && is_time (part time 3) (part time 4) (part time 5))
+
+-- the test and `NamesMoment` say the same
+abbrev pub TimesAreMoments : Type 0
+TimesAreMoments = (time : List ℕ) → IsTrue (names_moment time) ↔ NamesMoment time
 
 -- the two digits of octet i
 abbrev pub digits_at : List ℕ → ℕ → List ℕ

@@ -3,10 +3,12 @@
 
 mod fields;
 mod frame;
+mod laws;
 mod refusal;
 mod values;
 
 pub use frame::{push_view_line, view_line};
+pub use laws::law_of_times;
 pub use refusal::{push_refusal_line, refusal_line};
 
 #[cfg(test)]
