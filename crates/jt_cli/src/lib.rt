@@ -6,6 +6,7 @@ mod command;
 mod entry;
 mod hex_laws;
 mod hex_reader;
+mod judged;
 mod lines;
 mod reporter;
 mod running;

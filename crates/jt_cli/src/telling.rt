@@ -1,8 +1,8 @@
 //! What is printed of a stream, as it comes.
 
 ghost use Rattle.std.specs.Prelude.{◌≡◌, ◌≢◌, ◌⊎◌, ◌<◌, ◌≤◌, ◌+◌, ◌^◌, ◌++◌, ◌==◌, if◌then◌else◌, length, take, string_bytes, IfOk, OnOk, option_to_list};
-ghost use Rattle.jt_cli.specs.Entry.{lines, end_entries, refusals, first_refusal};
-ghost use Rattle.jt_cli.specs.Reporting.{Views, Checks, Tells, TellsOn, Closes};
+ghost use Rattle.jt_cli.specs.Entry.{lines, end_entries, refusals};
+ghost use Rattle.jt_cli.specs.Reporting.{Views, Tells, TellsOn, Closes};
 
 use crate::closing::Closing;
 use crate::command::Report;
@@ -55,32 +55,6 @@ fn view(alloc: Global, tally: &mut Tally, octets: &[u8], text: &mut String) -> R
     Ok(())
 }
 
-fn refusal_in(entry: &Option<Entry>) -> Option<Refusal>
-    ensures { result ≡ first_refusal (option_to_list entry.now) }
-{
-    match entry {
-        Some(Entry::Refused(refusal)) => Some(*refusal),
-        Some(Entry::Frame { .. }) | None => None,
-    }
-}
-
-// Takes octets up to the first that brings an entry, or all. The answer is how many were taken, and the refusal, if the
-// entry is one.
-fn check_next(
-    alloc: Global,
-    tally: &mut Tally,
-    piece: &[u8],
-) -> Result<(usize, Option<Refusal>), Memory>
-    requires some { 0 < length piece.now }
-    requires place { tally.old.stream.splitter.place + length piece.now < 2 ^ 63 }
-    ensures some { IfOk result (λ x. (0 < x.0) × (x.0 ≤ length piece.now)) }
-    ensures place { IfOk result (λ x. tally.new.stream.splitter.place ≡ tally.old.stream.splitter.place + x.0) }
-    ensures checks { IfOk result (λ x. Checks tally.old tally.new (take x.0 piece.now) x.1) }
-{
-    let (count, entry) = tally.next(alloc, piece)?;
-    Ok((count, refusal_in(&entry)))
-}
-
 // Takes octets up to the first refusal, and puts its line: then the answer is true.
 fn check(alloc: Global, tally: &mut Tally, octets: &[u8], text: &mut String) -> Result<bool, Memory>
     requires { tally.old.stream.splitter.place + length octets.now < 2 ^ 63 }
@@ -90,7 +64,7 @@ fn check(alloc: Global, tally: &mut Tally, octets: &[u8], text: &mut String) -> 
     law_all_items();
     let mut at = 0;
     while at < octets.len() {
-        let (count, refusal) = check_next(alloc, tally, &octets[at..])?;
+        let (count, refusal) = tally.judge(alloc, &octets[at..])?;
         at += count;
         match refusal {
             Some(refusal) => {

@@ -44,7 +44,7 @@ fn empty_in(octets: &[u8]) -> Result<(), CodecError>
 }
 
 // A body without fields.
-fn read_empty(octets: &[u8]) -> Result<(), CodecError>
+pub(crate) fn read_empty(octets: &[u8]) -> Result<(), CodecError>
     ensures { Answers empty octets.now result }
 {
     empty_in(octets)
