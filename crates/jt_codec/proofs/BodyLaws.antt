@@ -1,12 +1,12 @@
 -- The law of the body table.
-use Rattle.std.proofs.Common.{◌≡◌, ℕ, ◌≤◌, Bool, true, false, cond, eqb, List, length, Option, Some, None, Result, Ok, Err, refl, sym, ap, subst, ◌∙◌, arith}
+use Rattle.std.proofs.Common.{◌≡◌, ℕ, Bool, true, false, cond, eqb, List, Option, Some, None, Result, Ok, Err, refl, sym, ap, subst, ◌∙◌, arith}
 use Rattle.std.specs.Prelude.{◌&&◌, IsSomeAnd, IfOk, IfErr}
 use Rattle.std.proofs.lemmas.Bool.{and_parts, eqb-true, eq-eqb}
 use Rattle.jt_value.specs.declared.phone.Edition.{Edition}
 use Rattle.jt_value.specs.declared.refusal.Refusal.{Refusal}
 use Rattle.jt_value.specs.declared.refusal.CodecError.{CodecError}
 use Rattle.jt_value.specs.declared.refusal.CodecError.TheVariants as errors
-use Rattle.jt_layout.specs.Layout.{Body, Fills, empty, rest, if_body, body_case}
+use Rattle.jt_layout.specs.Layout.{Body, Fills, if_body, body_case}
 use Rattle.jt_layout.specs.Answer.{Answers}
 use Rattle.jt_layout.proofs.Laws.{IsBody, byte_law, word_law, then_law, then_body_law, ended_law, body_as_law, empty_law, rest_law, case_law}
 use Rattle.jt_position.specs.declared.position.Position.{Position}
