@@ -7,6 +7,7 @@ use Rattle.jt_text.specs.Values.{octets_text, word_digits}
 use Rattle.jt_text.specs.OrderFields.{track_fields, text_fields, control_fields}
 use Rattle.jt_text.specs.ParamFields.{params_fields, query_some_fields}
 use Rattle.jt_text.specs.PositionFields.{position_fields, batch_fields}
+use Rattle.jt_text.specs.RegionFields.{circles_fields, rectangles_fields, polygon_fields, route_fields, deletion_fields}
 use Rattle.jt_text.specs.RegistrationFields.{register_fields, register_reply_fields, auth_fields}
 
 -- what is answered, and the result
@@ -32,5 +33,10 @@ fields_of (message.Track interval validity) = track_fields interval validity
 fields_of (message.Batch batch) = batch_fields batch
 fields_of (message.Text flag kind text) = text_fields flag kind text
 fields_of (message.Control command text) = control_fields command text
+fields_of (message.Circles setting list) = circles_fields setting list
+fields_of (message.Rectangles setting list) = rectangles_fields setting list
+fields_of (message.Polygon polygon) = polygon_fields polygon
+fields_of (message.Route route) = route_fields route
+fields_of (message.Delete kind ids) = deletion_fields ids
 fields_of (message.Opaque id body) = codes " body-octets=" ++ octets_text body
 fields_of (message.Part octets) = codes " part=" ++ octets_text octets

@@ -5,6 +5,7 @@ pub mod OrderFields
 pub mod ParamFields
 pub mod PositionFields
 pub mod Refusals
+pub mod RegionFields
 pub mod RegistrationFields
 pub mod Times
 pub mod Values

@@ -1,6 +1,8 @@
 -- The names of messages: this project's texts. To be believed.
 use Rattle.std.specs.Prelude.{ℕ, ◌==◌, if◌then◌else◌, List, codes}
 use Rattle.jt_header.specs.declared.header.Header.{Header}
+use Rattle.jt_regions.specs.declared.change.RegionKind.{RegionKind}
+use Rattle.jt_regions.specs.declared.change.RegionKind.TheVariants as kind
 use Rattle.jt_codec.specs.declared.message.Message.{Message}
 use Rattle.jt_codec.specs.declared.message.Message.TheVariants as message
 
@@ -35,6 +37,13 @@ id_name id =
     else if id == 0x8607 then codes "delete-routes"
     else codes "opaque"
 
+-- the name of the deletion of a kind
+abbrev pub deletion_name : RegionKind → List ℕ
+deletion_name kind.Circle = codes "delete-circles"
+deletion_name kind.Rectangle = codes "delete-rectangles"
+deletion_name kind.Polygon = codes "delete-polygons"
+deletion_name kind.Route = codes "delete-routes"
+
 -- a message's name; a packet has that of its id
 abbrev pub name_of : Header → Message → List ℕ
 name_of header (message.TerminalAck _ _ _) = codes "terminal-ack"
@@ -55,5 +64,10 @@ name_of header (message.Track _ _) = codes "track"
 name_of header (message.Batch _) = codes "batch"
 name_of header (message.Text _ _ _) = codes "text"
 name_of header (message.Control _ _) = codes "control"
+name_of header (message.Circles _ _) = codes "circles"
+name_of header (message.Rectangles _ _) = codes "rectangles"
+name_of header (message.Polygon _) = codes "polygon"
+name_of header (message.Route _) = codes "route"
+name_of header (message.Delete kind _) = deletion_name kind
 name_of header (message.Opaque _ _) = codes "opaque"
 name_of header (message.Part _) = id_name header.id

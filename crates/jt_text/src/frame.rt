@@ -2,12 +2,13 @@
 
 ghost use Rattle.std.specs.Prelude.{◌≡◌, ◌++◌, string_bytes, IfOk, OnOk};
 ghost use Rattle.jt_text.specs.Frames.{bit15_text, frame_start, header_fields, packet_text, version_text, view_line, year};
-ghost use Rattle.jt_text.specs.Names.{id_name, name_of};
+ghost use Rattle.jt_text.specs.Names.{deletion_name, id_name, name_of};
 
 use crate::fields::push_fields;
 use crate::values::{push_digits, push_number};
 use jt_codec::Message;
 use jt_header::{Header, Packet};
+use jt_regions::RegionKind;
 use jt_value::{Edition, Memory, Octets};
 use std::alloc::{AllocError, Global};
 use std::fmt::Write;
@@ -48,6 +49,17 @@ fn id_name(id: u16) -> &'static str
     }
 }
 
+fn deletion_name(kind: RegionKind) -> &'static str
+    ensures { result.now ≡ deletion_name kind }
+{
+    match kind {
+        RegionKind::Circle => "delete-circles",
+        RegionKind::Rectangle => "delete-rectangles",
+        RegionKind::Polygon => "delete-polygons",
+        RegionKind::Route => "delete-routes",
+    }
+}
+
 fn name(header: &Header, message: &Message) -> &'static str
     ensures { result.now ≡ name_of header.now message.now }
 {
@@ -70,6 +82,11 @@ fn name(header: &Header, message: &Message) -> &'static str
         Message::Batch(_) => "batch",
         Message::Text { .. } => "text",
         Message::Control { .. } => "control",
+        Message::Circles { .. } => "circles",
+        Message::Rectangles { .. } => "rectangles",
+        Message::Polygon(_) => "polygon",
+        Message::Route(_) => "route",
+        Message::Delete { kind, .. } => deletion_name(*kind),
         Message::Opaque { .. } => "opaque",
         Message::Part(_) => id_name(header.id),
     }

@@ -178,6 +178,51 @@ fn tracks_texts_and_orders(rt: HostRuntime) -> Result<(), Fail> {
 }
 
 #[test]
+fn regions_and_their_deletion(rt: HostRuntime) -> Result<(), Fail> {
+    let alloc = rt.alloc();
+    for (id, body, written) in [
+        (
+            0x8600,
+            b"\x01\x01\0\0\0\x09\0\0\x01\x31\x2d\0\x06\xbc\x3e\x40\0\0\0\x64".as_slice(),
+            "7 2013 0x8600 circles phone=013912345678 serial=3 body=20 setting=1 count=1 circle=9:0x0000:20000000:113000000:100:-:-:-:-\n",
+        ),
+        (
+            0x8602,
+            b"\0\x01\0\0\0\x07\0\0\x01\x31\x2d\x0a\x06\xbc\x3e\x40\x01\x31\x2d\0\x06\xbc\x3e\x4a".as_slice(),
+            "7 2013 0x8602 rectangles phone=013912345678 serial=3 body=24 setting=0 count=1 rectangle=7:0x0000:20000010:113000000:20000000:113000010:-:-:-:-\n",
+        ),
+        (
+            0x8604,
+            b"\0\0\0\x09\0\0\0\x03\0\0\0\0\x06\xbc\x3e\x36\0\0\0\x0a\x06\xbc\x3e\x4a\0\0\0\0\x06\xbc\x3e\x4a".as_slice(),
+            "7 2013 0x8604 polygon phone=013912345678 serial=3 body=32 polygon=9:0x0000:-:-:-:- count=3 vertex=0:112999990 vertex=10:113000010 vertex=0:113000010\n",
+        ),
+        (
+            0x8604,
+            b"\0\0\0\x09\x80\x02\0\x50\x05\0\0".as_slice(),
+            "7 2013 0x8604 polygon phone=013912345678 serial=3 body=11 polygon=9:0x8002:-:-:80:5 count=0\n",
+        ),
+        (
+            0x8606,
+            b"\0\0\0\x05\0\x01\x24\x01\x01\0\0\0\x24\x01\x02\0\0\0\0\x01\0\0\0\x06\0\0\0\x07\x01\x31\x2d\0\x06\xbc\x3e\x40\x0a\x03\0\x3c\0\x1e\0\x50\x05".as_slice(),
+            "7 2013 0x8606 route phone=013912345678 serial=3 body=45 route=5:0x0001:240101000000:240102000000 count=1 point=6:7:20000000:113000000:10:0x03:60:30:80:5\n",
+        ),
+        (
+            0x8603,
+            b"\0".as_slice(),
+            "7 2013 0x8603 delete-rectangles phone=013912345678 serial=3 body=1 count=0\n",
+        ),
+        (
+            0x8607,
+            b"\x02\0\0\0\x09\0\0\x01\0".as_slice(),
+            "7 2013 0x8607 delete-routes phone=013912345678 serial=3 body=9 count=2 id=9 id=256\n",
+        ),
+    ] {
+        expect(&rt, alloc, id, body, written)?;
+    }
+    Ok(())
+}
+
+#[test]
 fn an_authentication_with_a_tail(rt: HostRuntime) -> Result<(), Fail> {
     let alloc = rt.alloc();
     let auth = Auth {

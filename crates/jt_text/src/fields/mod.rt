@@ -3,6 +3,7 @@
 mod orders;
 mod params;
 mod position;
+mod regions;
 mod registration;
 
 ghost use Rattle.std.specs.Prelude.{◌≡◌, ◌++◌, string_bytes, OnOk};
@@ -16,6 +17,7 @@ use jt_position::Position;
 use orders::{push_control, push_text, push_track};
 use params::{push_params, push_query_some};
 use position::{push_batch, push_position};
+use regions::{push_circles, push_deletion, push_polygon, push_rectangles, push_route};
 use registration::{push_auth, push_register, push_register_reply};
 use std::alloc::AllocError;
 
@@ -73,6 +75,11 @@ pub(crate) fn push_fields(text: &mut String, message: &Message) -> Result<(), Al
             command,
             text: octets,
         } => push_control(text, *command, octets.as_slice()),
+        Message::Circles { setting, list } => push_circles(text, *setting, list.as_slice()),
+        Message::Rectangles { setting, list } => push_rectangles(text, *setting, list.as_slice()),
+        Message::Polygon(polygon) => push_polygon(text, polygon),
+        Message::Route(route) => push_route(text, route),
+        Message::Delete { ids, .. } => push_deletion(text, ids.as_slice()),
         Message::Opaque { body, .. } => push_octets(text, " body-octets=", body.as_slice()),
         Message::Part(octets) => push_octets(text, " part=", octets.as_slice()),
     }

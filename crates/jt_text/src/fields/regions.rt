@@ -1,0 +1,208 @@
+//! The fields of regions and their deletion.
+
+ghost use Rattle.std.specs.Prelude.{◌≡◌, ℕ, List, ◌++◌, codes, string_bytes, OnOk};
+ghost use Rattle.std.specs.List.{flat_map};
+ghost use Rattle.jt_text.specs.RegionFields.{circles_fields, deletion_fields, limit_text, point_place, polygon_fields, rectangles_fields, region_start, route_fields, thresholds_text, times_text};
+
+use crate::values::{push_digits, push_number};
+use jt_regions::{Circle, Limit, Polygon, Rectangle, Route, RoutePoint, Vertex};
+use std::alloc::AllocError;
+
+/// What a list of a message has a text for.
+trait Shown {
+    ghost shown: { Self → List ℕ };
+
+    /// Puts the text of the value at the end of a text, behind a blank.
+    fn push_to(&self, text: &mut String) -> Result<(), AllocError>
+        ensures { OnOk result (string_bytes text.new ≡ string_bytes text.old ++ shown self.now) };
+}
+
+fn push_all<T: Shown>(text: &mut String, list: &[T]) -> Result<(), AllocError>
+    ensures { OnOk result (string_bytes text.new ≡ string_bytes text.old ++ flat_map T.shown list.now) }
+{
+    for item in list {
+        item.push_to(text)?;
+    }
+    Ok(())
+}
+
+#[tactic(auto, using(std::proofs::Common::append_assoc))]
+fn push_times(text: &mut String, times: &Option<[u8; 12]>) -> Result<(), AllocError>
+    ensures { OnOk result (string_bytes text.new ≡ string_bytes text.old ++ times_text times.now) }
+{
+    match times {
+        None => text.push_str(":-:-"),
+        Some(times) => {
+            push_digits(text, ":", &times[..6])?;
+            push_digits(text, ":", &times[6..])
+        }
+    }
+}
+
+#[tactic(auto, using(std::proofs::Common::append_assoc))]
+fn push_limit(text: &mut String, limit: &Option<Limit>) -> Result<(), AllocError>
+    ensures { OnOk result (string_bytes text.new ≡ string_bytes text.old ++ limit_text limit.now) }
+{
+    match limit {
+        None => text.push_str(":-:-"),
+        Some(limit) => {
+            push_number(text, ":", limit.speed as u64)?;
+            push_number(text, ":", limit.duration as u64)
+        }
+    }
+}
+
+#[tactic(auto, using(std::proofs::Common::append_assoc))]
+fn push_thresholds(text: &mut String, thresholds: &Option<(u16, u16)>) -> Result<(), AllocError>
+    ensures { OnOk result (string_bytes text.new ≡ string_bytes text.old ++ thresholds_text thresholds.now) }
+{
+    match thresholds {
+        None => text.push_str(":-:-"),
+        Some((longest, shortest)) => {
+            push_number(text, ":", *longest as u64)?;
+            push_number(text, ":", *shortest as u64)
+        }
+    }
+}
+
+// The id and the attribute of a region behind a name.
+#[tactic(auto, using(std::proofs::Common::append_assoc), unfolding(crate::specs::RegionFields::region_start))]
+fn push_start(text: &mut String, name: &str, id: u32, attribute: u16) -> Result<(), AllocError>
+    ensures { OnOk result (string_bytes text.new ≡ string_bytes text.old ++ (name.now ++ region_start id attribute)) }
+{
+    push_number(text, name, id as u64)?;
+    push_digits(text, ":0x", attribute.to_be_bytes().as_slice())
+}
+
+impl Shown for Circle {
+    ghost use Rattle.jt_text.specs.RegionFields.{circle_text};
+
+    ghost shown = { circle_text };
+
+    #[tactic(auto, using(std::proofs::Common::append_assoc), unfolding(crate::specs::RegionFields::circle_text))]
+    fn push_to(&self, text: &mut String) -> Result<(), AllocError> {
+        push_start(text, " circle=", self.id, self.attribute)?;
+        push_number(text, ":", self.lat as u64)?;
+        push_number(text, ":", self.lon as u64)?;
+        push_number(text, ":", self.radius as u64)?;
+        push_times(text, &self.times)?;
+        push_limit(text, &self.limit)?;
+        Ok(())
+    }
+}
+
+impl Shown for Rectangle {
+    ghost use Rattle.jt_text.specs.RegionFields.{rectangle_text};
+
+    ghost shown = { rectangle_text };
+
+    #[tactic(auto, using(std::proofs::Common::append_assoc), unfolding(crate::specs::RegionFields::rectangle_text))]
+    fn push_to(&self, text: &mut String) -> Result<(), AllocError> {
+        push_start(text, " rectangle=", self.id, self.attribute)?;
+        push_number(text, ":", self.top as u64)?;
+        push_number(text, ":", self.left as u64)?;
+        push_number(text, ":", self.bottom as u64)?;
+        push_number(text, ":", self.right as u64)?;
+        push_times(text, &self.times)?;
+        push_limit(text, &self.limit)?;
+        Ok(())
+    }
+}
+
+impl Shown for Vertex {
+    ghost use Rattle.jt_text.specs.RegionFields.{vertex_text};
+
+    ghost shown = { vertex_text };
+
+    #[tactic(auto, using(std::proofs::Common::append_assoc), unfolding(crate::specs::RegionFields::vertex_text))]
+    fn push_to(&self, text: &mut String) -> Result<(), AllocError> {
+        push_number(text, " vertex=", self.lat as u64)?;
+        push_number(text, ":", self.lon as u64)
+    }
+}
+
+// The ids of a point and of its segment, and its place.
+#[tactic(auto, using(std::proofs::Common::append_assoc), unfolding(crate::specs::RegionFields::point_place))]
+fn push_point_place(text: &mut String, point: &RoutePoint) -> Result<(), AllocError>
+    ensures { OnOk result (string_bytes text.new ≡ string_bytes text.old ++ point_place point.now) }
+{
+    push_number(text, " point=", point.point as u64)?;
+    push_number(text, ":", point.segment as u64)?;
+    push_number(text, ":", point.lat as u64)?;
+    push_number(text, ":", point.lon as u64)?;
+    Ok(())
+}
+
+impl Shown for RoutePoint {
+    ghost use Rattle.jt_text.specs.RegionFields.{point_text};
+
+    ghost shown = { point_text };
+
+    #[tactic(auto, using(std::proofs::Common::append_assoc), unfolding(crate::specs::RegionFields::point_text))]
+    fn push_to(&self, text: &mut String) -> Result<(), AllocError> {
+        push_point_place(text, self)?;
+        push_number(text, ":", self.width as u64)?;
+        push_digits(text, ":0x", &[self.attribute])?;
+        push_thresholds(text, &self.thresholds)?;
+        push_limit(text, &self.limit)?;
+        Ok(())
+    }
+}
+
+// An id of a deletion.
+impl Shown for u32 {
+    ghost use Rattle.jt_text.specs.RegionFields.{deleted_id_text};
+
+    ghost shown = { deleted_id_text };
+
+    fn push_to(&self, text: &mut String) -> Result<(), AllocError> {
+        push_number(text, " id=", *self as u64)
+    }
+}
+
+#[tactic(auto, using(std::proofs::Common::append_assoc), unfolding(crate::specs::RegionFields::circles_fields))]
+pub(super) fn push_circles(text: &mut String, setting: u8, list: &[Circle]) -> Result<(), AllocError>
+    ensures { OnOk result (string_bytes text.new ≡ string_bytes text.old ++ circles_fields setting list.now) }
+{
+    push_number(text, " setting=", setting as u64)?;
+    push_number(text, " count=", list.len() as u64)?;
+    push_all(text, list)
+}
+
+#[tactic(auto, using(std::proofs::Common::append_assoc), unfolding(crate::specs::RegionFields::rectangles_fields))]
+pub(super) fn push_rectangles(text: &mut String, setting: u8, list: &[Rectangle]) -> Result<(), AllocError>
+    ensures { OnOk result (string_bytes text.new ≡ string_bytes text.old ++ rectangles_fields setting list.now) }
+{
+    push_number(text, " setting=", setting as u64)?;
+    push_number(text, " count=", list.len() as u64)?;
+    push_all(text, list)
+}
+
+#[tactic(auto, using(std::proofs::Common::append_assoc), unfolding(crate::specs::RegionFields::polygon_fields))]
+pub(super) fn push_polygon(text: &mut String, polygon: &Polygon) -> Result<(), AllocError>
+    ensures { OnOk result (string_bytes text.new ≡ string_bytes text.old ++ polygon_fields polygon.now) }
+{
+    push_start(text, " polygon=", polygon.id, polygon.attribute)?;
+    push_times(text, &polygon.times)?;
+    push_limit(text, &polygon.limit)?;
+    push_number(text, " count=", polygon.vertices.len() as u64)?;
+    push_all(text, polygon.vertices.as_slice())
+}
+
+#[tactic(auto, using(std::proofs::Common::append_assoc), unfolding(crate::specs::RegionFields::route_fields))]
+pub(super) fn push_route(text: &mut String, route: &Route) -> Result<(), AllocError>
+    ensures { OnOk result (string_bytes text.new ≡ string_bytes text.old ++ route_fields route.now) }
+{
+    push_start(text, " route=", route.id, route.attribute)?;
+    push_times(text, &route.times)?;
+    push_number(text, " count=", route.points.len() as u64)?;
+    push_all(text, route.points.as_slice())
+}
+
+#[tactic(auto, using(std::proofs::Common::append_assoc), unfolding(crate::specs::RegionFields::deletion_fields))]
+pub(super) fn push_deletion(text: &mut String, ids: &[u32]) -> Result<(), AllocError>
+    ensures { OnOk result (string_bytes text.new ≡ string_bytes text.old ++ deletion_fields ids.now) }
+{
+    push_number(text, " count=", ids.len() as u64)?;
+    push_all(text, ids)
+}
