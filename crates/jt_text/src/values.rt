@@ -5,8 +5,8 @@ ghost use Rattle.std.specs.Fmt.{decimal};
 ghost use Rattle.hex.specs.Hex.{encode_lower};
 ghost use Rattle.jt_text.specs.Values.{octets_text};
 
+use itoa::Buffer;
 use std::alloc::AllocError;
-use std::fmt::Write;
 
 // Octets whose digits are made at a time.
 const PIECE: usize = 16;
@@ -18,13 +18,17 @@ fn push_piece(text: &mut String, octets: &[u8]) -> Result<(), AllocError>
     let mut room = [0; 2 * PIECE];
     let digits = &mut room[..2 * octets.len()];
     hex::encode_to_slice(octets, digits).unwrap();
-    text.push_str(str::from_utf8(digits).unwrap())
+    // SAFETY: hexadecimal digits are UTF-8, which is proved here and not tested at run time.
+    text.push_str(unsafe { str::from_utf8_unchecked(digits) })
 }
 
 /// Lower-case hexadecimal digits, two an octet.
 pub(crate) fn push_hex(text: &mut String, octets: &[u8]) -> Result<(), AllocError>
     ensures { OnOk result (string_bytes text.new ≡ string_bytes text.old ++ encode_lower octets.now) }
 {
+    if octets.len() <= PIECE {
+        return push_piece(text, octets);
+    }
     let mut left = octets;
     while !left.is_empty() {
         let (piece, others) = left.split_at(left.len().min(PIECE));
@@ -38,7 +42,9 @@ pub(crate) fn push_hex(text: &mut String, octets: &[u8]) -> Result<(), AllocErro
 pub(crate) fn push_number(text: &mut String, name: &str, number: u64) -> Result<(), AllocError>
     ensures { OnOk result (string_bytes text.new ≡ string_bytes text.old ++ (name.now ++ decimal number)) }
 {
-    write!(text, "{name}{number}")
+    let mut digits = Buffer::new();
+    text.push_str(name)?;
+    text.push_str(digits.format(number))
 }
 
 /// The digits of octets behind a name.
