@@ -1,5 +1,5 @@
 -- The test of a time says what `NamesMoment` says.
-use Rattle.std.proofs.Common.{◌≡◌, ℕ, zero, suc, ◌+◌, ◌/◌, ◌%◌, ◌≤◌, ◌<◌, ◌↔◌, Bool, true, pos, List, slice_index, IsTrue, refl, arith}
+use Rattle.std.proofs.Common.{ℕ, zero, suc, ◌+◌, ◌/◌, ◌%◌, ◌≤◌, ◌<◌, ◌↔◌, Bool, pos, List, slice_index, IsTrue, arith}
 use Rattle.std.specs.Prelude.{◌&&◌, nat_le, ◌≤ℤ◌}
 use Rattle.std.proofs.lemmas.Bool.{and_from, and_parts, leb-true, le-leb}
 use Rattle.std.proofs.lemmas.Int.{ints}

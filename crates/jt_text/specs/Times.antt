@@ -1,6 +1,5 @@
 -- The times of positions: this project's texts. To be believed.
-use Rattle.std.specs.Prelude.{ℕ, ◌+◌, ◌/◌, ◌%◌, Bool, ◌&&◌, nat_le, if◌then◌else◌, pos, List, [], ◌∷◌, ◌++◌, slice_index, IsTrue, ◌↔◌, codes}
-use Rattle.hex.specs.Hex.{encode_lower}
+use Rattle.std.specs.Prelude.{ℕ, ◌+◌, ◌/◌, ◌%◌, Bool, ◌&&◌, nat_le, if◌then◌else◌, pos, List, ◌++◌, slice_index, IsTrue, ◌↔◌, codes}
 use Rattle.jiff.specs.Words.{days_in_month}
 use Rattle.jt_position.specs.Moments.{NamesMoment, part}
 use Rattle.jt_text.specs.Values.{byte_digits}

@@ -1,6 +1,5 @@
-use Rattle.std.proofs.Common.{◌≡◌, ◌++◌, [], take, drop, length, string_bytes, sym, refl, ◌∙◌}
+use Rattle.std.proofs.Common.{◌≡◌, ◌++◌, string_bytes, sym, ◌∙◌}
 use Rattle.std.proofs.lemmas.List.{take-append-drop}
-use Rattle.hex.specs.Hex.{encode_lower}
 use Rattle.jt_text.proofs.HexPieces.{printed, all_printed, is_nil}
 use Rattle.jt_text.proofs.values.push_hex.Goals as goal
 

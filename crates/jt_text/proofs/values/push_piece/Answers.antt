@@ -1,5 +1,3 @@
-use Rattle.std.proofs.Common.{◌≡◌, ◌++◌, length, string_bytes, sym, refl, ◌∙◌}
-use Rattle.hex.specs.Hex.{encode_lower}
 use Rattle.jt_text.proofs.HexPieces.{utf8_digits, is_text}
 use Rattle.jt_text.proofs.values.push_piece.Goals as goal
 
