@@ -1,6 +1,6 @@
 //! Bodies of any id.
 
-ghost use Rattle.std.specs.Prelude.{◌≡◌, Some, Ok, Err, IfOk, IfErr, IsSomeAnd};
+ghost use Rattle.std.specs.Prelude.{◌≡◌, Some, None, Ok, Err, IfOk, IfErr, IsSomeAnd};
 ghost use Rattle.jt_value.specs.declared.refusal.Refusal.{Refusal};
 ghost use Rattle.jt_layout.specs.Answer.{Answers};
 ghost use Rattle.jt_layout.specs.Layout.{empty};
@@ -8,6 +8,7 @@ ghost use Rattle.jt_layout.specs.Reading.{Gives};
 ghost use Rattle.jt_codec.specs.Answer.{IsUnlessMemory};
 ghost use Rattle.jt_codec.specs.Bodies.{Fits, HasBody, IsInside, body, body_octets, id_of};
 ghost use Rattle.jt_codec.specs.declared.message.Message.{Message};
+ghost use Rattle.jt_codec.specs.declared.message.Message.TheVariants as message;
 
 use crate::ack::{read_ack, write_ack};
 use crate::message::{
@@ -22,18 +23,18 @@ use crate::text::{read_octet_and_text, write_octet_and_text};
 use crate::track::{read_track, write_track};
 use jt_layout::Reader;
 use jt_params::{
-    read_params, read_params_reply, read_query_some, write_params, write_params_reply,
+    Param, read_params, read_params_reply, read_query_some, write_params, write_params_reply,
     write_query_some,
 };
-use jt_position::{read_batch, read_position, write_batch, write_position};
+use jt_position::{Position, read_batch, read_position, write_batch, write_position};
 use jt_regions::{
-    Deletion, RegionKind, read_circles, read_deletion, read_polygon, read_rectangles, read_route,
-    write_circles, write_polygon, write_rectangles, write_route,
+    Circle, Deletion, Rectangle, RegionKind, read_circles, read_deletion, read_polygon,
+    read_rectangles, read_route, write_circles, write_polygon, write_rectangles, write_route,
 };
 use jt_register::{
     read_auth, read_register, read_register_reply, write_auth, write_register, write_register_reply,
 };
-use jt_value::{CodecError, Edition, Memory, Octets};
+use jt_value::{CodecError, Edition, Memory, Octets, Seq};
 use std::alloc::Global;
 
 fn empty_in(octets: &[u8]) -> Result<(), CodecError>
@@ -48,6 +49,57 @@ pub(crate) fn read_empty(octets: &[u8]) -> Result<(), CodecError>
     ensures { Answers empty octets.now result }
 {
     empty_in(octets)
+}
+
+fn params_message((reply, params): (u16, Seq<Param>)) -> Message
+    ensures { result ≡ message.Params reply params }
+{
+    Message::Params { reply, params }
+}
+
+fn position_reply_message((reply, position): (u16, Position)) -> Message
+    ensures { result ≡ message.PositionReply reply position }
+{
+    Message::PositionReply { reply, position }
+}
+
+fn track_message((interval, validity): (u16, Option<u32>)) -> Message
+    ensures { result ≡ message.Track interval validity }
+{
+    Message::Track { interval, validity }
+}
+
+// A text of 2013, which has no kind.
+fn text_message((flag, text): (u8, Octets)) -> Message
+    ensures { result ≡ message.Text flag None text }
+{
+    let kind = None;
+    Message::Text { flag, kind, text }
+}
+
+fn control_message((command, text): (u8, Octets)) -> Message
+    ensures { result ≡ message.Control command text }
+{
+    Message::Control { command, text }
+}
+
+fn circles_message((setting, list): (u8, Seq<Circle>)) -> Message
+    ensures { result ≡ message.Circles setting list }
+{
+    Message::Circles { setting, list }
+}
+
+fn rectangles_message((setting, list): (u8, Seq<Rectangle>)) -> Message
+    ensures { result ≡ message.Rectangles setting list }
+{
+    Message::Rectangles { setting, list }
+}
+
+fn delete_message(kind: RegionKind, deletion: Deletion) -> Message
+    ensures { result ≡ message.Delete kind deletion.ids }
+{
+    let ids = deletion.ids;
+    Message::Delete { kind, ids }
 }
 
 // A body under any id, by the row of the id. An id without a row of the edition is opaque.
@@ -81,66 +133,34 @@ fn read_row(alloc: Global, edition: Edition, id: u16, octets: &[u8]) -> Result<M
             Ok(Message::QueryParams)
         }
         (_, QUERY_SOME) => Ok(Message::QuerySome(read_query_some(alloc, octets)?)),
-        (_, PARAMS) => {
-            let (reply, params) = read_params_reply(alloc, octets)?;
-            Ok(Message::Params { reply, params })
-        }
+        (_, PARAMS) => Ok(params_message(read_params_reply(alloc, octets)?)),
         (_, POSITION) => Ok(Message::Position(read_position(alloc, octets)?)),
-        (_, POSITION_REPLY) => {
-            let (reply, position) = read_position_reply(alloc, octets)?;
-            Ok(Message::PositionReply { reply, position })
-        }
+        (_, POSITION_REPLY) => Ok(position_reply_message(read_position_reply(alloc, octets)?)),
         (_, QUERY_POSITION) => {
             read_empty(octets)?;
             Ok(Message::QueryPosition)
         }
-        (_, TRACK) => {
-            let (interval, validity) = read_track(octets)?;
-            Ok(Message::Track { interval, validity })
-        }
+        (_, TRACK) => Ok(track_message(read_track(octets)?)),
         (_, BATCH) => Ok(Message::Batch(read_batch(alloc, octets)?)),
-        (Edition::E2013, TEXT) => {
-            let (flag, text) = read_octet_and_text(alloc, octets)?;
-            Ok(Message::Text {
-                flag,
-                kind: None,
-                text,
-            })
-        }
-        (_, CONTROL) => {
-            let (command, text) = read_octet_and_text(alloc, octets)?;
-            Ok(Message::Control { command, text })
-        }
-        (Edition::E2013, CIRCLES) => {
-            let (setting, list) = read_circles(alloc, octets)?;
-            Ok(Message::Circles { setting, list })
-        }
-        (Edition::E2013, RECTANGLES) => {
-            let (setting, list) = read_rectangles(alloc, octets)?;
-            Ok(Message::Rectangles { setting, list })
-        }
+        (Edition::E2013, TEXT) => Ok(text_message(read_octet_and_text(alloc, octets)?)),
+        (_, CONTROL) => Ok(control_message(read_octet_and_text(alloc, octets)?)),
+        (Edition::E2013, CIRCLES) => Ok(circles_message(read_circles(alloc, octets)?)),
+        (Edition::E2013, RECTANGLES) => Ok(rectangles_message(read_rectangles(alloc, octets)?)),
         (Edition::E2013, POLYGON) => Ok(Message::Polygon(read_polygon(alloc, octets)?)),
         (Edition::E2013, ROUTE) => Ok(Message::Route(read_route(alloc, octets)?)),
-        (_, DELETE_CIRCLES) => {
-            let Deletion { ids } = read_deletion(alloc, octets)?;
-            let kind = RegionKind::Circle;
-            Ok(Message::Delete { kind, ids })
-        }
-        (_, DELETE_RECTANGLES) => {
-            let Deletion { ids } = read_deletion(alloc, octets)?;
-            let kind = RegionKind::Rectangle;
-            Ok(Message::Delete { kind, ids })
-        }
-        (_, DELETE_POLYGONS) => {
-            let Deletion { ids } = read_deletion(alloc, octets)?;
-            let kind = RegionKind::Polygon;
-            Ok(Message::Delete { kind, ids })
-        }
-        (_, DELETE_ROUTES) => {
-            let Deletion { ids } = read_deletion(alloc, octets)?;
-            let kind = RegionKind::Route;
-            Ok(Message::Delete { kind, ids })
-        }
+        (_, DELETE_CIRCLES) => Ok(delete_message(
+            RegionKind::Circle,
+            read_deletion(alloc, octets)?,
+        )),
+        (_, DELETE_RECTANGLES) => Ok(delete_message(
+            RegionKind::Rectangle,
+            read_deletion(alloc, octets)?,
+        )),
+        (_, DELETE_POLYGONS) => Ok(delete_message(
+            RegionKind::Polygon,
+            read_deletion(alloc, octets)?,
+        )),
+        (_, DELETE_ROUTES) => Ok(delete_message(RegionKind::Route, read_deletion(alloc, octets)?)),
         _ => Ok(Message::Opaque {
             id,
             body: Octets::from_vec(Vec::from_slice(alloc, octets)?),

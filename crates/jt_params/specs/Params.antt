@@ -1,4 +1,4 @@
--- Parameters, by the standard's table of parameters. To be believed.
+-- Parameters: the standard's items, and which of them this project types. To be believed.
 use Rattle.std.specs.Prelude.{◌≡◌, ℕ, ◌^◌, ◌<◌, Bool, ◌==◌, if◌then◌else◌, List, [], ◌∷◌, length, slice_index}
 use Rattle.std.specs.Int.{w16, w32, from_be_bytes, to_be_bytes}
 use Rattle.std.specs.List.{list_any}
@@ -14,7 +14,7 @@ use Rattle.jt_params.specs.declared.param.Param.{Param}
 abbrev pub is_among : List ℕ → ℕ → Bool
 is_among ids id = list_any (λ own. id == own) ids
 
--- the kind of an id, by the table; every other id is raw
+-- The kind of an id: the standard's of 2013 for the ids that this project types. Every other id is raw.
 unfoldable pub kind : ℕ → Kind
 kind id =
     if is_among (0x0001 ∷ 0x0002 ∷ 0x0003 ∷ 0x0018 ∷ 0x0029 ∷ 0x0055 ∷ 0x0080 ∷ []) id then kinds.Dword else (
@@ -61,12 +61,15 @@ plain_param = dword ▹ λ _. block byte
 abbrev pub typed : ℕ × List ℕ → Param
 typed x = record { id = x.0; value = valued (kind x.0) x.1 }
 
+-- the id of a parameter and the octets of its value
 abbrev pub untyped : Param → ℕ × List ℕ
 untyped p = (p.id, value_octets p.value)
 
+-- the parameter has an id of four octets, and a value that such an id may have
 unfoldable pub ParamFits : Param → Type 0
 ParamFits p = (p.id < 2 ^ 32) × ValueFits (kind p.id) p.value
 
+-- a parameter, typed where its kind and its length allow it
 unfoldable pub param : Part Param
 param = part_typed plain_param typed untyped ParamFits
 

@@ -12,11 +12,13 @@ use std::alloc::{AllocError, Global};
 /// A parameter of a terminal (the standard's parameter item).
 #[derive(Drop)]
 pub struct Param {
+    /// Every number is accepted.
     pub id: u32,
     pub value: ParamValue,
 }
 
-/// The value of a parameter, at most 255 octets. It is typed exactly where its length is that of its id's kind.
+/// The value of a parameter, at most 255 octets. It is typed exactly where its length is that of its id's kind (this
+/// project's rule).
 #[derive(Drop)]
 pub enum ParamValue {
     /// One octet.
@@ -27,23 +29,28 @@ pub enum ParamValue {
     Dword(u32),
     /// The octets of a text, which is not converted.
     Text(Octets),
-    /// Octets under an id that the table does not name, or of another length than its kind has.
+    /// Octets under an id of this kind, or of another length than its kind has.
     Raw(Octets),
 }
 
-/// The kind that the standard's table of parameters gives an id, in the edition of 2013. It is used for both editions (this
-/// project's choice).
+/// The kind under which an id's value is typed. For the ids that this project types it is the standard's, in the edition of
+/// 2013. Every other id is raw, whatever the standard says of it, and both editions have the same table (this project's
+/// choice).
 #[derive(Clone, Copy, Debug, PartialEq, Eq)]
 pub enum Kind {
+    /// One octet.
     Byte,
+    /// Two octets.
     Word,
+    /// Four octets.
     Dword,
+    /// At most 255 octets.
     Text,
-    /// The kind of each id that the table does not name.
+    /// At most 255 octets: the kind of each id that is not typed.
     Raw,
 }
 
-/// The kind of an id.
+/// The kind of an id, for every id.
 #[tactic(auto, unfolding(crate::specs::Params::kind))]
 pub fn kind_of(id: u32) -> Kind
     ensures { result ≡ kind id }

@@ -161,7 +161,11 @@ impl Shown for u32 {
 }
 
 #[tactic(auto, using(std::proofs::Common::append_assoc), unfolding(crate::specs::RegionFields::circles_fields))]
-pub(super) fn push_circles(text: &mut String, setting: u8, list: &[Circle]) -> Result<(), AllocError>
+pub(super) fn push_circles(
+    text: &mut String,
+    setting: u8,
+    list: &[Circle],
+) -> Result<(), AllocError>
     ensures { OnOk result (string_bytes text.new ≡ string_bytes text.old ++ circles_fields setting list.now) }
 {
     push_number(text, " setting=", setting as u64)?;
@@ -170,7 +174,11 @@ pub(super) fn push_circles(text: &mut String, setting: u8, list: &[Circle]) -> R
 }
 
 #[tactic(auto, using(std::proofs::Common::append_assoc), unfolding(crate::specs::RegionFields::rectangles_fields))]
-pub(super) fn push_rectangles(text: &mut String, setting: u8, list: &[Rectangle]) -> Result<(), AllocError>
+pub(super) fn push_rectangles(
+    text: &mut String,
+    setting: u8,
+    list: &[Rectangle],
+) -> Result<(), AllocError>
     ensures { OnOk result (string_bytes text.new ≡ string_bytes text.old ++ rectangles_fields setting list.now) }
 {
     push_number(text, " setting=", setting as u64)?;
