@@ -51,47 +51,54 @@ pub(crate) fn read_empty(octets: &[u8]) -> Result<(), CodecError>
     empty_in(octets)
 }
 
-fn params_message((reply, params): (u16, Seq<Param>)) -> Message
-    ensures { result ≡ message.Params reply params }
+fn params_message(fields: (u16, Seq<Param>)) -> Message
+    ensures { result ≡ message.Params fields.0 fields.1 }
 {
+    let (reply, params) = fields;
     Message::Params { reply, params }
 }
 
-fn position_reply_message((reply, position): (u16, Position)) -> Message
-    ensures { result ≡ message.PositionReply reply position }
+fn position_reply_message(fields: (u16, Position)) -> Message
+    ensures { result ≡ message.PositionReply fields.0 fields.1 }
 {
+    let (reply, position) = fields;
     Message::PositionReply { reply, position }
 }
 
-fn track_message((interval, validity): (u16, Option<u32>)) -> Message
-    ensures { result ≡ message.Track interval validity }
+fn track_message(fields: (u16, Option<u32>)) -> Message
+    ensures { result ≡ message.Track fields.0 fields.1 }
 {
+    let (interval, validity) = fields;
     Message::Track { interval, validity }
 }
 
 // A text of 2013, which has no kind.
-fn text_message((flag, text): (u8, Octets)) -> Message
-    ensures { result ≡ message.Text flag None text }
+fn text_message(fields: (u8, Octets)) -> Message
+    ensures { result ≡ message.Text fields.0 None fields.1 }
 {
+    let (flag, text) = fields;
     let kind = None;
     Message::Text { flag, kind, text }
 }
 
-fn control_message((command, text): (u8, Octets)) -> Message
-    ensures { result ≡ message.Control command text }
+fn control_message(fields: (u8, Octets)) -> Message
+    ensures { result ≡ message.Control fields.0 fields.1 }
 {
+    let (command, text) = fields;
     Message::Control { command, text }
 }
 
-fn circles_message((setting, list): (u8, Seq<Circle>)) -> Message
-    ensures { result ≡ message.Circles setting list }
+fn circles_message(fields: (u8, Seq<Circle>)) -> Message
+    ensures { result ≡ message.Circles fields.0 fields.1 }
 {
+    let (setting, list) = fields;
     Message::Circles { setting, list }
 }
 
-fn rectangles_message((setting, list): (u8, Seq<Rectangle>)) -> Message
-    ensures { result ≡ message.Rectangles setting list }
+fn rectangles_message(fields: (u8, Seq<Rectangle>)) -> Message
+    ensures { result ≡ message.Rectangles fields.0 fields.1 }
 {
+    let (setting, list) = fields;
     Message::Rectangles { setting, list }
 }
 
