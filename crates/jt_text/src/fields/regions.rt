@@ -33,8 +33,9 @@ fn push_times(text: &mut String, times: &Option<[u8; 12]>) -> Result<(), AllocEr
     match times {
         None => text.push_str(":-:-"),
         Some(times) => {
-            push_digits(text, ":", &times[..6])?;
-            push_digits(text, ":", &times[6..])
+            let (start, end) = times.split_at(6);
+            push_digits(text, ":", start)?;
+            push_digits(text, ":", end)
         }
     }
 }
@@ -161,7 +162,11 @@ impl Shown for u32 {
 }
 
 #[tactic(auto, using(std::proofs::Common::append_assoc), unfolding(crate::specs::RegionFields::circles_fields))]
-pub(super) fn push_circles(text: &mut String, setting: u8, list: &[Circle]) -> Result<(), AllocError>
+pub(super) fn push_circles(
+    text: &mut String,
+    setting: u8,
+    list: &[Circle],
+) -> Result<(), AllocError>
     ensures { OnOk result (string_bytes text.new ≡ string_bytes text.old ++ circles_fields setting list.now) }
 {
     push_number(text, " setting=", setting as u64)?;
@@ -170,7 +175,11 @@ pub(super) fn push_circles(text: &mut String, setting: u8, list: &[Circle]) -> R
 }
 
 #[tactic(auto, using(std::proofs::Common::append_assoc), unfolding(crate::specs::RegionFields::rectangles_fields))]
-pub(super) fn push_rectangles(text: &mut String, setting: u8, list: &[Rectangle]) -> Result<(), AllocError>
+pub(super) fn push_rectangles(
+    text: &mut String,
+    setting: u8,
+    list: &[Rectangle],
+) -> Result<(), AllocError>
     ensures { OnOk result (string_bytes text.new ≡ string_bytes text.old ++ rectangles_fields setting list.now) }
 {
     push_number(text, " setting=", setting as u64)?;
