@@ -33,8 +33,9 @@ fn push_times(text: &mut String, times: &Option<[u8; 12]>) -> Result<(), AllocEr
     match times {
         None => text.push_str(":-:-"),
         Some(times) => {
-            push_digits(text, ":", &times[..6])?;
-            push_digits(text, ":", &times[6..])
+            let (start, end) = times.split_at(6);
+            push_digits(text, ":", start)?;
+            push_digits(text, ":", end)
         }
     }
 }
