@@ -1,2 +1,3 @@
 pub mod HexPieces
 pub mod TimeLaws
+pub mod NamedValues
