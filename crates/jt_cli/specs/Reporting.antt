@@ -2,16 +2,24 @@
 use Rattle.std.specs.Prelude.{◌≡◌, ℕ, ◌+◌, List, ◌++◌, length, Bool, true, false, Option, Some, None, option_to_list}
 use Rattle.jt_value.specs.declared.refusal.Refusal.{Refusal}
 use Rattle.jt_escape.specs.Splitter as splitter
+use Rattle.jt_escape.specs.Scan.{State}
+use Rattle.jt_header.specs.Fields.{header_at, body_at}
 use Rattle.jt_stream.specs.Item.{Items, all_items}
+use Rattle.jt_stream.specs.Item as item
+use Rattle.jt_stream.specs.declared.stream.StreamItem.{StreamItem}
+use Rattle.jt_stream.specs.declared.stream.StreamItem.TheVariants as answer
 use Rattle.jt_stream.specs.Stream.{Held}
 use Rattle.jt_cli.specs.declared.command.Report.{Report}
 use Rattle.jt_cli.specs.declared.command.Report.TheVariants.{View, Check}
 use Rattle.jt_cli.specs.declared.entry.Entry.{Entry}
+use Rattle.jt_cli.specs.declared.entry.Entry.TheVariants.{Frame, Refused}
+use Rattle.jt_cli.specs.declared.judged.Judged.{Judged}
+use Rattle.jt_cli.specs.declared.judged.Judged.TheVariants as judgement
 use Rattle.jt_cli.specs.declared.closing.Closing.{Closing}
 use Rattle.jt_cli.specs.declared.status.Status.{Status}
-use Rattle.jt_cli.specs.Line.{refusal_line}
+use Rattle.jt_text.specs.Refusals.{refusal_line}
 use Rattle.jt_cli.specs.Report.{printed, report_text, closed_entries}
-use Rattle.jt_cli.specs.Entry.{lines, entries_of, frames, refusals, first_refusal}
+use Rattle.jt_cli.specs.Entry.{lines, entry_of, entries_of, frames, refusals, first_refusal}
 
 -- a stream's reader, and how many frames and refusals it told
 pub record Tally : Type 0 where
@@ -37,6 +45,18 @@ pub record IsCounted (old new : Tally) (entry : Option Entry) : Type 0 where
 pub record Brings (old new : Tally) (octets : List ℕ) (entry : Option Entry) : Type 0 where
   pub counts : (before : List ℕ) → Counts old before → Counts new (before ++ octets)
   pub entries : (before : List ℕ) → Counts old before → entries_of (before ++ octets) ≡ entries_of before ++ option_to_list entry
+
+-- what a check asks of an entry
+abbrev pub judged : Option Entry → Judged
+judged None = judgement.Nothing
+judged (Some (Frame place header message body_len)) = judgement.Frame
+judged (Some (Refused refusal)) = judgement.Refused refusal
+
+-- the entry of what a stream tells, if it tells something
+abbrev pub entry_told : StreamItem → State → Option Entry
+entry_told answer.More state = None
+entry_told answer.Frame state = Some (entry_of (item.Frame state.opened (header_at state.content) (body_at state.content)))
+entry_told (answer.Refused refusal) state = Some (Refused refusal)
 
 -- these octets were taken behind others, and the line of the entry that they brought was printed
 pub record Views (old new : Tally) (octets text text_now : List ℕ) : Type 0 where

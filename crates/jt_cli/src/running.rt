@@ -17,7 +17,7 @@ use jt_value::Memory;
 use std::alloc::Global;
 
 // How many octets are read at once.
-const PIECE: usize = 1 << 14;
+const PIECE: usize = 1 << 16;
 
 // Takes a piece of the input, of which `most` octets may be read in all. The text is then what is printed of it, and a
 // status says that the report is settled and wholly printed.
@@ -45,7 +45,7 @@ fn advance(
     match reporter.take(alloc, &piece[..room as usize], text)? {
         Some(status) => Ok(Some(status)),
         None => {
-            let status = reporter.end_too_long(alloc, text)?;
+            let status = reporter.end_too_long(text)?;
             Ok(Some(status))
         }
     }
@@ -93,7 +93,7 @@ fn step<K: Sink>(
 }
 
 // Writes what closes the report of an input that was read to its end, and answers the status of the run.
-fn finish<K: Sink>(alloc: Global, sink: &mut K, reporter: &Reporter, text: &mut String) -> Status
+fn finish<K: Sink>(sink: &mut K, reporter: &Reporter, text: &mut String) -> Status
     requires place { reporter.now.tally.stream.splitter.place < 2 ^ 63 }
     ensures finishes { (most : ℕ) → Finishes most reporter.now (K.written sink.old) (K.written sink.new) result }
     ensures later { K.faults sink.old ≤ K.faults sink.new }
@@ -103,7 +103,7 @@ fn finish<K: Sink>(alloc: Global, sink: &mut K, reporter: &Reporter, text: &mut 
     law_all_items();
     law_octets_of_front();
     text.clear();
-    match reporter.end(alloc, text) {
+    match reporter.end(text) {
         Ok(status) => {
             if write_all(sink, text.as_bytes()) {
                 status
@@ -126,7 +126,7 @@ pub fn report<S: Source, K: Sink>(
 ) -> Status
     requires { most ≤ 2 ^ 40 }
     ensures runs { Runs (answer_of command most) (S.left source.old) (S.left source.new) (K.written sink.old) (K.written sink.new) result }
-    ensures no_further { ReadsNoFurther command most (2 ^ 14) (S.left source.old) (S.left source.new) }
+    ensures no_further { ReadsNoFurther command most (2 ^ 16) (S.left source.old) (S.left source.new) }
     ensures prints_taken { result ≡ Status.ReadFault → PrintsTaken command (S.left source.old) (S.left source.new) (K.written sink.old) (K.written sink.new) }
     ensures to_the_end { result ≡ Status.Done → IsAtEnd (S.left source.new) }
     ensures read_fault { result ≡ Status.ReadFault → Rose (S.faults source.old) (S.faults source.new) }
@@ -147,7 +147,7 @@ pub fn report<S: Source, K: Sink>(
                     None => {}
                 }
             }
-            Got::End => return finish(alloc, sink, &reporter, &mut text),
+            Got::End => return finish(sink, &reporter, &mut text),
             Got::Failed => return Status::ReadFault,
         }
     }

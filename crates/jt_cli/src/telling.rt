@@ -1,26 +1,25 @@
 //! What is printed of a stream, as it comes.
 
 ghost use Rattle.std.specs.Prelude.{◌≡◌, ◌≢◌, ◌⊎◌, ◌<◌, ◌≤◌, ◌+◌, ◌^◌, ◌++◌, ◌==◌, if◌then◌else◌, length, take, string_bytes, IfOk, OnOk, option_to_list};
-ghost use Rattle.jt_cli.specs.Entry.{lines, end_entries, refusals, first_refusal};
-ghost use Rattle.jt_cli.specs.Reporting.{Views, Checks, Tells, TellsOn, Closes};
+ghost use Rattle.jt_cli.specs.Entry.{lines, end_entries, refusals};
+ghost use Rattle.jt_cli.specs.Reporting.{Views, Tells, TellsOn, Closes};
 
 use crate::closing::Closing;
 use crate::command::Report;
 use crate::entry::Entry;
-use crate::lines::{
-    push_counts_line, push_hex_refused_line, push_ok_line, push_refusal_line, push_too_long_line,
-};
+use crate::lines::{push_counts_line, push_hex_refused_line, push_ok_line, push_too_long_line};
 use crate::status::Status;
 use crate::tally::Tally;
 use jt_stream::law_all_items;
+use jt_text::push_refusal_line;
 use jt_value::{Memory, Refusal};
 use std::alloc::{AllocError, Global};
 
-fn push_entry(alloc: Global, text: &mut String, entry: &Option<Entry>) -> Result<(), AllocError>
+fn push_entry(text: &mut String, entry: &Option<Entry>) -> Result<(), AllocError>
     ensures { OnOk result (string_bytes text.new ≡ string_bytes text.old ++ lines (option_to_list entry.now)) }
 {
     match entry {
-        Some(entry) => entry.push_line(alloc, text),
+        Some(entry) => entry.push_line(text),
         None => Ok(()),
     }
 }
@@ -39,7 +38,7 @@ fn view_next(
     ensures views { IfOk result (λ count. Views tally.old tally.new (take count piece.now) (string_bytes text.old) (string_bytes text.new)) }
 {
     let (count, entry) = tally.next(alloc, piece)?;
-    push_entry(alloc, text, &entry)?;
+    push_entry(text, &entry)?;
     Ok(count)
 }
 
@@ -56,32 +55,6 @@ fn view(alloc: Global, tally: &mut Tally, octets: &[u8], text: &mut String) -> R
     Ok(())
 }
 
-fn refusal_in(entry: &Option<Entry>) -> Option<Refusal>
-    ensures { result ≡ first_refusal (option_to_list entry.now) }
-{
-    match entry {
-        Some(Entry::Refused(refusal)) => Some(*refusal),
-        Some(Entry::Frame { .. }) | None => None,
-    }
-}
-
-// Takes octets up to the first that brings an entry, or all. The answer is how many were taken, and the refusal, if the
-// entry is one.
-fn check_next(
-    alloc: Global,
-    tally: &mut Tally,
-    piece: &[u8],
-) -> Result<(usize, Option<Refusal>), Memory>
-    requires some { 0 < length piece.now }
-    requires place { tally.old.stream.splitter.place + length piece.now < 2 ^ 63 }
-    ensures some { IfOk result (λ x. (0 < x.0) × (x.0 ≤ length piece.now)) }
-    ensures place { IfOk result (λ x. tally.new.stream.splitter.place ≡ tally.old.stream.splitter.place + x.0) }
-    ensures checks { IfOk result (λ x. Checks tally.old tally.new (take x.0 piece.now) x.1) }
-{
-    let (count, entry) = tally.next(alloc, piece)?;
-    Ok((count, refusal_in(&entry)))
-}
-
 // Takes octets up to the first refusal, and puts its line: then the answer is true.
 fn check(alloc: Global, tally: &mut Tally, octets: &[u8], text: &mut String) -> Result<bool, Memory>
     requires { tally.old.stream.splitter.place + length octets.now < 2 ^ 63 }
@@ -91,11 +64,11 @@ fn check(alloc: Global, tally: &mut Tally, octets: &[u8], text: &mut String) -> 
     law_all_items();
     let mut at = 0;
     while at < octets.len() {
-        let (count, refusal) = check_next(alloc, tally, &octets[at..])?;
+        let (count, refusal) = tally.judge(alloc, &octets[at..])?;
         at += count;
         match refusal {
             Some(refusal) => {
-                push_refusal_line(alloc, text, &refusal)?;
+                push_refusal_line(text, &refusal)?;
                 return Ok(true);
             }
             None => {}
@@ -126,11 +99,11 @@ pub fn tell(
     }
 }
 
-fn push_end(alloc: Global, text: &mut String, end: Option<Refusal>) -> Result<(), AllocError>
+fn push_end(text: &mut String, end: Option<Refusal>) -> Result<(), AllocError>
     ensures { OnOk result (string_bytes text.new ≡ string_bytes text.old ++ lines (end_entries end)) }
 {
     match end {
-        Some(refusal) => push_refusal_line(alloc, text, &refusal),
+        Some(refusal) => push_refusal_line(text, &refusal),
         None => Ok(()),
     }
 }
@@ -158,26 +131,26 @@ fn status_of(refused: u64) -> Status
 }
 
 // Closes a view of a stream that was read to its end.
-fn close_view(alloc: Global, tally: &Tally, text: &mut String) -> Result<Status, Memory>
+fn close_view(tally: &Tally, text: &mut String) -> Result<Status, Memory>
     requires { tally.now.stream.splitter.place < 2 ^ 63 }
     ensures closes { IfOk result (λ status. Closes Report.View Closing.Whole tally.now (string_bytes text.old) (string_bytes text.new) status) }
     ensures status { IfOk result (λ status. (status ≡ Status.Done) ⊎ (status ≡ Status.Refused)) }
 {
     let end = tally.finish();
-    push_end(alloc, text, end)?;
+    push_end(text, end)?;
     let refused = tally.refused() + end_refusals(end);
     push_counts_line(text, tally.frames(), refused)?;
     Ok(status_of(refused))
 }
 
 // Closes a check of a stream that was read to its end, and has no refusal before that.
-fn close_check(alloc: Global, tally: &Tally, text: &mut String) -> Result<Status, Memory>
+fn close_check(tally: &Tally, text: &mut String) -> Result<Status, Memory>
     ensures closes { IfOk result (λ status. Closes Report.Check Closing.Whole tally.now (string_bytes text.old) (string_bytes text.new) status) }
     ensures status { IfOk result (λ status. (status ≡ Status.Done) ⊎ (status ≡ Status.Refused)) }
 {
     match tally.finish() {
         Some(refusal) => {
-            push_refusal_line(alloc, text, &refusal)?;
+            push_refusal_line(text, &refusal)?;
             Ok(Status::Refused)
         }
         None => {
@@ -189,7 +162,6 @@ fn close_check(alloc: Global, tally: &Tally, text: &mut String) -> Result<Status
 
 /// Puts what closes a report that goes on up to there, and answers the status with which the run then ends.
 pub fn close(
-    alloc: Global,
     report: Report,
     closing: Closing,
     tally: &Tally,
@@ -201,8 +173,8 @@ pub fn close(
     ensures cut { closing ≢ Closing.Whole → IfOk result (λ status. status ≡ Status.Refused) }
 {
     match (closing, report) {
-        (Closing::Whole, Report::View) => close_view(alloc, tally, text),
-        (Closing::Whole, Report::Check) => close_check(alloc, tally, text),
+        (Closing::Whole, Report::View) => close_view(tally, text),
+        (Closing::Whole, Report::Check) => close_check(tally, text),
         (Closing::TooLong, _) => {
             push_too_long_line(text)?;
             Ok(Status::Refused)

@@ -1,2 +1,4 @@
+pub mod AckLaws
 pub mod BodyLaws
 pub mod FrameLaws
+pub mod JudgingLaws

@@ -20,7 +20,7 @@ use jt_value::{CodecError, Edition, Octets, Refusal};
 use std::alloc::Global;
 
 // A refusal of a body that begins at this place of its content.
-fn in_content(start: usize, refusal: Refusal) -> Refusal
+pub(crate) fn in_content(start: usize, refusal: Refusal) -> Refusal
     requires { start + refusal.inside < 2 ^ 64 }
     ensures { result ≡ frames.in_content start refusal }
 {

@@ -4,3 +4,4 @@ pub mod Octets
 pub mod Reading
 pub mod Scanning
 pub mod Taking
+pub mod Runs

@@ -1,6 +1,6 @@
 -- Going through a stream octet by octet: the state that is kept, the next state, and the events on the way. A step
 -- function for the proofs.
-use Rattle.std.specs.Prelude.{Option, Some, None, ℕ, ◌+◌, List, [], ◌∷◌, ◌++◌, length, ◌==◌, if◌then◌else◌}
+use Rattle.std.specs.Prelude.{◌≡◌, ◌≢◌, Option, Some, None, ℕ, ◌+◌, ◌<◌, List, [], ◌∷◌, ◌++◌, length, take, ◌==◌, if◌then◌else◌}
 use Rattle.jt_value.specs.declared.refusal.Why.TheVariants as why
 use Rattle.jt_value.specs.declared.refusal.Refusal.{Refusal}
 use Rattle.jt_escape.specs.declared.splitter.Mode.{Mode}
@@ -90,3 +90,24 @@ end_in Skipping place = None
 -- the refusal of a stream that ends, as a function
 unfoldable pub end_of_stream : List ℕ → Option Refusal
 end_of_stream stream = end_in (run start stream).mode (run start stream).place
+
+-- no octet is a flag or an escape
+abbrev pub IsPlain : List ℕ → Type 0
+IsPlain [] = Unit {0}
+IsPlain (octet ∷ more) = (octet ≢ 0x7E) × (octet ≢ 0x7D) × IsPlain more
+
+-- content octets that stand for themselves are kept
+abbrev pub keeping_all : State → List ℕ → State
+keeping_all state octets =
+    record { mode = Inside; content = state.content ++ octets; place = state.place + length octets; opened = state.opened }
+
+-- the octets are in no content
+abbrev pub passing_all : State → List ℕ → State
+passing_all state octets =
+    record { mode = state.mode; content = state.content; place = state.place + length octets; opened = state.opened }
+
+-- the octets lead from the old state to the new one and have these events, and none before the last octet
+pub record Runs (old new : State) (octets : List ℕ) (events : List Event) : Type 0 where
+  pub reached : new ≡ run old octets
+  pub read : events ≡ scan old octets
+  pub quiet : (count : ℕ) → count < length octets → scan old (take count octets) ≡ []

@@ -17,6 +17,11 @@ pub record Takes (old new : State) (octets : List ℕ) (gained : List Event) : T
   pub events : (stream : List ℕ) (before : List Event) → StandsFor old stream → Events stream before
       → Events (stream ++ octets) (before ++ gained)
 
+-- these octets bring no event
+abbrev pub IsSilent : State → List ℕ → Type 0
+IsSilent old octets =
+    (stream : List ℕ) (before : List Event) → StandsFor old stream → Events stream before → Events (stream ++ octets) before
+
 -- the events that an answer tells of the splitter that gave it
 abbrev pub told : Split → State → List Event
 told split.More state = []

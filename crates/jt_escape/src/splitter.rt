@@ -1,15 +1,16 @@
-//! Contents and refusals of a stream that comes octet by octet.
+//! Contents and refusals of a stream that comes octet by octet, or in pieces.
 
-ghost use Rattle.std.specs.Prelude.{◌≡◌, ◌<◌, ◌≤◌, ◌+◌, ◌^◌, [], ◌∷◌, List, ℕ, length};
+ghost use Rattle.std.specs.Prelude.{◌≡◌, ◌⊎◌, ◌<◌, ◌≤◌, ◌+◌, ◌-◌, ◌^◌, [], ◌∷◌, List, ℕ, length, take};
 ghost use Rattle.jt_value.specs.declared.refusal.Refusal.{Refusal};
-ghost use Rattle.jt_escape.specs.declared.splitter.Mode.TheVariants.{Outside, Inside, Escaping};
-ghost use Rattle.jt_escape.specs.Span.{Ends, refusal_at};
-ghost use Rattle.jt_escape.specs.Scan.{opening, passing, keeping, after_in, after, events_in, events_of, end_in};
-ghost use Rattle.jt_escape.specs.Splitter.{StandsFor, Takes, told};
+ghost use Rattle.jt_escape.specs.declared.splitter.Mode.TheVariants.{Outside, Straying, Inside, Escaping, Skipping};
+ghost use Rattle.jt_escape.specs.Span.{Ends, HasNoFlag, refusal_at};
+ghost use Rattle.jt_escape.specs.Scan.{State, opening, passing, passing_all, keeping, keeping_all, after_in, after, events_in, events_of, end_in, IsPlain, Runs};
+ghost use Rattle.jt_escape.specs.Splitter.{StandsFor, Takes, IsSilent, told};
 
 use crate::framing::{CONTENT_LIMIT, ESCAPE, ESCAPE_CODE, FLAG, FLAG_CODE};
 use arrayvec::ArrayVec;
 use jt_value::{Refusal, Why};
+use memchr::{memchr, memchr2};
 use std::marker::Model;
 
 /// Where in its stream a splitter stands.
@@ -76,6 +77,22 @@ fn refused(why: Why, at: u64) -> Split
     Split::Refused(Refusal { at, inside: 0, why })
 }
 
+// How many octets stand before the first flag.
+fn flagless_len(octets: &[u8]) -> usize
+    ensures within { result ≤ length octets.now }
+    ensures none { HasNoFlag (take result octets.now) }
+{
+    memchr(FLAG, octets).unwrap_or(octets.len())
+}
+
+// How many octets stand before the first flag or escape.
+fn plain_len(octets: &[u8]) -> usize
+    ensures within { result ≤ length octets.now }
+    ensures plain { IsPlain (take result octets.now) }
+{
+    memchr2(FLAG, ESCAPE, octets).unwrap_or(octets.len())
+}
+
 impl Splitter {
     /// A splitter at the beginning of a stream.
     pub fn new() -> Splitter
@@ -90,6 +107,7 @@ impl Splitter {
         }
     }
 
+    #[inline(always)]
     fn open(&mut self)
         requires { self.old.place < 2 ^ 63 }
         ensures { self.new ≡ opening self.old }
@@ -119,6 +137,7 @@ impl Splitter {
         self.place += 1;
     }
 
+    #[inline(always)]
     fn take_inside(&mut self, octet: u8) -> Split
         requires { self.old.place < 2 ^ 63 }
         ensures next { self.new ≡ after_in Inside self.old octet }
@@ -146,6 +165,7 @@ impl Splitter {
         }
     }
 
+    #[inline(never)]
     fn take_escaped(&mut self, octet: u8) -> Split
         requires place { self.old.place < 2 ^ 63 }
         requires mode { self.old.mode ≡ Escaping }
@@ -188,6 +208,7 @@ impl Splitter {
         }
     }
 
+    #[inline(always)]
     #[tactic(auto, unfolding(crate::specs::Scan::after, crate::specs::Scan::events_of))]
     fn step(&mut self, octet: u8) -> Split
         requires { self.old.place < 2 ^ 63 }
@@ -217,6 +238,181 @@ impl Splitter {
         }
     }
 
+    // Keeps content octets that stand for themselves.
+    #[inline(always)]
+    fn keep_all(&mut self, octets: &[u8])
+        requires place { self.old.place + length octets.now < 2 ^ 63 }
+        requires room { length self.old.content + length octets.now ≤ 1045 }
+        ensures { self.new ≡ keeping_all self.old octets.now }
+    {
+        self.content.try_extend_from_slice(octets).unwrap();
+        self.mode = Mode::Inside;
+        self.place += octets.len() as u64;
+    }
+
+    fn pass_all(&mut self, octets: &[u8])
+        requires { self.old.place + length octets.now < 2 ^ 63 }
+        ensures { self.new ≡ passing_all self.old octets.now }
+    {
+        self.place += octets.len() as u64;
+    }
+
+    // Keeps content octets up to the first flag or escape, as far as there is room.
+    #[inline(always)]
+    fn keep_run(&mut self, octets: &[u8]) -> usize
+        requires place { self.old.place + length octets.now < 2 ^ 63 }
+        requires mode { self.old.mode ≡ Inside }
+        ensures within { result ≤ length octets.now }
+        ensures place { self.new.place ≡ self.old.place + result }
+        ensures runs { Runs self.old self.new (take result octets.now) [] }
+    {
+        let room = self.content.remaining_capacity();
+        let run = plain_len(&octets[..octets.len().min(room)]);
+        self.keep_all(&octets[..run]);
+        run
+    }
+
+    // Passes over octets up to the first flag.
+    fn pass_run(&mut self, octets: &[u8]) -> usize
+        requires place { self.old.place + length octets.now < 2 ^ 63 }
+        requires mode { (self.old.mode ≡ Straying) ⊎ (self.old.mode ≡ Skipping) }
+        ensures within { result ≤ length octets.now }
+        ensures place { self.new.place ≡ self.old.place + result }
+        ensures runs { Runs self.old self.new (take result octets.now) [] }
+    {
+        let run = flagless_len(octets);
+        self.pass_all(&octets[..run]);
+        run
+    }
+
+    // Takes the octet behind a run of so many that was taken, if there is one.
+    #[inline(always)]
+    fn take_behind(&mut self, octets: &[u8], run: usize) -> (usize, Split)
+        requires run { run ≤ length octets.now }
+        requires place { self.old.place + (length octets.now - run) < 2 ^ 63 }
+        ensures some { 0 < length octets.now → 0 < result.0 }
+        ensures within { (run ≤ result.0) × (result.0 ≤ length octets.now) }
+        ensures place { self.new.place + run ≡ self.old.place + result.0 }
+        ensures runs { (before : State) → Runs before self.old (take run octets.now) []
+            → Runs before self.new (take result.0 octets.now) (told result.1 self.new) }
+        ensures content { result.1 ≡ Split.Content → 0 < length self.new.content }
+    {
+        if run == octets.len() {
+            return (run, Split::More);
+        }
+        let split = self.step(octets[run]);
+        (run + 1, split)
+    }
+
+    // Takes octets of a content up to the first flag or escape, and it, or all.
+    #[inline(always)]
+    fn take_content(&mut self, octets: &[u8]) -> (usize, Split)
+        requires some { 0 < length octets.now }
+        requires place { self.old.place + length octets.now < 2 ^ 63 }
+        requires mode { self.old.mode ≡ Inside }
+        ensures some { 0 < result.0 }
+        ensures within { result.0 ≤ length octets.now }
+        ensures place { self.new.place ≡ self.old.place + result.0 }
+        ensures runs { Runs self.old self.new (take result.0 octets.now) (told result.1 self.new) }
+        ensures content { result.1 ≡ Split.Content → 0 < length self.new.content }
+    {
+        let run = self.keep_run(octets);
+        self.take_behind(octets, run)
+    }
+
+    // Takes octets that are in no frame up to the next flag, and it, or all.
+    #[inline(never)]
+    fn take_passed(&mut self, octets: &[u8]) -> (usize, Split)
+        requires some { 0 < length octets.now }
+        requires place { self.old.place + length octets.now < 2 ^ 63 }
+        requires mode { (self.old.mode ≡ Straying) ⊎ (self.old.mode ≡ Skipping) }
+        ensures some { 0 < result.0 }
+        ensures within { result.0 ≤ length octets.now }
+        ensures place { self.new.place ≡ self.old.place + result.0 }
+        ensures runs { Runs self.old self.new (take result.0 octets.now) (told result.1 self.new) }
+        ensures content { result.1 ≡ Split.Content → 0 < length self.new.content }
+    {
+        let run = self.pass_run(octets);
+        self.take_behind(octets, run)
+    }
+
+    // Takes a frame up to the first flag or escape in it, or one octet where none begins.
+    #[inline(always)]
+    fn take_frame(&mut self, octets: &[u8]) -> (usize, Split)
+        requires some { 0 < length octets.now }
+        requires place { self.old.place + length octets.now < 2 ^ 63 }
+        requires mode { self.old.mode ≡ Outside }
+        ensures some { 0 < result.0 }
+        ensures within { result.0 ≤ length octets.now }
+        ensures place { self.new.place ≡ self.old.place + result.0 }
+        ensures runs { Runs self.old self.new (take result.0 octets.now) (told result.1 self.new) }
+        ensures content { result.1 ≡ Split.Content → 0 < length self.new.content }
+    {
+        if octets.len() == 1 || octets[0] != FLAG {
+            return self.take_behind(octets, 0);
+        }
+        self.open();
+        let (count, split) = self.take_content(&octets[1..]);
+        (1 + count, split)
+    }
+
+    // Takes octets up to the first that brings an event, or some of them, whole runs of plain octets at once.
+    #[inline(always)]
+    fn take_some(&mut self, octets: &[u8]) -> (usize, Split)
+        requires some { 0 < length octets.now }
+        requires place { self.old.place + length octets.now < 2 ^ 63 }
+        ensures some { 0 < result.0 }
+        ensures within { result.0 ≤ length octets.now }
+        ensures place { self.new.place ≡ self.old.place + result.0 }
+        ensures runs { Runs self.old self.new (take result.0 octets.now) (told result.1 self.new) }
+        ensures content { result.1 ≡ Split.Content → 0 < length self.new.content }
+    {
+        match self.mode {
+            Mode::Outside => self.take_frame(octets),
+            Mode::Inside => self.take_content(octets),
+            Mode::Straying | Mode::Skipping => self.take_passed(octets),
+            Mode::Escaping => self.take_behind(octets, 0),
+        }
+    }
+
+    fn take_all(&mut self, piece: &[u8]) -> (usize, Split)
+        requires { self.old.place + length piece.now < 2 ^ 63 }
+        ensures within { result.0 ≤ length piece.now }
+        ensures some { 0 < length piece.now → 0 < result.0 }
+        ensures place { self.new.place ≡ self.old.place + result.0 }
+        ensures runs { Runs self.old self.new (take result.0 piece.now) (told result.1 self.new) }
+        ensures more { result.1 ≡ Split.More → result.0 ≡ length piece.now }
+        ensures content { result.1 ≡ Split.Content → 0 < length self.new.content }
+    {
+        let mut taken = 0;
+        while taken < piece.len() {
+            let (count, split) = self.take_some(&piece[taken..]);
+            taken += count;
+            match split {
+                Split::More => {}
+                Split::Content | Split::Refused(_) => return (taken, split),
+            }
+        }
+        (taken, Split::More)
+    }
+
+    /// Takes the stream's next octets, up to the first that completes something: how many were taken, and what they
+    /// complete, or `More` where all were taken and complete nothing. This is what `push` does octet by octet. The octets
+    /// taken so far and the piece are together fewer than 2^63.
+    pub fn take(&mut self, piece: &[u8]) -> (usize, Split)
+        requires { self.old.place + length piece.now < 2 ^ 63 }
+        ensures taken { result.0 ≤ length piece.now }
+        ensures some { 0 < length piece.now → 0 < result.0 }
+        ensures place { self.new.place ≡ self.old.place + result.0 }
+        ensures events { Takes self.old self.new (take result.0 piece.now) (told result.1 self.new) }
+        ensures more { result.1 ≡ Split.More → result.0 ≡ length piece.now }
+        // No octet past the first that completes something is taken.
+        ensures first { (count : ℕ) → count < result.0 → IsSilent self.old (take count piece.now) }
+        ensures content { result.1 ≡ Split.Content → 0 < length self.new.content }
+    {
+        self.take_all(piece)
+    }
+
     /// Takes the stream's next octet. Fewer than 2^63 octets may have been taken.
     pub fn push(&mut self, octet: u8) -> Split
         requires { self.old.place < 2 ^ 63 }
@@ -227,7 +423,7 @@ impl Splitter {
         self.step(octet)
     }
 
-    /// The last whole content, from the push that completed it until the next push.
+    /// The last whole content, from the call that completed it until the next octet is taken.
     pub fn content(&self) -> &[u8]
         ensures octets { result.now ≡ self.now.content }
         ensures length { length result.now ≤ 1045 }

@@ -26,6 +26,57 @@ fn brings(splitter: &mut Splitter, octets: &[u8], answers: &[(usize, Split)]) ->
     all
 }
 
+// Whether taking this piece brings what pushing its octets brings.
+fn agree(bulk: &mut Splitter, plain: &mut Splitter, piece: &[u8]) -> bool
+    requires bulk { bulk.old.place + length piece.now < 2 ^ 63 }
+    requires plain { plain.old.place + length piece.now < 2 ^ 63 }
+    ensures bulk { bulk.new.place ≡ bulk.old.place + length piece.now }
+    ensures plain { plain.new.place ≡ plain.old.place + length piece.now }
+{
+    let mut same = true;
+    let mut at = 0;
+    while at < piece.len() {
+        let (taken, split) = bulk.take(&piece[at..]);
+        let pushed = brings(plain, &piece[at..at + taken], &[(taken - 1, split)]);
+        let content = bulk.content() == plain.content() && bulk.opened() == plain.opened();
+        same = same && pushed && content;
+        at += taken;
+    }
+    same && bulk.finish() == plain.finish()
+}
+
+#[test]
+fn pieces(rt: HostRuntime) {
+    let mut long = [0x55; 2200];
+    for place in [0, 1046, 1047, 2093] {
+        long[place] = 0x7E;
+    }
+    let mut escapes = [0x7D; 2200];
+    for place in 0..1100 {
+        escapes[2 * place + 1] = 0x02;
+    }
+    escapes[0] = 0x7E;
+    escapes[1] = 0x31;
+    let streams: [&[u8]; 7] = [
+        b"\x00\x7D\x7E\x7E\x30\x7D\x02\x08\x7D\x01\x7E\x01\x7E",
+        b"\x7E\x30\x7D\x03\x31\x7E\x7E\x32\x7E\x33\x34\x7E\x7E",
+        b"\x7E\x7D\x7E\x7E\x7D\x02\x7E\x7E\x35\x7D\x7E\x36\x36\x37",
+        &HEARTBEAT,
+        &[0x7E; 40],
+        &long,
+        &escapes,
+    ];
+    for stream in streams {
+        assert!(rt; stream.len() <= 2200);
+        for cut in 0..stream.len().min(70) {
+            let mut bulk = Splitter::new();
+            let mut plain = Splitter::new();
+            assert!(rt; agree(&mut bulk, &mut plain, &stream[..cut]));
+            assert!(rt; agree(&mut bulk, &mut plain, &stream[cut..]));
+        }
+    }
+}
+
 #[test]
 fn check_octets(rt: HostRuntime) {
     assert_eq!(rt; check(&[]), 0);

@@ -78,21 +78,6 @@ fn judge(splitter: &Splitter) -> Result<Message, Refusal>
     }
 }
 
-// Takes one octet. None where it completes nothing.
-fn push(splitter: &mut Splitter, octet: u8) -> Option<Result<Message, Refusal>>
-    requires { splitter.old.place < 2 ^ 63 }
-    ensures place { splitter.new.place ≡ splitter.old.place + 1 }
-    ensures items { Gains splitter.old splitter.new (octet ∷ []) (completed result splitter.new) }
-    ensures message { ForSome result (λ judged. ForOk judged
-        (λ message. IsMessage message.header message.start splitter.new.content)) }
-{
-    match splitter.push(octet) {
-        Split::More => None,
-        Split::Refused(refusal) => Some(Err(refusal)),
-        Split::Content => Some(judge(splitter)),
-    }
-}
-
 // Takes octets up to the first that completes an item, or all.
 fn take(splitter: &mut Splitter, piece: &[u8]) -> (usize, Option<Result<Message, Refusal>>)
     requires { splitter.old.place + length piece.now < 2 ^ 63 }
@@ -105,13 +90,12 @@ fn take(splitter: &mut Splitter, piece: &[u8]) -> (usize, Option<Result<Message,
     ensures message { ForSome result.1 (λ judged. ForOk judged
         (λ message. IsMessage message.header message.start splitter.new.content)) }
 {
-    for (index, octet) in piece.iter().enumerate() {
-        let judged = push(splitter, *octet);
-        if judged.is_some() {
-            return (index + 1, judged);
-        }
+    let (taken, split) = splitter.take(piece);
+    match split {
+        Split::More => (taken, None),
+        Split::Refused(refusal) => (taken, Some(Err(refusal))),
+        Split::Content => (taken, Some(judge(splitter))),
     }
-    (piece.len(), None)
 }
 
 impl Stream {

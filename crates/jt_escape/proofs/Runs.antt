@@ -1,0 +1,244 @@
+-- Octets that are taken at once lead to where they lead one by one.
+use Rattle.std.proofs.Common.{◌≡◌, ◌≢◌, ℕ, zero, suc, ◌+◌, ◌-◌, ◌<◌, ◌≤◌, eqb, Bool, true, false, ◌⊎◌, Option, Some, None, List, [], ◌∷◌, ◌++◌, length, take, drop, get_or, refl, sym, ap, subst, ◌∙◌, append_assoc, arith, inl, inr, add-zero, take_all, take-add, length-append, length-take-le, length-drop}
+use Rattle.std.proofs.Math.Seq.{take-append-add}
+use Rattle.std.proofs.lemmas.Bool.{cases_lt, ne_eqb, eq-eqb, false≢true}
+use Rattle.std.specs.Prelude.{unwrap_or, slice_range}
+use Rattle.memchr.specs.Find.{IsFirstByte, is_byte, is_byte2}
+use Rattle.std.proofs.lemmas.List.{append-nil, take-append-le, take-append-drop, take-take, take_more}
+use Rattle.jt_escape.specs.declared.splitter.Mode.{Mode}
+use Rattle.jt_escape.specs.declared.splitter.Mode.TheVariants as modes
+use Rattle.jt_escape.specs.declared.splitter.Split.{Split}
+use Rattle.jt_escape.specs.declared.splitter.Split.TheVariants as split
+use Rattle.jt_escape.specs.Span.{Event, HasNoFlag, Events}
+use Rattle.jt_escape.specs.Scan.{State, start, after, events_of, run, scan, IsPlain, keeping_all, passing_all, opening, Runs}
+use Rattle.jt_escape.specs.Splitter.{StandsFor, Takes, IsSilent}
+use Rattle.jt_escape.proofs.Scanning.{at}
+use Rattle.jt_escape.proofs.Reading.{scan-append, run-append, events_held, events_only}
+use Rattle.jt_escape.proofs.Taking.{place_next}
+
+-- ---- runs of octets, one after another
+
+nothing_before : {A : Type 0} (xs ys : List A) → xs ++ ys ≡ [] → xs ≡ []
+nothing_before [] ys e = refl
+nothing_before (x ∷ xs) ys e = absurd cc
+
+-- octets without an event have none on the way
+quiet_front : (state : State) (octets : List ℕ) (count : ℕ) → scan state octets ≡ [] → scan state (take count octets) ≡ []
+quiet_front state octets count none =
+    let apart : scan state (take count octets ++ drop count octets) ≡ [] = ap (scan state) (take-append-drop count octets) ∙ none in
+    nothing_before (scan state (take count octets)) (scan (run state (take count octets)) (drop count octets))
+    (sym (scan-append (take count octets) (drop count octets) state) ∙ apart)
+
+pub Runs-quiet : (old new : State) (octets : List ℕ) → new ≡ run old octets → scan old octets ≡ [] → Runs old new octets []
+Runs-quiet old new octets e none = record { reached = e; read = sym none; quiet = λ count lt. quiet_front old octets count none }
+
+-- no octets
+pub Runs-none : (state : State) → Runs state state [] []
+Runs-none state = Runs-quiet state state [] refl refl
+
+quiet_one : (state : State) (octet count : ℕ) → count < 1 → scan state (take count (octet ∷ [])) ≡ []
+quiet_one state octet zero lt = refl
+quiet_one state octet (suc count) lt = absurd (omega (arith, lt))
+
+-- one octet
+pub Runs-one : (old new : State) (octet : ℕ) (events : List Event) → new ≡ after old octet → events ≡ events_of old octet → Runs old new (octet ∷ []) events
+Runs-one old new octet events e f =
+    record { reached = e; read = f ∙ sym (append-nil (events_of old octet)); quiet = λ count lt. quiet_one old octet count lt }
+
+quiet_then : (a b : State) (x y : List ℕ) (count : ℕ) → Runs a b x [] → ((count : ℕ) → count < length y → scan b (take count y) ≡ [])
+    → count < length (x ++ y) → scan a (take count (x ++ y)) ≡ []
+quiet_then a b x y count first second lt =
+    elim (cases_lt count (length x)) [
+      | inl within ↦ ap (scan a) (take-append-le count x y (omega (arith, within))) ∙ first.quiet count within
+      | inr past ↦
+          let more : ℕ = count - length x in
+          let total : length x + more ≡ count = omega (arith, past) in
+          ap (λ (n : ℕ). scan a (take n (x ++ y))) (sym total) ∙ ap (scan a) (take-append-add x y more) ∙ scan-append x (take more y) a
+          ∙ ap (λ (xs : List Event). xs ++ scan (run a x) (take more y)) (sym first.read) ∙ ap (λ (s : State). scan s (take more y)) (sym first.reached)
+          ∙ second more (omega (arith, lt, past, length-append x y))
+    ]
+
+-- octets without an event, and then others
+pub Runs-then : (a b c : State) (x y : List ℕ) (g : List Event) → Runs a b x [] → Runs b c y g → Runs a c (x ++ y) g
+Runs-then a b c x y g first second =
+    record {
+      reached = second.reached ∙ ap (λ (s : State). run s y) first.reached ∙ sym (run-append x y a);
+      read = second.read ∙ ap (λ (s : State). scan s y) first.reached ∙ ap (λ (xs : List Event). xs ++ scan (run a x) y) first.read ∙ sym (scan-append x y a);
+      quiet = λ count lt. quiet_then a b x y count first second.quiet lt;
+    }
+
+-- the front of a piece, and then the front of what is left of it
+pub Runs-onward : (a b c : State) (piece : List ℕ) (i n : ℕ) (g : List Event) → Runs a b (take i piece) [] → Runs b c (take n (slice_range piece i (length piece))) g
+    → Runs a c (take (i + n) piece) g
+Runs-onward a b c piece i n g first second =
+    let left : slice_range piece i (length piece) ≡ drop i piece = take_all (length piece - i) (drop i piece) (omega (arith, length-drop i piece)) in
+    subst (λ (octets : List ℕ). Runs a c octets g) (sym (take-add i n piece))
+    (Runs-then a b c _ _ g first (subst (λ (octets : List ℕ). Runs b c (take n octets) g) left second))
+
+-- the front of a piece, and then the octet behind it
+pub Runs-next : (a b c : State) (piece : List ℕ) (i : ℕ) (g : List Event) → i < length piece → Runs a b (take i piece) [] → c ≡ after b (get_or piece i 0)
+    → g ≡ events_of b (get_or piece i 0) → Runs a c (take (i + 1) piece) g
+Runs-next a b c piece i g within first reached read =
+    subst (λ (octets : List ℕ). Runs a c octets g) (sym (take_more piece i 0 within)) (Runs-then a b c _ _ g first (Runs-one b c (get_or piece i 0) g reached read))
+
+-- the first octet, and then the front of what is left
+pub Runs-first : (a b c : State) (piece : List ℕ) (n : ℕ) (g : List Event) → 0 < length piece → b ≡ after a (get_or piece 0 0) → events_of a (get_or piece 0 0) ≡ []
+    → Runs b c (take n (slice_range piece 1 (length piece))) g → Runs a c (take (1 + n) piece) g
+Runs-first a b c piece n g some reached quiet second = Runs-onward a b c piece 1 n g (Runs-next a a b piece 0 [] some (Runs-none a) reached (sym quiet)) second
+
+-- a flag outside opens a frame
+pub opens_frame : (old : State) (octet : ℕ) → old.mode ≡ modes.Outside → octet ≡ 0x7E → (after old octet ≡ opening old) × (events_of old octet ≡ [])
+unfolding after events_of
+opens_frame old octet is flag = (rw (is, flag) refl, rw (is, flag) refl)
+
+-- ---- what a run is to the streams
+
+place_run : (state : State) (octets : List ℕ) → (run state octets).place ≡ state.place + length octets
+place_run state [] = omega arith
+place_run state (octet ∷ octets) =
+    place_run (after state octet) octets ∙ (let next = place_next state (after state octet) octet refl in omega (arith, next))
+
+pub place_after : (old new : State) (octets : List ℕ) (events : List Event) → Runs old new octets events → new.place ≡ old.place + length octets
+place_after old new octets events runs = ap (λ (state : State). state.place) runs.reached ∙ place_run old octets
+
+pub takes_run : (old new : State) (octets : List ℕ) (events : List Event) → Runs old new octets events → Takes old new octets events
+takes_run old new octets events runs =
+    record {
+      stands = λ stream h. record { taken = runs.reached ∙ ap (λ (state : State). run state octets) h.taken ∙ sym (run-append stream octets start) };
+      events = λ stream before h x.
+          let same : scan (run start stream) octets ≡ events = ap (λ (state : State). scan state octets) (sym h.taken) ∙ sym runs.read in
+          let whole : scan start (stream ++ octets) ≡ before ++ events =
+          scan-append stream octets start ∙ ap (λ (xs : List Event). scan start stream ++ xs) same ∙ ap (λ (xs : List Event). xs ++ events) (sym (events_only stream before x)) in
+          subst (Events (stream ++ octets)) whole (events_held (stream ++ octets));
+    }
+
+silent : (old : State) (octets : List ℕ) → scan old octets ≡ [] → IsSilent old octets
+silent old octets none = λ stream before h x.
+    subst (Events (stream ++ octets)) (append-nil before) ((takes_run old (run old octets) octets [] (Runs-quiet old (run old octets) octets refl none)).events stream before h x)
+
+-- no front of the octets that were taken brings an event
+pub silent_before : (old new : State) (piece : List ℕ) (count : ℕ) (events : List Event) → Runs old new (take count piece) events → count ≤ length piece
+    → (fewer : ℕ) → fewer < count → IsSilent old (take fewer piece)
+silent_before old new piece count events runs within fewer below =
+    let same : take fewer (take count piece) ≡ take fewer piece = take-take fewer count piece (omega (arith, below)) in
+    silent old (take fewer piece) (ap (scan old) (sym same) ∙ runs.quiet fewer (omega (arith, below, length-take-le count piece within)))
+
+-- ---- runs of octets that are kept, or passed over
+
+mode_is : (state : State) (mode : Mode) → state.mode ≡ mode → state ≡ at mode state.content state.place state.opened
+mode_is state mode e = ap (λ (m : Mode). at m state.content state.place state.opened) e
+
+moved : (mode : Mode) (kept content : List ℕ) (place q opened : ℕ) → kept ≡ content → place ≡ q → at mode kept place opened ≡ at mode content q opened
+moved mode kept content place q opened e f = cc
+
+keeps_one : (octet : ℕ) (kept : List ℕ) (place opened : ℕ) → octet ≢ 0x7E → octet ≢ 0x7D → length kept < 1045
+    → (after (at modes.Inside kept place opened) octet ≡ at modes.Inside (kept ++ octet ∷ []) (place + 1) opened) × (events_of (at modes.Inside kept place opened) octet ≡ [])
+unfolding after events_of
+keeps_one octet kept place opened flag escape lt =
+    let short : eqb (length kept) 1045 ≡ false = ne_eqb _ _ (λ e. omega (arith, e)) in
+    (simp (ne_eqb octet 0x7E flag, ne_eqb octet 0x7D escape, short), simp (ne_eqb octet 0x7E flag, ne_eqb octet 0x7D escape, short))
+
+keeps_run : (octets kept : List ℕ) (place opened : ℕ) → IsPlain octets → length kept + length octets ≤ 1045
+    → (run (at modes.Inside kept place opened) octets ≡ at modes.Inside (kept ++ octets) (place + length octets) opened) × (scan (at modes.Inside kept place opened) octets ≡ [])
+keeps_run [] kept place opened plain le = (moved modes.Inside kept (kept ++ []) place (place + 0) opened (sym (append-nil kept)) (omega arith), refl)
+keeps_run (octet ∷ octets) kept place opened plain le =
+    let first = keeps_one octet kept place opened plain.0 plain.1 (omega (arith, le)) in
+    let others = keeps_run octets (kept ++ octet ∷ []) (place + 1) opened plain.2 (omega (arith, le, length-append kept (octet ∷ []))) in (
+      ap (λ (state : State). run state octets) first.0 ∙ others.0
+          ∙ moved modes.Inside ((kept ++ octet ∷ []) ++ octets) (kept ++ octet ∷ octets) _ _ opened (append_assoc kept (octet ∷ []) octets) (omega arith),
+      ap (λ (xs : List Event). xs ++ scan (after (at modes.Inside kept place opened) octet) octets) first.1
+          ∙ ap (λ (state : State). scan state octets) first.0 ∙ others.1,
+    )
+
+keeps_all_plain : (old : State) (octets : List ℕ) → old.mode ≡ modes.Inside → IsPlain octets → length old.content + length octets ≤ 1045 → Runs old (keeping_all old octets) octets []
+keeps_all_plain old octets inside plain le =
+    let here : old ≡ at modes.Inside old.content old.place old.opened = mode_is old modes.Inside inside in
+    let there = keeps_run octets old.content old.place old.opened plain le in
+    Runs-quiet old (keeping_all old octets) octets
+    (sym there.0 ∙ ap (λ (state : State). run state octets) (sym here))
+    (ap (λ (state : State). scan state octets) here ∙ there.1)
+
+pub kept_runs : (old new : State) (octets : List ℕ) (count room : ℕ) → old.mode ≡ modes.Inside → IsPlain (take count (take room octets)) → count ≤ length (take room octets)
+    → room ≤ length octets → length old.content + room ≤ 1045 → new ≡ keeping_all old (take count octets) → Runs old new (take count octets) []
+kept_runs old new octets count room inside plain within least fits e =
+    let short : count ≤ room = omega (arith, within, length-take-le room octets least) in
+    subst (λ (state : State). Runs old state (take count octets) []) (sym e)
+    (keeps_all_plain old (take count octets) inside (subst IsPlain (take-take count room octets short) plain) (omega (arith, short, fits, length-take-le count octets (omega (arith, short, least)))))
+
+-- in this mode an octet other than a flag is passed over
+abbrev Passes : Mode → Type 0
+Passes mode =
+    (octet : ℕ) (kept : List ℕ) (place opened : ℕ) → octet ≢ 0x7E
+    → (after (at mode kept place opened) octet ≡ at mode kept (place + 1) opened) × (events_of (at mode kept place opened) octet ≡ [])
+
+strays_one : Passes modes.Straying
+unfolding after events_of
+strays_one octet kept place opened flag = (simp (ne_eqb octet 0x7E flag), refl)
+
+skips_one : Passes modes.Skipping
+unfolding after events_of
+skips_one octet kept place opened flag = (simp (ne_eqb octet 0x7E flag), refl)
+
+passes_run : (mode : Mode) → Passes mode → (octets kept : List ℕ) (place opened : ℕ) → HasNoFlag octets
+    → (run (at mode kept place opened) octets ≡ at mode kept (place + length octets) opened) × (scan (at mode kept place opened) octets ≡ [])
+passes_run mode passes [] kept place opened none = (moved mode kept kept place (place + 0) opened refl (omega arith), refl)
+passes_run mode passes (octet ∷ octets) kept place opened none =
+    let first = passes octet kept place opened none.0 in
+    let others = passes_run mode passes octets kept (place + 1) opened none.1 in (
+      ap (λ (state : State). run state octets) first.0 ∙ others.0 ∙ moved mode kept kept _ _ opened refl (omega arith),
+      ap (λ (xs : List Event). xs ++ scan (after (at mode kept place opened) octet) octets) first.1
+          ∙ ap (λ (state : State). scan state octets) first.0 ∙ others.1,
+    )
+
+passes_all : (mode : Mode) → Passes mode → (old : State) (octets : List ℕ) → old.mode ≡ mode → HasNoFlag octets → Runs old (passing_all old octets) octets []
+passes_all mode passes old octets is none =
+    let here : old ≡ at mode old.content old.place old.opened = mode_is old mode is in
+    let there = passes_run mode passes octets old.content old.place old.opened none in
+    Runs-quiet old (passing_all old octets) octets
+    (mode_is (passing_all old octets) mode is ∙ sym there.0 ∙ ap (λ (state : State). run state octets) (sym here))
+    (ap (λ (state : State). scan state octets) here ∙ there.1)
+
+passes_straying : (old : State) (octets : List ℕ) → old.mode ≡ modes.Straying → HasNoFlag octets → Runs old (passing_all old octets) octets []
+passes_straying old octets is none = passes_all modes.Straying strays_one old octets is none
+
+passes_skipping : (old : State) (octets : List ℕ) → old.mode ≡ modes.Skipping → HasNoFlag octets → Runs old (passing_all old octets) octets []
+passes_skipping old octets is none = passes_all modes.Skipping skips_one old octets is none
+
+pub passed_runs : (old new : State) (octets : List ℕ) → (old.mode ≡ modes.Straying) ⊎ (old.mode ≡ modes.Skipping) → HasNoFlag octets → new ≡ passing_all old octets → Runs old new octets []
+passed_runs old new octets mode none e =
+    subst (λ (state : State). Runs old state octets []) (sym e) (elim mode [ inl is ↦ passes_straying old octets is none | inr is ↦ passes_skipping old octets is none ])
+
+-- ---- what a search finds
+
+-- up to here no octet is a flag
+no_flag : (octets : List ℕ) (count : ℕ) → ((place : ℕ) → place < count → get_or octets place 0 ≢ 0x7E) → count ≤ length octets → HasNoFlag (take count octets)
+no_flag octets zero none within = tt
+no_flag [] (suc count) none within = tt
+no_flag (octet ∷ octets) (suc count) none within =
+    (none 0 (omega arith), no_flag octets count (λ place below. none (suc place) (omega (arith, below))) (omega (arith, within)))
+
+-- up to here each octet stands for itself
+all_plain : (octets : List ℕ) (count : ℕ) → ((place : ℕ) → place < count → (get_or octets place 0 ≢ 0x7E) × (get_or octets place 0 ≢ 0x7D)) → count ≤ length octets
+    → IsPlain (take count octets)
+all_plain octets zero none within = tt
+all_plain [] (suc count) none within = tt
+all_plain (octet ∷ octets) (suc count) none within =
+    let here = none 0 (omega arith) in
+    (here.0, here.1, all_plain octets count (λ place below. none (suc place) (omega (arith, below))) (omega (arith, within)))
+
+pub no_flag_found : (octets : List ℕ) (found : Option ℕ) → IsFirstByte (is_byte 0x7E) octets found → HasNoFlag (take (unwrap_or found (length octets)) octets)
+no_flag_found octets None first = no_flag octets (length octets) (λ place below e. first place (omega arith) below (eq-eqb _ _ e)) (omega arith)
+no_flag_found octets (Some count) first =
+    no_flag octets count (λ place below e. first.0.before place (omega arith) below (eq-eqb _ _ e)) (omega (arith, first.0.high))
+
+marked : (octet : ℕ) → is_byte2 0x7E 0x7D octet ≡ false → (octet ≢ 0x7E) × (octet ≢ 0x7D)
+marked octet other = (λ e. absurd (false≢true (sym other ∙ rw e refl)), λ e. absurd (false≢true (sym other ∙ rw e refl)))
+
+unmarked : (b : Bool) → (b ≡ true → ⊥) → b ≡ false
+unmarked true never = absurd (never refl)
+unmarked false never = refl
+
+pub plain_found : (octets : List ℕ) (found : Option ℕ) → IsFirstByte (is_byte2 0x7E 0x7D) octets found → IsPlain (take (unwrap_or found (length octets)) octets)
+plain_found octets None first = all_plain octets (length octets) (λ place below. marked _ (unmarked _ (first place (omega arith) below))) (omega arith)
+plain_found octets (Some count) first =
+    all_plain octets count (λ place below. marked _ (unmarked _ (first.0.before place (omega arith) below))) (omega (arith, first.0.high))

@@ -1,0 +1,11 @@
+use Rattle.jt_stream.proofs.Gaining.{gains, refusal_stays}
+use Rattle.jt_stream.proofs.stream.take.Goals as goal
+
+pub returns-in-More-clause-items : goal.returns-in-More-clause-items
+returns-in-More-clause-items c = gains _ _ _ _ _ (rw c.in-More.is at c.take-taken.ensures.events) tt
+
+pub returns-in-Refused-clause-items : goal.returns-in-Refused-clause-items
+returns-in-Refused-clause-items c = gains _ _ _ _ _ (rw c.in-Refused.is at c.take-taken.ensures.events) (refusal_stays c.in-Refused.refusal)
+
+pub returns-in-Content-clause-items : goal.returns-in-Content-clause-items
+returns-in-Content-clause-items c = gains _ _ _ _ _ (rw c.in-Content.is at c.take-taken.ensures.events) c.judge.ensures.items
