@@ -9,3 +9,5 @@ pub mod PiecesTaken
 pub mod PrintedFirst
 pub mod RunsOver
 pub mod StepsTaken
+mod ScriptRuns
+mod TaskWords

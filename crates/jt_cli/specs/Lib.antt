@@ -8,3 +8,5 @@ pub mod Reporting
 pub mod Running
 pub mod Taking
 pub mod Words
+pub mod Script
+pub mod Acting

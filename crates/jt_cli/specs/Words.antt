@@ -3,6 +3,8 @@ use Rattle.std.specs.Prelude.{ℕ, List, [], ◌∷◌, codes}
 use Rattle.jt_cli.specs.declared.command.Command.{Command}
 use Rattle.jt_cli.specs.declared.command.Encoding.{Encoding}
 use Rattle.jt_cli.specs.declared.command.Encoding.TheVariants.{Octets, Hex}
+use Rattle.jt_cli.specs.declared.command.Task.{Task}
+use Rattle.jt_cli.specs.declared.command.Task.TheVariants.{Tell, Rehearse}
 use Rattle.jt_cli.specs.declared.command.Report.{Report}
 use Rattle.jt_cli.specs.declared.command.Report.TheVariants.{View, Check}
 
@@ -19,3 +21,8 @@ encoding_words Hex = codes "--hex" ∷ []
 -- the words of a command
 unfoldable pub words_of : Command → List (List ℕ)
 words_of command = report_word command.report ∷ encoding_words command.encoding
+
+-- the words of a task
+unfoldable pub words_of_task : Task → List (List ℕ)
+words_of_task (Tell command) = words_of command
+words_of_task Rehearse = codes "rehearse" ∷ []

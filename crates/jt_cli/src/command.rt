@@ -2,7 +2,8 @@
 
 ghost use Rattle.std.specs.Prelude.{◌≡◌, ◌≢◌, ◌↔◌, List, ℕ, map, string_bytes, IfSome, IsNone, IsTrue};
 ghost use Rattle.jt_cli.specs.declared.command.Command.{Command};
-ghost use Rattle.jt_cli.specs.Words.{words_of};
+ghost use Rattle.jt_cli.specs.declared.command.Task.{Task};
+ghost use Rattle.jt_cli.specs.Words.{words_of, words_of_task};
 
 /// What is told of an input.
 #[derive(Clone, Copy, Debug, PartialEq, Eq)]
@@ -21,7 +22,7 @@ pub enum Encoding {
     Hex,
 }
 
-/// What the program is told to do: the words are `view` or `check`, and then `--hex` or none.
+/// What is told of an input, and how it is written: the words are `view` or `check`, and then `--hex` or none.
 #[derive(Clone, Copy, Debug, PartialEq, Eq)]
 pub struct Command {
     pub report: Report,
@@ -57,5 +58,31 @@ impl Command {
             return None;
         };
         Some(Command { report, encoding })
+    }
+}
+
+/// What the program is told to do.
+#[derive(Clone, Copy, Debug, PartialEq, Eq)]
+pub enum Task {
+    /// Tells of a stream of octets.
+    Tell(Command),
+    /// Rehearses a script: the word is `rehearse`.
+    Rehearse,
+}
+
+impl Task {
+    /// Reads the words after the program's name: the one task that has them. None means that no task does.
+    pub fn from_words(words: &[String]) -> Option<Task>
+        ensures some { IfSome result (λ task. map string_bytes words.now ≡ words_of_task task) }
+        ensures that_one { (task : Task) → map string_bytes words.now ≡ words_of_task task → result ≡ Some task }
+        ensures none { IsNone result → (task : Task) → map string_bytes words.now ≢ words_of_task task }
+    {
+        if are_words(words, &["rehearse"]) {
+            return Some(Task::Rehearse);
+        }
+        match Command::from_words(words) {
+            Some(command) => Some(Task::Tell(command)),
+            None => None,
+        }
     }
 }

@@ -345,7 +345,8 @@ fn words_that_are_no_command(rt: HostRuntime) -> Result<(), Fail> {
     expect_usage(&rt, alloc, &["views"])?;
     expect_usage(&rt, alloc, &["view", "--hex", "--hex"])?;
     expect_usage(&rt, alloc, &["view", "--help"])?;
-    expect_usage(&rt, alloc, &["rehearse"])
+    expect_usage(&rt, alloc, &["rehearse", "--hex"])?;
+    expect_usage(&rt, alloc, &["make"])
 }
 
 // A check whose first piece has a refusal does not read again: in the last row the second read would fail.

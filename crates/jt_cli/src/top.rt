@@ -1,15 +1,22 @@
 //! All that the program does.
 
-ghost use Rattle.std.specs.Prelude.{◌≡◌, ◌≢◌, ◌⊎◌, ◌^◌, ℕ, List, map, string_bytes, IfSome};
+ghost use Rattle.std.specs.Prelude.{◌≡◌, ◌≢◌, ◌⊎◌, ◌^◌, ℕ, List, None, map, string_bytes, IfSome};
 ghost use Rattle.std.specs.Io.KnownBytes.{IsAtEnd, Appends};
 ghost use Rattle.jt_outside.specs.Count.{Rose};
 ghost use Rattle.jt_cli.specs.Answer.{usage, Answers, IsFault, Runs, ReadsNoFurther, PrintsTaken};
 ghost use Rattle.jt_cli.specs.Report.{answer_of};
-ghost use Rattle.jt_cli.specs.Words.{words_of};
+ghost use Rattle.jt_cli.specs.Acting.{Acts};
+ghost use Rattle.jt_cli.specs.Script.{script_reply, RunsScript};
+ghost use Rattle.jt_cli.specs.Words.{words_of, words_of_task};
+ghost use Rattle.jt_cli.specs.declared.command.Task.{Task};
+ghost use Rattle.jt_world.specs.Claim.{Kept};
+ghost use Rattle.jt_world.specs.Rehearsal.{world_of};
+ghost use Rattle.jt_world.specs.Rehearsing as rehearsing;
 ghost use Rattle.jt_cli.specs.declared.command.Command.{Command};
 
-use crate::command::Command;
+use crate::command::Task;
 use crate::lines::push_usage_line;
+use crate::playing::play;
 use crate::running::report;
 use crate::status::Status;
 use jt_outside::{Sink, Source, write_all};
@@ -53,10 +60,32 @@ fn refuse<K: Sink>(alloc: Global, sink: &mut K) -> Status
     }
 }
 
+// Does a task, or answers that there is none.
+fn act<S: Source, K: Sink>(
+    alloc: Global,
+    source: &mut S,
+    sink: &mut K,
+    task: Option<Task>,
+) -> Status
+    ensures acts { Acts task (S.left source.old) (S.left source.new) (K.written sink.old) (K.written sink.new) result }
+    ensures nothing_read { task ≡ None → source.new ≡ source.old }
+    ensures usage_only { result ≡ Status.Usage → task ≡ None }
+    ensures to_the_end { result ≡ Status.Done → IsAtEnd (S.left source.new) }
+    ensures read_fault { result ≡ Status.ReadFault → Rose (S.faults source.old) (S.faults source.new) }
+    ensures write_fault { result ≡ Status.WriteFault → Rose (K.faults sink.old) (K.faults sink.new) }
+{
+    match task {
+        Some(Task::Tell(command)) => report(alloc, source, sink, command, MOST),
+        Some(Task::Rehearse) => play(alloc, source, sink),
+        None => refuse(alloc, sink),
+    }
+}
+
 /// Does what the words say, which are those after the program's name. The runtime is for commands that are to come.
 ///
-/// The commands are `view` and `check`, each with or without `--hex`. All other words are answered the usage line, and then
-/// nothing is read. Of the source at most 2^40 octets are reported.
+/// The commands are `view` and `check`, each with or without `--hex`, and `rehearse`. All other words are answered the usage
+/// line, and then nothing is read. Of the source at most 2^40 octets are reported, and of a script at most 10,000,000 lines
+/// of at most 4,096 octets are heard.
 pub fn run<R, S: Source, K: Sink>(
     _rt: &R,
     alloc: Global,
@@ -81,13 +110,29 @@ pub fn run<R, S: Source, K: Sink>(
     ensures prints_taken { (command : Command) → map string_bytes words.now.items ≡ words_of command → result.status ≡ Status.ReadFault →
         PrintsTaken command (S.left outside.source) (S.left result.outside.source) (K.written outside.sink) (K.written result.outside.sink) }
 
-    // The words are those of no command.
-    ensures usage { ((command : Command) → map string_bytes words.now.items ≢ words_of command) →
+    // The words are those of a rehearsal: the octets of the script that were taken, what was written of the answer to them,
+    // that it is the answer to the whole script, whatever else it has, and that the claim of delivery holds of its world.
+    ensures rehearses { map string_bytes words.now.items ≡ words_of_task Task.Rehearse →
+        RunsScript (S.left outside.source) (S.left result.outside.source)
+        (K.written outside.sink) (K.written result.outside.sink) result.status }
+    // So, where the source tells its octets, and no fault came:
+    ensures rehearses_whole { map string_bytes words.now.items ≡ words_of_task Task.Rehearse →
+        IfSome (S.left outside.source) (λ script. IsFault result.status ⊎ ((result.status ≡ (script_reply script).status)
+        × Appends (K.written outside.sink) (K.written result.outside.sink) (script_reply script).text × Kept (world_of script))) }
+    // The script is read no further than the piece of at most 2^14 octets that has its first bad line.
+    ensures rehearses_no_further { map string_bytes words.now.items ≡ words_of_task Task.Rehearse →
+        rehearsing.ReadsNoFurther (2 ^ 14) (S.left outside.source) (S.left result.outside.source) }
+    // What is printed of a piece is written before the next is read.
+    ensures rehearses_prints_taken { map string_bytes words.now.items ≡ words_of_task Task.Rehearse → result.status ≡ Status.ReadFault →
+        rehearsing.PrintsTaken (S.left outside.source) (S.left result.outside.source) (K.written outside.sink) (K.written result.outside.sink) }
+
+    // The words are those of no task.
+    ensures usage { ((task : Task) → map string_bytes words.now.items ≢ words_of_task task) →
         Answers result.status usage (K.written outside.sink) (K.written result.outside.sink) }
-    ensures usage_reads_nothing { ((command : Command) → map string_bytes words.now.items ≢ words_of command) →
+    ensures usage_reads_nothing { ((task : Task) → map string_bytes words.now.items ≢ words_of_task task) →
         result.outside.source ≡ outside.source }
-    ensures usage_no_read_fault { ((command : Command) → map string_bytes words.now.items ≢ words_of command) → result.status ≢ Status.ReadFault }
-    ensures usage_only { result.status ≡ Status.Usage → (command : Command) → map string_bytes words.now.items ≢ words_of command }
+    ensures usage_no_read_fault { ((task : Task) → map string_bytes words.now.items ≢ words_of_task task) → result.status ≢ Status.ReadFault }
+    ensures usage_only { result.status ≡ Status.Usage → (task : Task) → map string_bytes words.now.items ≢ words_of_task task }
 
     ensures to_the_end { result.status ≡ Status.Done → IsAtEnd (S.left result.outside.source) }
     ensures read_fault { result.status ≡ Status.ReadFault → Rose (S.faults outside.source) (S.faults result.outside.source) }
@@ -97,10 +142,8 @@ pub fn run<R, S: Source, K: Sink>(
         mut source,
         mut sink,
     } = outside;
-    let status = match Command::from_words(words.as_slice()) {
-        Some(command) => report(alloc, &mut source, &mut sink, command, MOST),
-        None => refuse(alloc, &mut sink),
-    };
+    let task = Task::from_words(words.as_slice());
+    let status = act(alloc, &mut source, &mut sink, task);
     Ended {
         status,
         outside: Outside { source, sink },
