@@ -10,7 +10,8 @@ use Rattle.jt_cli.specs.declared.status.Status.TheVariants as status
 use Rattle.jt_cli.specs.declared.entry.Entry.{Entry}
 use Rattle.jt_cli.specs.declared.entry.Entry.TheVariants.{Frame, Refused}
 use Rattle.jt_cli.specs.Entry.{line_of, lines, entries_of, end_entries, frames, refusals, first_refusal}
-use Rattle.jt_cli.specs.Line.{refusal_line, counts_line, ok_line, too_long_line, hex_refused_line}
+use Rattle.jt_text.specs.Refusals.{refusal_line}
+use Rattle.jt_cli.specs.Line.{counts_line, ok_line, too_long_line, hex_refused_line}
 use Rattle.jt_cli.specs.Report.{view_text, check_text}
 use Rattle.jt_cli.specs.Reporting.{Tally, Counts, Closes}
 use Rattle.jt_cli.proofs.Counting.{frames-append, refusals-append}

@@ -19,7 +19,7 @@ use Rattle.jt_cli.specs.declared.status.Status.{Status}
 use Rattle.jt_cli.specs.declared.status.Status.TheVariants.{Refused}
 use Rattle.jt_cli.specs.Entry.{entries_of, end_entries, first_refusal}
 use Rattle.jt_cli.specs.HexInput as hex
-use Rattle.jt_cli.specs.Line.{refusal_line}
+use Rattle.jt_text.specs.Refusals.{refusal_line}
 use Rattle.jt_cli.specs.Report.{decoded, wrong_place, closing_of, closed_entries, report_text, check_text, answer_of, printed}
 use Rattle.jt_cli.specs.Reporting.{Tally, Counts, GoesOn, TellsOn, TellsLast, Closes}
 use Rattle.jt_cli.specs.Taking.{IsRead, Stands, printed_of, TakesOn, TakesLast, Ends, EndsTooLong}

@@ -5,7 +5,6 @@ pub mod EqualWords
 pub mod HexDigits
 pub mod HexSoFar
 pub mod InputTaken
-pub mod Pieces
 pub mod PiecesTaken
 pub mod PrintedFirst
 pub mod RunsOver

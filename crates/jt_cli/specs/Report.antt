@@ -3,7 +3,8 @@
 use Rattle.std.specs.Prelude.{ℕ, ◌%◌, ◌==◌, nat_lt, if◌then◌else◌, Bool, true, false, List, [], ◌++◌, length, take, Option, Some, None}
 use Rattle.jt_value.specs.declared.refusal.Refusal.{Refusal}
 use Rattle.jt_escape.specs.Scan.{end_of_stream}
-use Rattle.jt_cli.specs.Line.{refusal_line, counts_line, ok_line, too_long_line, hex_refused_line}
+use Rattle.jt_text.specs.Refusals.{refusal_line}
+use Rattle.jt_cli.specs.Line.{counts_line, ok_line, too_long_line, hex_refused_line}
 use Rattle.jt_cli.specs.Entry.{lines, entries_of, end_entries, refusals, frames, first_refusal}
 use Rattle.jt_cli.specs.declared.entry.Entry.{Entry}
 use Rattle.jt_cli.specs.HexInput.{first_wrong, digits, octets_of}

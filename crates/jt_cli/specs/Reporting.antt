@@ -9,7 +9,7 @@ use Rattle.jt_cli.specs.declared.command.Report.TheVariants.{View, Check}
 use Rattle.jt_cli.specs.declared.entry.Entry.{Entry}
 use Rattle.jt_cli.specs.declared.closing.Closing.{Closing}
 use Rattle.jt_cli.specs.declared.status.Status.{Status}
-use Rattle.jt_cli.specs.Line.{refusal_line}
+use Rattle.jt_text.specs.Refusals.{refusal_line}
 use Rattle.jt_cli.specs.Report.{printed, report_text, closed_entries}
 use Rattle.jt_cli.specs.Entry.{lines, entries_of, frames, refusals, first_refusal}
 

@@ -16,8 +16,9 @@ mod top;
 
 pub use closing::Closing;
 pub use command::{Command, Encoding, Report};
-pub use entry::{Entry, refusal_line, view_line};
+pub use entry::Entry;
 pub use hex_laws::{law_octets_of_front, law_wrong_stays};
+pub use jt_text::{refusal_line, view_line};
 pub use running::report;
 pub use status::Status;
 pub use top::{Ended, Outside, run};

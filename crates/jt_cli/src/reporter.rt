@@ -109,7 +109,7 @@ impl Reporter {
         match wrong {
             Some(index) => {
                 let closing = Closing::HexRefused(self.taken + index as u64);
-                let status = close(alloc, self.command.report, closing, &self.tally, text)?;
+                let status = close(self.command.report, closing, &self.tally, text)?;
                 Ok(Some(status))
             }
             None => {
@@ -143,18 +143,12 @@ impl Reporter {
     }
 
     /// Puts what closes the report of an input that ends here, and answers its status.
-    pub fn end(&self, alloc: Global, text: &mut String) -> Result<Status, Memory>
+    pub fn end(&self, text: &mut String) -> Result<Status, Memory>
         requires place { self.now.tally.stream.splitter.place < 2 ^ 63 }
         ensures ends { IfOk result (λ status. Ends self.now (string_bytes text.old) (string_bytes text.new) status) }
         ensures status { IfOk result (λ status. (status ≡ Status.Done) ⊎ (status ≡ Status.Refused)) }
     {
-        close(
-            alloc,
-            self.command.report,
-            self.closing(),
-            &self.tally,
-            text,
-        )
+        close(self.command.report, self.closing(), &self.tally, text)
     }
 
     // How an input that ends here closes.
@@ -169,17 +163,11 @@ impl Reporter {
     }
 
     /// Puts what closes the report of an input that goes on, though no more of it may be read, and answers its status.
-    pub fn end_too_long(&self, alloc: Global, text: &mut String) -> Result<Status, Memory>
+    pub fn end_too_long(&self, text: &mut String) -> Result<Status, Memory>
         requires place { self.now.tally.stream.splitter.place < 2 ^ 63 }
         ensures ends { IfOk result (λ status. EndsTooLong self.now (string_bytes text.old) (string_bytes text.new) status) }
         ensures refused { IfOk result (λ status. status ≡ Status.Refused) }
     {
-        close(
-            alloc,
-            self.command.report,
-            Closing::TooLong,
-            &self.tally,
-            text,
-        )
+        close(self.command.report, Closing::TooLong, &self.tally, text)
     }
 }

@@ -45,7 +45,7 @@ fn advance(
     match reporter.take(alloc, &piece[..room as usize], text)? {
         Some(status) => Ok(Some(status)),
         None => {
-            let status = reporter.end_too_long(alloc, text)?;
+            let status = reporter.end_too_long(text)?;
             Ok(Some(status))
         }
     }
@@ -93,7 +93,7 @@ fn step<K: Sink>(
 }
 
 // Writes what closes the report of an input that was read to its end, and answers the status of the run.
-fn finish<K: Sink>(alloc: Global, sink: &mut K, reporter: &Reporter, text: &mut String) -> Status
+fn finish<K: Sink>(sink: &mut K, reporter: &Reporter, text: &mut String) -> Status
     requires place { reporter.now.tally.stream.splitter.place < 2 ^ 63 }
     ensures finishes { (most : ℕ) → Finishes most reporter.now (K.written sink.old) (K.written sink.new) result }
     ensures later { K.faults sink.old ≤ K.faults sink.new }
@@ -103,7 +103,7 @@ fn finish<K: Sink>(alloc: Global, sink: &mut K, reporter: &Reporter, text: &mut 
     law_all_items();
     law_octets_of_front();
     text.clear();
-    match reporter.end(alloc, text) {
+    match reporter.end(text) {
         Ok(status) => {
             if write_all(sink, text.as_bytes()) {
                 status
@@ -147,7 +147,7 @@ pub fn report<S: Source, K: Sink>(
                     None => {}
                 }
             }
-            Got::End => return finish(alloc, sink, &reporter, &mut text),
+            Got::End => return finish(sink, &reporter, &mut text),
             Got::Failed => return Status::ReadFault,
         }
     }

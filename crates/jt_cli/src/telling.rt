@@ -7,20 +7,19 @@ ghost use Rattle.jt_cli.specs.Reporting.{Views, Checks, Tells, TellsOn, Closes};
 use crate::closing::Closing;
 use crate::command::Report;
 use crate::entry::Entry;
-use crate::lines::{
-    push_counts_line, push_hex_refused_line, push_ok_line, push_refusal_line, push_too_long_line,
-};
+use crate::lines::{push_counts_line, push_hex_refused_line, push_ok_line, push_too_long_line};
 use crate::status::Status;
 use crate::tally::Tally;
 use jt_stream::law_all_items;
+use jt_text::push_refusal_line;
 use jt_value::{Memory, Refusal};
 use std::alloc::{AllocError, Global};
 
-fn push_entry(alloc: Global, text: &mut String, entry: &Option<Entry>) -> Result<(), AllocError>
+fn push_entry(text: &mut String, entry: &Option<Entry>) -> Result<(), AllocError>
     ensures { OnOk result (string_bytes text.new ≡ string_bytes text.old ++ lines (option_to_list entry.now)) }
 {
     match entry {
-        Some(entry) => entry.push_line(alloc, text),
+        Some(entry) => entry.push_line(text),
         None => Ok(()),
     }
 }
@@ -39,7 +38,7 @@ fn view_next(
     ensures views { IfOk result (λ count. Views tally.old tally.new (take count piece.now) (string_bytes text.old) (string_bytes text.new)) }
 {
     let (count, entry) = tally.next(alloc, piece)?;
-    push_entry(alloc, text, &entry)?;
+    push_entry(text, &entry)?;
     Ok(count)
 }
 
@@ -95,7 +94,7 @@ fn check(alloc: Global, tally: &mut Tally, octets: &[u8], text: &mut String) -> 
         at += count;
         match refusal {
             Some(refusal) => {
-                push_refusal_line(alloc, text, &refusal)?;
+                push_refusal_line(text, &refusal)?;
                 return Ok(true);
             }
             None => {}
@@ -126,11 +125,11 @@ pub fn tell(
     }
 }
 
-fn push_end(alloc: Global, text: &mut String, end: Option<Refusal>) -> Result<(), AllocError>
+fn push_end(text: &mut String, end: Option<Refusal>) -> Result<(), AllocError>
     ensures { OnOk result (string_bytes text.new ≡ string_bytes text.old ++ lines (end_entries end)) }
 {
     match end {
-        Some(refusal) => push_refusal_line(alloc, text, &refusal),
+        Some(refusal) => push_refusal_line(text, &refusal),
         None => Ok(()),
     }
 }
@@ -158,26 +157,26 @@ fn status_of(refused: u64) -> Status
 }
 
 // Closes a view of a stream that was read to its end.
-fn close_view(alloc: Global, tally: &Tally, text: &mut String) -> Result<Status, Memory>
+fn close_view(tally: &Tally, text: &mut String) -> Result<Status, Memory>
     requires { tally.now.stream.splitter.place < 2 ^ 63 }
     ensures closes { IfOk result (λ status. Closes Report.View Closing.Whole tally.now (string_bytes text.old) (string_bytes text.new) status) }
     ensures status { IfOk result (λ status. (status ≡ Status.Done) ⊎ (status ≡ Status.Refused)) }
 {
     let end = tally.finish();
-    push_end(alloc, text, end)?;
+    push_end(text, end)?;
     let refused = tally.refused() + end_refusals(end);
     push_counts_line(text, tally.frames(), refused)?;
     Ok(status_of(refused))
 }
 
 // Closes a check of a stream that was read to its end, and has no refusal before that.
-fn close_check(alloc: Global, tally: &Tally, text: &mut String) -> Result<Status, Memory>
+fn close_check(tally: &Tally, text: &mut String) -> Result<Status, Memory>
     ensures closes { IfOk result (λ status. Closes Report.Check Closing.Whole tally.now (string_bytes text.old) (string_bytes text.new) status) }
     ensures status { IfOk result (λ status. (status ≡ Status.Done) ⊎ (status ≡ Status.Refused)) }
 {
     match tally.finish() {
         Some(refusal) => {
-            push_refusal_line(alloc, text, &refusal)?;
+            push_refusal_line(text, &refusal)?;
             Ok(Status::Refused)
         }
         None => {
@@ -189,7 +188,6 @@ fn close_check(alloc: Global, tally: &Tally, text: &mut String) -> Result<Status
 
 /// Puts what closes a report that goes on up to there, and answers the status with which the run then ends.
 pub fn close(
-    alloc: Global,
     report: Report,
     closing: Closing,
     tally: &Tally,
@@ -201,8 +199,8 @@ pub fn close(
     ensures cut { closing ≢ Closing.Whole → IfOk result (λ status. status ≡ Status.Refused) }
 {
     match (closing, report) {
-        (Closing::Whole, Report::View) => close_view(alloc, tally, text),
-        (Closing::Whole, Report::Check) => close_check(alloc, tally, text),
+        (Closing::Whole, Report::View) => close_view(tally, text),
+        (Closing::Whole, Report::Check) => close_check(tally, text),
         (Closing::TooLong, _) => {
             push_too_long_line(text)?;
             Ok(Status::Refused)

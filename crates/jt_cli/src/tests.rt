@@ -155,7 +155,7 @@ fn views(rt: HostRuntime) -> Result<(), Fail> {
         (
             b"\x7e\x80\x01\x00\x05\x01\x39\x12\x34\x56\x78\x00\x00\x00\x00\x00\x02\x00\xb6\x7e".as_slice(),
             Status::Done,
-            "0 2013 0x8001 opaque phone=013912345678 serial=0 body=5 body-octets=0000000200\nframes=1 refused=0\n",
+            "0 2013 0x8001 platform-ack phone=013912345678 serial=0 body=5 reply=0 id=0x0002 result=0\nframes=1 refused=0\n",
         ),
         (
             b"\x7e\x00\x02\x00\x01\x01\x39\x12\x34\x56\x78\x00\x00\x41\x72\x7e".as_slice(),
@@ -166,6 +166,51 @@ fn views(rt: HostRuntime) -> Result<(), Fail> {
             b"\x7e\x00\x02\x00\x01\x01\x39\x12\x34\x56\x78\x00\x00\x41\x72\x7e\x7e\x00\x02\x00\x00\x01\x39\x12\x34\x56\x78\x00\x00\x32\x7e".as_slice(),
             Status::Refused,
             "0+12 refused Trailing\n16 2013 0x0002 heartbeat phone=013912345678 serial=0 body=0\nframes=1 refused=1\n",
+        ),
+    ] {
+        expect(&rt, alloc, &["view"], octets, (0, 0), status, written)?;
+    }
+    Ok(())
+}
+
+#[test]
+fn views_of_bodies(rt: HostRuntime) -> Result<(), Fail> {
+    let alloc = rt.alloc();
+    for (octets, status, written) in [
+        (
+            b"\x7e\x02\x00\x00\x21\x01\x39\x12\x34\x56\x78\x00\x05\x00\x00\x00\x00\x00\x00\x00\x03\x01\x31\x2d\x00\x06\xbc\x3e\x40\x00\x00\x00\x00\x00\x00\x00\x00\x00\x00\x00\x00\x01\x03\x00\x00\x0a\xc4\x7e".as_slice(),
+            Status::Done,
+            "0 2013 0x0200 position phone=013912345678 serial=5 body=33 alarm=0x00000000 status=0x00000003 lat=20000000 lon=113000000 altitude=0 speed=0 direction=0 time=- item=0x01:00000a\nframes=1 refused=0\n",
+        ),
+        (
+            b"\x7e\x81\x00\x00\x03\x01\x39\x12\x34\x56\x78\x00\x00\x00\x05\x03\xb4\x7e".as_slice(),
+            Status::Done,
+            "0 2013 0x8100 register-reply phone=013912345678 serial=0 body=3 reply=5 result=3\nframes=1 refused=0\n",
+        ),
+        (
+            b"\x7e\x81\x00\x00\x03\x01\x39\x12\x34\x56\x78\x00\x00\x00\x05\x00\xb7\x7e".as_slice(),
+            Status::Done,
+            "0 2013 0x8100 register-reply phone=013912345678 serial=0 body=3 reply=5 result=0 code=-\nframes=1 refused=0\n",
+        ),
+        (
+            b"\x7e\x81\x00\x00\x04\x01\x39\x12\x34\x56\x78\x00\x00\x00\x05\x03\x41\xf2\x7e".as_slice(),
+            Status::Refused,
+            "0+15 refused Trailing\nframes=0 refused=1\n",
+        ),
+        (
+            b"\x7e\x07\x04\x00\x06\x01\x39\x12\x34\x56\x78\x00\x00\x00\x01\x00\x00\x1c\x00\x28\x7e".as_slice(),
+            Status::Refused,
+            "0+17 refused Truncated\nframes=0 refused=1\n",
+        ),
+        (
+            b"\x7e\x01\x00\x00\x29\x01\x39\x12\x34\x56\x78\x00\x01\x00\x2c\x01\x2c\x37\x30\x31\x31\x31\x41\x31\x00\x00\x00\x00\x00\x00\x00\x00\x00\x00\x00\x00\x00\x00\x00\x00\x00\x00\x31\x32\x33\x34\x35\x36\x37\x02\xd4\xc1\x00\x42\x3b\x7e".as_slice(),
+            Status::Done,
+            "0 2013 0x0100 register phone=013912345678 serial=1 body=41 province=44 city=300 maker=3730313131 model=4131000000000000000000000000000000000000 terminal=31323334353637 colour=2 plate=d4c10042\nframes=1 refused=0\n",
+        ),
+        (
+            b"\x7e\x00\x02\x00\x00\x01\x39\x12\x34\x56\x78\x00\x00\x32\x7e\x7e\x81\x00\x00\x04\x01\x39\x12\x34\x56\x78\x00\x00\x00\x05\x03\x41\xf2\x7e\x7e\x01\x02\x00\x02\x01\x39\x12\x34\x56\x78\x00\x02\x31\x32\x30\x7e".as_slice(),
+            Status::Refused,
+            "0 2013 0x0002 heartbeat phone=013912345678 serial=0 body=0\n15+15 refused Trailing\n34 2013 0x0102 auth phone=013912345678 serial=2 body=2 code=3132\nframes=2 refused=1\n",
         ),
     ] {
         expect(&rt, alloc, &["view"], octets, (0, 0), status, written)?;

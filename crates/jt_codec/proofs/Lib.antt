@@ -1,2 +1,3 @@
+pub mod AckLaws
 pub mod BodyLaws
 pub mod FrameLaws

@@ -1,41 +1,39 @@
 -- The body of each message id: the standard's table, as far as it is built. To be believed.
-use Rattle.std.specs.Prelude.{◌≡◌, ℕ, ◌≤◌, ◌==◌, if◌then◌else◌, List, [], length, Option, Some, None, IsSomeAnd}
+use Rattle.std.specs.Prelude.{ℕ, ◌==◌, ◌&&◌, Bool, true, false, List, [], Option, Some, None, IsSomeAnd}
 use Rattle.jt_value.specs.declared.phone.Edition.{Edition}
+use Rattle.jt_value.specs.declared.phone.Edition.TheVariants.{E2013, E2019}
 use Rattle.jt_value.specs.declared.refusal.CodecError.{CodecError}
 use Rattle.jt_value.specs.declared.refusal.CodecError.TheVariants as errors
+use Rattle.jt_layout.specs.Answer.{IsPlaced}
 use Rattle.jt_layout.specs.Layout.{Body, Fills, empty, rest, if_body, body_case}
+use Rattle.jt_position.specs.Positions.{position, batch}
+use Rattle.jt_register.specs.Registration.{register_2013, register_reply, auth_2013}
+use Rattle.jt_codec.specs.Kinds.{terminal_ack_of, platform_ack_of, heartbeat_of, deregister_of, register_of, register_reply_of, auth_of, query_params_of, position_of, position_reply_of, query_position_of, batch_of, opaque_of}
+use Rattle.jt_codec.specs.Layouts.{ack, position_reply}
 use Rattle.jt_codec.specs.declared.message.Message.{Message}
-use Rattle.jt_codec.specs.declared.message.Message.TheVariants.{Heartbeat, Deregister, QueryParams, QueryPosition, Opaque, Part}
+use Rattle.jt_codec.specs.declared.message.Message.TheVariants as message
 
--- the fields of each kind of message
-abbrev pub heartbeat_of : Message → Option (Unit {0})
-heartbeat_of Heartbeat = Some tt
-heartbeat_of _ = None
+-- the edition of 2013
+abbrev pub is_2013 : Edition → Bool
+is_2013 E2013 = true
+is_2013 E2019 = false
 
-abbrev pub deregister_of : Message → Option (Unit {0})
-deregister_of Deregister = Some tt
-deregister_of _ = None
-
-abbrev pub query_params_of : Message → Option (Unit {0})
-query_params_of QueryParams = Some tt
-query_params_of _ = None
-
-abbrev pub query_position_of : Message → Option (Unit {0})
-query_position_of QueryPosition = Some tt
-query_position_of _ = None
-
-abbrev pub opaque_of : ℕ → Message → Option (List ℕ)
-opaque_of id (Opaque own octets) = if own == id then Some octets else None
-opaque_of id _ = None
-
--- The row of an id. So far the rows are the same in both editions. Under every other id a body is opaque.
+-- The row of an id. A row of 2013 alone says so; so far no row is of 2019 alone. Under every other id a body is opaque.
 unfoldable pub body : Edition → ℕ → Body Message
 body edition id =
-    if_body (id == 0x0002) (body_case empty (λ _. Heartbeat) heartbeat_of) (
-    if_body (id == 0x0003) (body_case empty (λ _. Deregister) deregister_of) (
-    if_body (id == 0x8104) (body_case empty (λ _. QueryParams) query_params_of) (
-    if_body (id == 0x8201) (body_case empty (λ _. QueryPosition) query_position_of)
-    (body_case rest (Opaque id) (opaque_of id)))))
+    if_body (id == 0x0001) (body_case ack (λ x. message.TerminalAck x.0 x.1 x.2) terminal_ack_of) (
+    if_body (id == 0x8001) (body_case ack (λ x. message.PlatformAck x.0 x.1 x.2) platform_ack_of) (
+    if_body (id == 0x0002) (body_case empty (λ _. message.Heartbeat) heartbeat_of) (
+    if_body (id == 0x0003) (body_case empty (λ _. message.Deregister) deregister_of) (
+    if_body (is_2013 edition && (id == 0x0100)) (body_case register_2013 message.Register register_of) (
+    if_body (id == 0x8100) (body_case register_reply message.RegisterReply register_reply_of) (
+    if_body (is_2013 edition && (id == 0x0102)) (body_case auth_2013 message.Auth auth_of) (
+    if_body (id == 0x8104) (body_case empty (λ _. message.QueryParams) query_params_of) (
+    if_body (id == 0x0200) (body_case position message.Position position_of) (
+    if_body (id == 0x0201) (body_case position_reply (λ x. message.PositionReply x.0 x.1) position_reply_of) (
+    if_body (id == 0x8201) (body_case empty (λ _. message.QueryPosition) query_position_of) (
+    if_body (id == 0x0704) (body_case batch message.Batch batch_of)
+    (body_case rest (message.Opaque id) (opaque_of id)))))))))))))
 
 -- under this id, the octets are the message's fields in the order of the row
 abbrev pub HasBody : Edition → ℕ → Message → List ℕ → Type 0
@@ -43,12 +41,20 @@ HasBody edition id message octets = Fills (body edition id) octets 0 message
 
 -- the id that a message stands under; a part has no row, and so no id of its own
 abbrev pub id_of : Message → Option ℕ
-id_of Heartbeat = Some 0x0002
-id_of Deregister = Some 0x0003
-id_of QueryParams = Some 0x8104
-id_of QueryPosition = Some 0x8201
-id_of (Opaque id octets) = Some id
-id_of (Part octets) = None
+id_of (message.TerminalAck _ _ _) = Some 0x0001
+id_of (message.PlatformAck _ _ _) = Some 0x8001
+id_of message.Heartbeat = Some 0x0002
+id_of message.Deregister = Some 0x0003
+id_of (message.Register _) = Some 0x0100
+id_of (message.RegisterReply _) = Some 0x8100
+id_of (message.Auth _) = Some 0x0102
+id_of message.QueryParams = Some 0x8104
+id_of (message.Position _) = Some 0x0200
+id_of (message.PositionReply _ _) = Some 0x0201
+id_of message.QueryPosition = Some 0x8201
+id_of (message.Batch _) = Some 0x0704
+id_of (message.Opaque id _) = Some id
+id_of (message.Part _) = None
 
 -- the table has octets for the message in this edition
 abbrev pub Fits : Edition → Message → Type 0
@@ -62,7 +68,7 @@ octets_under (Some id) edition message = (body edition id).spell message
 abbrev pub body_octets : Edition → Message → List ℕ
 body_octets edition message = octets_under (id_of message) edition message
 
--- a refusal counts from the first of the octets, and its place is one of them, or their end
+-- a refusal's place is that of one of the octets, or their end
 abbrev pub IsInside : List ℕ → CodecError → Type 0
-IsInside octets (errors.Refused refusal) = (refusal.at ≡ 0) × (refusal.inside ≤ length octets)
+IsInside octets (errors.Refused refusal) = IsPlaced octets refusal
 IsInside octets errors.Memory = Unit {0}

@@ -1,14 +1,16 @@
 -- The laws of bodies and frames. To be believed.
-use Rattle.std.specs.Prelude.{◌≡◌, ℕ, ◌⊎◌, List, Some, Ok, Err}
+use Rattle.std.specs.Prelude.{◌≡◌, ℕ, ◌<◌, ◌^◌, ◌⊎◌, List, ◌++◌, Some, Ok, Err}
+use Rattle.std.specs.Int.{w8, w16, to_be_bytes}
 use Rattle.jt_value.specs.declared.phone.Edition.{Edition}
 use Rattle.jt_value.specs.declared.refusal.Refusal.{Refusal}
 use Rattle.jt_value.specs.Octets.{AreOctets}
 use Rattle.jt_header.specs.declared.header.Header.{Header}
 use Rattle.jt_layout.specs.Answer.{IsOneToOne}
-use Rattle.jt_codec.specs.Bodies.{body, id_of}
+use Rattle.jt_codec.specs.Bodies.{Fits, body, body_octets, id_of}
 use Rattle.jt_codec.specs.Frames.{Frame, IsRefused}
 use Rattle.jt_codec.specs.Parsing.{parsed}
 use Rattle.jt_codec.specs.declared.message.Message.{Message}
+use Rattle.jt_codec.specs.declared.message.Message.TheVariants.{TerminalAck, PlatformAck}
 
 -- under each id, octets have exactly one message or exactly one reason, and messages have octets of their own
 abbrev pub AreOneToOne : Type 0
@@ -17,6 +19,17 @@ AreOneToOne = (edition : Edition) (id : ℕ) → IsOneToOne (body edition id)
 -- a message fits under its own id alone
 abbrev pub AreUnderTheirIds : Type 0
 AreUnderTheirIds = (edition : Edition) (id : ℕ) (message : Message) → (body edition id).Fits message → id_of message ≡ Some id
+
+-- reply, id and result
+abbrev pub ack_octets : ℕ → ℕ → ℕ → List ℕ
+ack_octets reply id result = to_be_bytes w16 reply ++ (to_be_bytes w16 id ++ to_be_bytes w8 result)
+
+-- the octets of general responses; each fits where its numbers do
+pub record AckOctets : Type 0 where
+  pub terminal : (edition : Edition) (reply id result : ℕ) → body_octets edition (TerminalAck reply id result) ≡ ack_octets reply id result
+  pub platform : (edition : Edition) (reply id result : ℕ) → body_octets edition (PlatformAck reply id result) ≡ ack_octets reply id result
+  pub terminal_fits : (edition : Edition) (reply id result : ℕ) → reply < 2 ^ 16 → id < 2 ^ 16 → result < 2 ^ 8 → Fits edition (TerminalAck reply id result)
+  pub platform_fits : (edition : Edition) (reply id result : ℕ) → reply < 2 ^ 16 → id < 2 ^ 16 → result < 2 ^ 8 → Fits edition (PlatformAck reply id result)
 
 -- the octets are the content of a frame
 abbrev pub HasFrame : List ℕ → Type 0

@@ -1,12 +1,17 @@
 //! Laws of bodies and frames. Each is a function that does nothing, whose contract is the law.
 
-ghost use Rattle.jt_codec.specs.Law.{AreOneToOne, AreUnderTheirIds, IsNeverBoth, IsOneFrame, IsOneOrTheOther, IsOneRefusal, IsParsedFrame, IsParsedRefusal};
+ghost use Rattle.jt_codec.specs.Law.{AckOctets, AreOneToOne, AreUnderTheirIds, IsNeverBoth, IsOneFrame, IsOneOrTheOther, IsOneRefusal, IsParsedFrame, IsParsedRefusal};
 
 /// Under each id and in each edition, octets have exactly one message or exactly one reason; two messages have the same
 /// octets only if they are equal; and a message fits under its own id alone.
 pub fn law_of_bodies()
     ensures one_to_one { AreOneToOne }
     ensures ids { AreUnderTheirIds }
+{}
+
+/// A general response has five octets in either edition: the serial and the id of what it answers, and the result.
+pub fn law_of_acks()
+    ensures { AckOctets }
 {}
 
 /// Octets are the content of one frame, of one header and one message, or they have one reason, and never both.

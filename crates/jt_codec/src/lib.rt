@@ -1,14 +1,16 @@
 //! Messages: bodies of any id, read and written, and whole frames.
 #![tactic(auto)]
 
+mod ack;
 mod body;
 mod frame;
 mod laws;
 mod message;
+mod position_reply;
 
 pub use body::{read_body, write_body};
 pub use frame::{frame_into, parse_frame, read_message};
-pub use laws::{law_of_bodies, law_of_frames};
+pub use laws::{law_of_acks, law_of_bodies, law_of_frames};
 pub use message::Message;
 
 #[cfg(test)]

@@ -30,7 +30,7 @@ fn empty_bodies(rt: HostRuntime) -> Result<(), Fail> {
 
 #[test]
 fn opaque_bodies(rt: HostRuntime) -> Result<(), Fail> {
-    for id in [0x0000, 0x0001, 0x0FFF, 0x8103, 0xFFFF] {
+    for id in [0x0000, 0x0100, 0x0102, 0x0FFF, 0x8003, 0xFFFF] {
         let message = read_body(rt.alloc(), Edition::E2019, id, &[7, 9]).expect(&rt, "a body");
         assert_eq!(rt; message.id(), Some(id));
         assert!(rt; message.fits(Edition::E2019));
@@ -42,6 +42,85 @@ fn opaque_bodies(rt: HostRuntime) -> Result<(), Fail> {
         body: Octets::new(rt.alloc()),
     };
     assert!(rt; !known.fits(Edition::E2013));
+    Ok(())
+}
+
+// The position of a fix at 20 degrees north, with a mileage of 10 (the standard's layout of 28 octets and an item).
+const POSITION: [u8; 34] =
+    *b"\0\0\0\0\0\0\0\x03\x01\x31\x2D\0\x06\xBC\x3E\x40\0\0\0\0\0\0\x24\x01\x01\0\0\0\x01\x04\0\0\0\x0A";
+
+const REGISTER: [u8; 39] =
+    *b"\0\x2C\x01\x2C70111A1\0\0\0\0\0\0\0\0\0\0\0\0\0\0\0\0\0\01234567\x02\xD4\xC1";
+
+#[test]
+fn bodies_with_rows(rt: HostRuntime) -> Result<(), Fail> {
+    let rows: [(u16, &[u8]); 10] = [
+        (0x0001, b"\0\x07\x81\x03\x02"),
+        (0x8001, b"\xFF\xFF\0\x02\xFF"),
+        (0x0100, &REGISTER),
+        (0x8100, b"\0\x05\x03"),
+        (0x8100, b"\0\x05\0A"),
+        (0x0102, b"A\0"),
+        (0x0200, &POSITION),
+        (
+            0x0201,
+            b"\0\x09\0\0\0\0\0\0\0\0\0\0\0\0\0\0\0\0\0\0\0\0\0\0\0\0\0\0\0\0",
+        ),
+        (0x0704, b"\0\0\x01"),
+        (
+            0x0704,
+            b"\0\x01\0\0\x1C\0\0\0\0\0\0\0\0\0\0\0\0\0\0\0\0\0\0\0\0\0\0\0\0\0\0\0\0",
+        ),
+    ];
+    for (id, body) in rows {
+        let message = read_body(rt.alloc(), Edition::E2013, id, body).expect(&rt, "a body");
+        assert_eq!(rt; message.id(), Some(id));
+        assert!(rt; message.fits(Edition::E2013));
+        assert!(rt; !matches!(&message, Message::Opaque { .. }));
+        let octets = write_body(rt.alloc(), Edition::E2013, &message)?;
+        assert_eq!(rt; octets.as_slice(), body);
+    }
+    Ok(())
+}
+
+#[test]
+fn responses(rt: HostRuntime) -> Result<(), Fail> {
+    let body = [0, 7, 0x81, 0x03, 2];
+    let terminal = read_body(rt.alloc(), Edition::E2019, 0x0001, &body).expect(&rt, "a body");
+    let same = matches!(
+        &terminal,
+        Message::TerminalAck {
+            reply: 7,
+            id: 0x8103,
+            result: 2
+        }
+    );
+    assert!(rt; same);
+    let platform = read_body(rt.alloc(), Edition::E2019, 0x8001, &body).expect(&rt, "a body");
+    let same = matches!(
+        &platform,
+        Message::PlatformAck {
+            reply: 7,
+            id: 0x8103,
+            result: 2
+        }
+    );
+    assert!(rt; same);
+    Ok(())
+}
+
+// A registration is read in 2013, and fits that edition alone.
+#[test]
+fn registrations_of_2013(rt: HostRuntime) -> Result<(), Fail> {
+    let register = read_body(rt.alloc(), Edition::E2013, 0x0100, &REGISTER).expect(&rt, "a body");
+    let same =
+        matches!(&register, Message::Register(register) if register.plate.as_slice() == b"\xD4\xC1".as_slice());
+    assert!(rt; same);
+    assert!(rt; !register.fits(Edition::E2019));
+    let auth = read_body(rt.alloc(), Edition::E2013, 0x0102, b"A").expect(&rt, "a body");
+    let same = matches!(&auth, Message::Auth(auth) if auth.code.as_slice() == b"A".as_slice());
+    assert!(rt; same);
+    assert!(rt; !auth.fits(Edition::E2019));
     Ok(())
 }
 
@@ -63,7 +142,17 @@ fn header(id: u16, serial: u16, packet: Option<Packet>) -> Header {
 
 #[test]
 fn refused_contents(rt: HostRuntime) -> Result<(), Fail> {
-    let rows: [(&[u8], u64, Why); 4] = [
+    let rows: [(&[u8], u64, Why); 6] = [
+        (
+            b"\x81\x00\x00\x04\x01\x39\x12\x34\x56\x78\x00\x00\x00\x05\x03\x41\xF2",
+            15,
+            Why::Trailing,
+        ),
+        (
+            b"\x07\x04\x00\x06\x01\x39\x12\x34\x56\x78\x00\x00\x00\x01\x00\x00\x1C\x00\x28",
+            17,
+            Why::Truncated,
+        ),
         (
             b"\x00\x02\x00\x01\x01\x39\x12\x34\x56\x78\x00\x00\x07\x34",
             12,

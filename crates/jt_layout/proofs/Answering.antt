@@ -46,6 +46,7 @@ one_to_one b law = record {
   };
   reads_back = λ a fits. record { fits = fits; parts = refl };
   distinct = λ a c fa fc same. one_value b law (b.spell a) a c (record { fits = fa; parts = refl }) (record { fits = fc; parts = same });
+  placed = λ s r h. law.placed s 0 r (omega arith) h;
 }
 
 -- two pieces written one after the other

@@ -8,6 +8,7 @@ use Rattle.std.proofs.lemmas.Nat.{be_bytes_2, be_bytes_4, from_be_bytes-to_be_by
 use Rattle.jt_value.specs.declared.refusal.Refusal.{Refusal}
 use Rattle.jt_value.specs.Octets.{AreOctets}
 use Rattle.jt_value.proofs.OctetLists.{AreOctets-drop, AreOctets-take}
+use Rattle.jt_layout.specs.Answer.{IsPlaced}
 use Rattle.jt_layout.specs.Layout.{Part, Body, Stands, Fills, ◌>>=◌, truncated, trailing, octets_of, number, rest, at_end, empty, nothing, ◌▹◌, ◌▸◌, ended, if_body, rest_if, part_as, body_as, part_typed, body_case, spell_case, unless, refused_by}
 
 -- ---- steps that may fail
@@ -47,12 +48,14 @@ pub record IsPart {A : Type 0} (f : Part A) : Type 0 where
   pub again : (s : List ℕ) (p : ℕ) (a : A) (q : ℕ) → p ≤ length s → Stands f s p a q → f.read s p ≡ Ok (a, q)
   pub refused : (s : List ℕ) (p : ℕ) (r : Refusal) → AreOctets s → p ≤ length s → f.read s p ≡ Err r → f.Refuses s p r
   pub refuses : (s : List ℕ) (p : ℕ) (r : Refusal) → p ≤ length s → f.Refuses s p r → f.read s p ≡ Err r
+  pub placed : (s : List ℕ) (p : ℕ) (r : Refusal) → p ≤ length s → f.Refuses s p r → IsPlaced s r
 
 pub record IsBody {A : Type 0} (b : Body A) : Type 0 where
   pub takes : (s : List ℕ) (p : ℕ) (a : A) → AreOctets s → p ≤ length s → b.read s p ≡ Ok a → Fills b s p a
   pub again : (s : List ℕ) (p : ℕ) (a : A) → p ≤ length s → Fills b s p a → b.read s p ≡ Ok a
   pub refused : (s : List ℕ) (p : ℕ) (r : Refusal) → AreOctets s → p ≤ length s → b.read s p ≡ Err r → b.Refuses s p r
   pub refuses : (s : List ℕ) (p : ℕ) (r : Refusal) → p ≤ length s → b.Refuses s p r → b.read s p ≡ Err r
+  pub placed : (s : List ℕ) (p : ℕ) (r : Refusal) → p ≤ length s → b.Refuses s p r → IsPlaced s r
 
 -- ---- fields
 
@@ -97,6 +100,7 @@ field_law n spell Fits value law = record {
   refuses = λ s p r le h.
       let short : ltb (length s) (p + n) ≡ true = lt-ltb _ _ h.0 in
       rw (short, h.1) refl;
+  placed = λ s p r le h. rw h.1 (refl, le);
 }
 
 pub octets_law : (n : ℕ) → IsPart (octets_of n)
@@ -200,6 +204,11 @@ then_law {A} {B} f g lf lg = record {
         | inl h ↦ rw (lf.refuses s p r le h) refl
         | inr h ↦ rw (lf.again s p h.0 h.1 le h.2, (lg h.0).refuses s h.1 r h.2.within h.3) refl
       ];
+  placed = λ s p r le h.
+      elim h [
+        | inl h ↦ lf.placed s p r le h
+        | inr h ↦ (lg h.0).placed s h.1 r h.2.within h.3
+      ];
 }
 
 -- ---- up to the end
@@ -211,6 +220,7 @@ rest_law = record {
   again = λ s p a le st. rw st.parts refl;
   refused = λ s p r bytes le e. absurd (cc);
   refuses = λ s p r le h. absurd h;
+  placed = λ s p r le h. absurd h;
 }
 
 at_end_ok : (s : List ℕ) (p : ℕ) (u : Unit {0}) → at_end s p ≡ Ok u → length s ≤ p
@@ -239,6 +249,7 @@ empty_law = record {
   again = λ s p a le st. none_left s p (let parts = st.parts in omega (arith, length-drop p s, ap length parts));
   refused = λ s p r bytes le e. at_end_err s p r e;
   refuses = λ s p r le h. rw h.1 (some_left s p h.0);
+  placed = λ s p r le h. rw h.1 (refl, le);
 }
 
 pub nothing_law : IsBody nothing
@@ -256,6 +267,7 @@ nothing_law = record {
         | inr u ↦ absurd (let e = u.2 in cc)
       ];
   refuses = λ s p r le h. rw (some_left s p h.0, h.1) refl;
+  placed = λ s p r le h. rw h.1 (refl, le);
 }
 
 pub then_body_law : {A B : Type 0} (f : Part A) (g : A → Body B) → IsPart f → ((a : A) → IsBody (g a)) → IsBody (f ▸ g)
@@ -286,6 +298,11 @@ then_body_law {A} {B} f g lf lg = record {
         | inl h ↦ rw (lf.refuses s p r le h) refl
         | inr h ↦ rw (lf.again s p h.0 h.1 le h.2, (lg h.0).refuses s h.1 r h.2.within h.3) refl
       ];
+  placed = λ s p r le h.
+      elim h [
+        | inl h ↦ lf.placed s p r le h
+        | inr h ↦ (lg h.0).placed s h.1 r h.2.within h.3
+      ];
 }
 
 pub ended_law : {A : Type 0} (f : Part A) → IsPart f → IsBody (ended f)
@@ -314,6 +331,11 @@ ended_law {A} f lf = record {
       elim h [
         | inl h ↦ rw (lf.refuses s p r le h) refl
         | inr h ↦ rw (lf.again s p h.0 h.1 le h.2, some_left s h.1 h.3, h.4) refl
+      ];
+  placed = λ s p r le h.
+      elim h [
+        | inl h ↦ lf.placed s p r le h
+        | inr h ↦ rw h.4 (refl, h.2.within)
       ];
 }
 
@@ -348,6 +370,7 @@ typed_law {A} {B} f to from fits lf back forth = record {
         | inr u ↦ absurd (let e = u.2 in cc)
       ];
   refuses = λ s p r le h. rw (lf.refuses s p r le h) refl;
+  placed = λ s p r le h. lf.placed s p r le h;
 }
 
 pub part_as_law : {A B : Type 0} (f : Part A) (to : A → B) (from : B → A) → IsPart f → ((x : A) → f.Fits x → from (to x) ≡ x) → ((y : B) → to (from y) ≡ y) → IsPart (part_as f to from)
@@ -366,6 +389,7 @@ body_as_law {A} {B} f to from lf back forth = record {
         | inr u ↦ absurd (let e = u.2 in cc)
       ];
   refuses = λ s p r le h. rw (lf.refuses s p r le h) refl;
+  placed = λ s p r le h. lf.placed s p r le h;
 }
 
 case_fills : {A B : Type 0} (f : Body A) (make : A → B) (case_of : B → Option A) (s : List ℕ) (p : ℕ) (m : B) (o : Option A) → case_of m ≡ o → IsSomeAnd o f.Fits → drop p s ≡ spell_case f.spell o → (a : A) × (case_of m ≡ Some a) × Fills f s p a
@@ -387,6 +411,7 @@ case_law {A} {B} f make case_of lf back forth = record {
         | inr u ↦ absurd (let e = u.2 in cc)
       ];
   refuses = λ s p r le h. rw (lf.refuses s p r le h) refl;
+  placed = λ s p r le h. lf.placed s p r le h;
 }
 
 -- ---- reasons of its own
@@ -403,6 +428,7 @@ unless_err (Some c) r d e = inl cc
 pub record Tests {A : Type 0} (reason : List ℕ → Option Refusal) (f : Body A) : Type 0 where
   pub silent : (s : List ℕ) (p : ℕ) (a : A) → p ≤ length s → Fills f s p a → reason (drop p s) ≡ None
   pub complete : (s : List ℕ) (p : ℕ) (r : Refusal) → AreOctets s → p ≤ length s → reason (drop p s) ≡ None → f.Refuses s p r → ⊥
+  pub placed : (s : List ℕ) (p : ℕ) (r : Refusal) → p ≤ length s → reason (drop p s) ≡ Some r → IsPlaced s r
 
 pub refused_by_law : {A : Type 0} (reason : List ℕ → Option Refusal) (f : Body A) → IsBody f → Tests reason f → IsBody (refused_by reason f)
 refused_by_law {A} reason f lf tests = record {
@@ -414,4 +440,5 @@ refused_by_law {A} reason f lf tests = record {
         | inr h ↦ absurd (tests.complete s p r bytes le h.0 (lf.refused s p r bytes le h.1))
       ];
   refuses = λ s p r le h. rw h refl;
+  placed = λ s p r le h. tests.placed s p r le h;
 }

@@ -87,6 +87,7 @@ times_law n f lf = record {
       rw (← st.fits.0) (times_again f lf xs s p q le inner);
   refused = λ s p r bytes le e. times_refused f lf n s p r bytes le e;
   refuses = λ s p r le h. times_refuses f lf n h.0 s p h.1 r le h.2 h.3 h.4;
+  placed = λ s p r le h. lf.placed s h.1 r h.2.within h.4;
 }
 
 -- ---- up to the end
@@ -184,6 +185,7 @@ to_the_end_law f lf some = record {
       all_again f lf some (length s - p) xs s p le (omega arith) whole;
   refused = λ s p r bytes le e. all_refused f lf (length s - p) s p r bytes le e;
   refuses = λ s p r le h. all_refuses f lf some (length s - p) h.0 s p h.1 r le (omega arith) h.2 h.3 h.4;
+  placed = λ s p r le h. lf.placed s h.1 r h.2.within h.4;
 }
 
 -- ---- of a stated length
@@ -222,6 +224,15 @@ within_law {A} n b lb = record {
         | inl h ↦ let short : ltb (length s) (p + n) ≡ true = lt-ltb _ _ h.0 in rw (short, h.1) refl
         | inr h ↦ let le2 = h.0 in let long : ltb (length s) (p + n) ≡ false = le-ltb _ _ le2 in rw (long, lb.refuses (take (p + n) s) p r (omega (arith, length-take (p + n) s)) h.1) refl
       ];
+  placed = λ s p r le h.
+      elim h [
+        | inl h ↦ rw h.1 (refl, le)
+        | inr h ↦
+            let long = h.0 in
+            let inner = lb.placed (take (p + n) s) p r (omega (arith, length-take (p + n) s)) h.1 in
+            let within = inner.1 in
+            (inner.0, omega (arith, length-take (p + n) s))
+      ];
 }
 
 pub sized_law : {A : Type 0} (lens : Part ℕ) (b : Body A) → IsPart lens → IsBody b → IsPart (sized lens b)
@@ -257,12 +268,14 @@ only_if_law {A} true f lf = record {
         | inr u ↦ absurd (let e = u.2 in cc)
       ];
   refuses = λ s p r le h. rw (lf.refuses s p r le h) refl;
+  placed = λ s p r le h. lf.placed s p r le h;
 }
 only_if_law {A} false f lf = record {
   takes = λ s p y bytes le e. subst (λ (z : Option A × ℕ). Stands (only_if false f) s p z.0 z.1) (ok_is (None, p) y e) (record { fits = refl; parts = refl; ends = omega arith; within = le });
   again = λ s p o q le st. let ends = st.ends in let same : q ≡ p = omega arith in rw (st.fits, same) refl;
   refused = λ s p r bytes le e. absurd cc;
   refuses = λ s p r le h. absurd h;
+  placed = λ s p r le h. absurd h;
 }
 
 -- ---- missing at the end
@@ -311,4 +324,5 @@ may_end_law {A} f lf some = record {
   refuses = λ s p r le h.
       let more : ltb p (length s) ≡ true = lt-ltb _ _ h.0 in
       rw (more, (ended_law f lf).refuses s p r le h.1) refl;
+  placed = λ s p r le h. (ended_law f lf).placed s p r le h.1;
 }

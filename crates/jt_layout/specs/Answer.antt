@@ -1,5 +1,5 @@
 -- What a reader of a body answers, and the law of every body. To be believed.
-use Rattle.std.specs.Prelude.{◌≡◌, ℕ, ◌⊎◌, List, Result, Ok, Err}
+use Rattle.std.specs.Prelude.{◌≡◌, ℕ, ◌≤◌, ◌⊎◌, List, length, Result, Ok, Err}
 use Rattle.jt_value.specs.declared.refusal.Refusal.{Refusal}
 use Rattle.jt_value.specs.declared.refusal.CodecError.{CodecError}
 use Rattle.jt_value.specs.declared.refusal.CodecError.TheVariants as errors
@@ -11,6 +11,10 @@ abbrev pub Answers : {A : Type 0} → Body A → List ℕ → Result A CodecErro
 Answers b s (Ok a) = Fills b s 0 a
 Answers b s (Err (errors.Refused r)) = b.Refuses s 0 r
 Answers b s (Err errors.Memory) = Unit {0}
+
+-- a refusal counts from the first of the octets, and its place is that of one of them, or their end
+abbrev pub IsPlaced : List ℕ → Refusal → Type 0
+IsPlaced s r = (r.at ≡ 0) × (r.inside ≤ length s)
 
 -- the octets have exactly one value or exactly one reason
 pub record HasOneAnswer {A : Type 0} (b : Body A) (s : List ℕ) : Type 0 where
@@ -26,3 +30,5 @@ pub record IsOneToOne {A : Type 0} (b : Body A) : Type 0 where
   pub reads_back : (a : A) → b.Fits a → Fills b (b.spell a) 0 a
   -- two values have the same octets only if they are equal
   pub distinct : (a c : A) → b.Fits a → b.Fits c → b.spell a ≡ b.spell c → a ≡ c
+  -- a reason names a place in the octets, or their end
+  pub placed : (s : List ℕ) (r : Refusal) → b.Refuses s 0 r → IsPlaced s r

@@ -31,21 +31,25 @@ impl Position {
         self.fixed.fits() && all_fit(self.items.as_slice())
     }
 
-    // Whether the octets of a position are as many as a word counts.
+    /// How many octets the position has: 28, and those of its items. Every position has a size, also one that has no octets
+    /// in the table.
     #[tactic(auto, unfolding(crate::specs::Positions::position))]
+    pub fn size(&self) -> u128
+        ensures { result ≡ length (position.spell self.now) }
+    {
+        self.fixed.fits();
+        let mut size = 28;
+        for item in self.items.as_slice() {
+            size += item.size() as u128;
+        }
+        size
+    }
+
+    // Whether the octets of a position are as many as a word counts.
     pub(crate) fn is_short(&self) -> bool
         ensures { IsTrue result ↔ (length (position.spell self.now) < 2 ^ 16) }
     {
-        self.fixed.fits();
-        let mut left = 65_535 - 28;
-        for item in self.items.as_slice() {
-            let size = item.size();
-            if left < size {
-                return false;
-            }
-            left -= size;
-        }
-        true
+        self.size() < 65_536
     }
 
     /// Reads a position from where the reader stands up to its end, for bodies that end with one.

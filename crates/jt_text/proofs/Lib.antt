@@ -1,0 +1,2 @@
+pub mod HexPieces
+pub mod TimeLaws

@@ -1,0 +1,5 @@
+use Rattle.jt_text.proofs.TimeLaws.{names}
+use Rattle.jt_text.proofs.laws.law_of_times.Goals as goal
+
+pub returns : goal.returns
+returns c = names

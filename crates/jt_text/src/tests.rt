@@ -1,0 +1,183 @@
+use super::*;
+use jt_codec::{Message, read_body};
+use jt_header::{Header, Packet};
+use jt_register::{Auth, AuthTail};
+use jt_value::{Edition, Octets, Phone, Refusal, Why};
+use std::alloc::Global;
+use std::process::Abort;
+use std::test::Fail;
+
+fn header(id: u16, packet: Option<Packet>) -> Header {
+    let digits = [0, 0, 0, 0, 0x01, 0x39, 0x12, 0x34, 0x56, 0x78];
+    Header {
+        edition: Edition::E2013,
+        id,
+        bit15: false,
+        version: 0,
+        phone: Phone {
+            edition: Edition::E2013,
+            digits,
+        },
+        serial: 3,
+        packet,
+    }
+}
+
+// Reads a body, and compares its line.
+fn expect(rt: &impl Abort, alloc: Global, id: u16, body: &[u8], written: &str) -> Result<(), Fail> {
+    assert!(rt; body.len() < 1024);
+    let message = read_body(alloc, Edition::E2013, id, body).expect(rt, "a body");
+    let line = view_line(alloc, 7, &header(id, None), &message, body.len() as u16)?;
+    assert_eq!(rt; line.as_slice(), written.as_bytes());
+    Ok(())
+}
+
+#[test]
+fn responses_and_registrations(rt: HostRuntime) -> Result<(), Fail> {
+    let alloc = rt.alloc();
+    for (id, body, written) in [
+        (
+            0x0001,
+            b"\0\x07\x81\x03\x03".as_slice(),
+            "7 2013 0x0001 terminal-ack phone=013912345678 serial=3 body=5 reply=7 id=0x8103 result=3\n",
+        ),
+        (
+            0x8001,
+            b"\xff\xff\x02\0\x04".as_slice(),
+            "7 2013 0x8001 platform-ack phone=013912345678 serial=3 body=5 reply=65535 id=0x0200 result=4\n",
+        ),
+        (
+            0x0003,
+            b"".as_slice(),
+            "7 2013 0x0003 deregister phone=013912345678 serial=3 body=0\n",
+        ),
+        (
+            0x0100,
+            b"\0\x2c\x01\x2c\x37\x30\x31\x31\x31\x41\x31\0\0\0\0\0\0\0\0\0\0\0\0\0\0\0\0\0\0\x31\x32\x33\x34\x35\x36\x37\x02".as_slice(),
+            "7 2013 0x0100 register phone=013912345678 serial=3 body=37 province=44 city=300 maker=3730313131 model=4131000000000000000000000000000000000000 terminal=31323334353637 colour=2 plate=-\n",
+        ),
+        (
+            0x8100,
+            b"\0\x05\x04".as_slice(),
+            "7 2013 0x8100 register-reply phone=013912345678 serial=3 body=3 reply=5 result=4\n",
+        ),
+        (
+            0x8100,
+            b"\0\x05\0\x41".as_slice(),
+            "7 2013 0x8100 register-reply phone=013912345678 serial=3 body=4 reply=5 result=0 code=41\n",
+        ),
+        (
+            0x0102,
+            b"".as_slice(),
+            "7 2013 0x0102 auth phone=013912345678 serial=3 body=0 code=-\n",
+        ),
+    ] {
+        expect(&rt, alloc, id, body, written)?;
+    }
+    Ok(())
+}
+
+#[test]
+fn positions_and_batches(rt: HostRuntime) -> Result<(), Fail> {
+    let alloc = rt.alloc();
+    for (id, body, written) in [
+        (
+            0x0200,
+            b"\0\0\0\x01\0\x0c\0\x03\x01\x31\x2d\0\x06\xbc\x3e\x40\0\x64\x02\x58\0\x5a\x24\x02\x29\x23\x59\x59\x01\x04\0\0\0\x0a\x02\x02\0\x05\x03\x02\x01\0\x04\x02\0\x01\x11\x01\x01\x11\x05\x02\0\0\0\x07\x12\x06\x01\0\0\0\x08\x01\x13\x07\0\0\0\x09\0\x3c\x01\x25\x04\0\0\0\x80\x2a\x02\0\x03\x2b\x04\0\x01\0\x02\x30\x01\x1f\x31\x01\x0c\x14\x04\0\0\0\x01\xe0\0".as_slice(),
+            "7 2013 0x0200 position phone=013912345678 serial=3 body=103 alarm=0x00000001 status=0x000c0003 lat=20000000 lon=113000000 altitude=100 speed=600 direction=90 time=2024-02-29T23:59:59+08:00 item=0x01:10 item=0x02:5 item=0x03:256 item=0x04:1 item=0x11:1 item=0x11:2:7 item=0x12:1:8:1 item=0x13:9:60:1 item=0x25:128 item=0x2a:3 item=0x2b:65538 item=0x30:31 item=0x31:12 item=0x14:00000001 item=0xe0:-\n",
+        ),
+        (
+            0x0201,
+            b"\0\x09\0\0\0\0\0\0\0\0\0\0\0\0\0\0\0\0\0\0\0\0\0\0\x23\x02\x29\0\0\0".as_slice(),
+            "7 2013 0x0201 position-reply phone=013912345678 serial=3 body=30 reply=9 alarm=0x00000000 status=0x00000000 lat=0 lon=0 altitude=0 speed=0 direction=0 time=-\n",
+        ),
+        (
+            0x0704,
+            b"\0\0\x01".as_slice(),
+            "7 2013 0x0704 batch phone=013912345678 serial=3 body=3 count=0 kind=1\n",
+        ),
+        (
+            0x0704,
+            b"\0\x02\0\0\x1c\0\0\0\x01\0\x0c\0\x03\x01\x31\x2d\0\x06\xbc\x3e\x40\0\x64\x02\x58\0\x5a\x24\x02\x29\x23\x59\x59\0\x20\0\0\0\0\0\0\0\0\0\0\0\0\0\0\0\0\0\0\0\0\0\0\x23\x02\x29\0\0\0\x02\x02\0\x05".as_slice(),
+            "7 2013 0x0704 batch phone=013912345678 serial=3 body=67 count=2 kind=0 length=28 alarm=0x00000001 status=0x000c0003 lat=20000000 lon=113000000 altitude=100 speed=600 direction=90 time=2024-02-29T23:59:59+08:00 length=32 alarm=0x00000000 status=0x00000000 lat=0 lon=0 altitude=0 speed=0 direction=0 time=- item=0x02:5\n",
+        ),
+    ] {
+        expect(&rt, alloc, id, body, written)?;
+    }
+    Ok(())
+}
+
+#[test]
+fn an_authentication_with_a_tail(rt: HostRuntime) -> Result<(), Fail> {
+    let alloc = rt.alloc();
+    let auth = Auth {
+        code: Octets::from_vec(Vec::from_slice(alloc, b"12")?),
+        tail: Some(AuthTail {
+            imei: [b'3'; 15],
+            software: [0; 20],
+        }),
+    };
+    let line = view_line(alloc, 0, &header(0x0102, None), &Message::Auth(auth), 38)?;
+    assert_eq!(rt;
+        line.as_slice(),
+        b"0 2013 0x0102 auth phone=013912345678 serial=3 body=38 length=2 code=3132 imei=333333333333333333333333333333 software=0000000000000000000000000000000000000000\n".as_slice()
+    );
+    Ok(())
+}
+
+// A packet has the name of its id, and prints its octets. 17 octets are more than one piece.
+#[test]
+fn parts_and_opaque_bodies(rt: HostRuntime) -> Result<(), Fail> {
+    let alloc = rt.alloc();
+    let packet = Some(Packet {
+        total: 3,
+        number: 1,
+    });
+    let part = Message::Part(Octets::from_vec(Vec::from_slice(alloc, &[0xAB; 17])?));
+    let line = view_line(alloc, 5, &header(0x8606, packet), &part, 17)?;
+    assert_eq!(rt;
+        line.as_slice(),
+        b"5 2013 0x8606 route phone=013912345678 serial=3 packet=1/3 body=17 part=ababababababababababababababababab\n".as_slice()
+    );
+    let opaque = Message::Opaque {
+        id: 0x8003,
+        body: Octets::new(alloc),
+    };
+    let line = view_line(alloc, 6, &header(0x8003, None), &opaque, 0)?;
+    assert_eq!(rt;
+        line.as_slice(),
+        b"6 2013 0x8003 opaque phone=013912345678 serial=3 body=0 body-octets=-\n".as_slice()
+    );
+    Ok(())
+}
+
+#[test]
+fn refusals(rt: HostRuntime) -> Result<(), Fail> {
+    let alloc = rt.alloc();
+    for (why, written) in [
+        (Why::BadEscape, "4+12 refused BadEscape\n"),
+        (
+            Why::CheckMismatch {
+                computed: 0x32,
+                found: 0x0A,
+            },
+            "4+12 refused CheckMismatch computed=32 found=0a\n",
+        ),
+        (
+            Why::LengthMismatch {
+                declared: 1,
+                actual: 1023,
+            },
+            "4+12 refused LengthMismatch declared=1 actual=1023\n",
+        ),
+    ] {
+        let refusal = Refusal {
+            at: 4,
+            inside: 12,
+            why,
+        };
+        let line = refusal_line(alloc, &refusal)?;
+        assert_eq!(rt; line.as_slice(), written.as_bytes());
+    }
+    Ok(())
+}
