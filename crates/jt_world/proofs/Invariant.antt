@@ -1,5 +1,5 @@
 -- What every step keeps.
-use Rattle.std.proofs.Common.{ℕ, suc, ◌+◌, ◌<◌, ◌≤◌, ◌≡◌, List, [], ◌∷◌, ◌++◌, length, take, map, Option, Some, None, slice_get}
+use Rattle.std.proofs.Common.{ℕ, suc, ◌<◌, ◌≤◌, ◌≡◌, List, [], ◌∷◌, length, take, map, Some, slice_get}
 use Rattle.std.specs.Prelude.{IsTrue, All, max}
 use Rattle.jt_position.specs.Fixes.{IsFix}
 use Rattle.jt_world.specs.declared.row.Row.{Row}

@@ -1,30 +1,28 @@
 -- Each step keeps the invariant, and the claim follows from it.
-use Rattle.std.proofs.Common.{ℕ, zero, suc, ◌+◌, ◌-◌, ◌<◌, ◌≤◌, ◌≡◌, ◌⊎◌, List, [], ◌∷◌, ◌++◌, length, take, get_or, map, Option, Some, None, slice_get, arith, refl, ap, sym, ◌∙◌, subst, inl, inr, add-one}
-use Rattle.std.specs.Prelude.{Bool, true, false, cond, IsTrue, All, max, nat_lt, nat_le, ◌&&◌, ◌||◌, ◌==◌, if◌then◌else◌}
-use Rattle.std.specs.List.{filter, list_any, range_with_len}
-use Rattle.std.proofs.lemmas.Bool.{cases_lt, cases_order, ltb-true, lt-ltb, le-ltb, or_cases, eqb-true, false≢true}
+use Rattle.std.proofs.Common.{ℕ, zero, suc, ◌-◌, ◌<◌, ◌≤◌, ◌≡◌, List, [], ◌∷◌, ◌++◌, length, take, map, Option, Some, None, slice_get, arith, refl, ap, sym, ◌∙◌, subst, inl, inr, add-one}
+use Rattle.std.specs.Prelude.{Bool, false, IsTrue, All, max, nat_lt, nat_le, ◌&&◌, ◌==◌, if◌then◌else◌}
+use Rattle.std.specs.List.{list_any, range_with_len}
+use Rattle.std.proofs.lemmas.Bool.{cases_lt, lt-ltb, le-ltb, or_cases, eqb-true, false≢true}
 use Rattle.std.proofs.lemmas.Option.{get_or_from_slice_get}
-use Rattle.std.proofs.lemmas.List.{append-nil, length-append, length_push, take-append-le, append_assoc, map-append, take_all}
+use Rattle.std.proofs.lemmas.List.{append-nil, length_push, take-append-le, append_assoc, map-append}
 use Rattle.std.proofs.lemmas.List.Elements.{All-push, All-append, All-nil}
 use Rattle.std.proofs.lemmas.List.Folds.{list_any-append}
 use Rattle.std.proofs.lemmas.List.Concat.{flat_map-append}
-use Rattle.jt_escape.specs.Frame.{framed}
 use Rattle.jt_value.specs.declared.phone.Edition.TheVariants.{E2013}
-use Rattle.jt_header.specs.declared.header.Header.{Header}
 use Rattle.jt_header.specs.Law.{IsLengthOfContent}
 use Rattle.jt_header.specs.Content.{IsHeader}
 use Rattle.jt_position.specs.Fixes.{IsFix, FixesAre, fixes, fixes_of}
-use Rattle.jt_stream.specs.Unplaced.{Unplaced, Message, Fault, of_content}
+use Rattle.jt_stream.specs.Unplaced.{Unplaced, Message, of_content}
 use Rattle.jt_world.specs.declared.row.Row.{Row}
 use Rattle.jt_world.specs.declared.acknowledgement.Acknowledgement.{Acknowledgement}
-use Rattle.jt_world.specs.Messages.{serial_of, unit_header, unit_content, unit_frame, is_unit, unit_of, answer_header, answer, ack_octets, answer_content, answer_frame, acknowledgement_in, is_named, is_acceptance}
-use Rattle.jt_world.specs.World.{World, Line, Wire, written, moved, completed, carried, fixes_in, empty}
+use Rattle.jt_world.specs.Messages.{serial_of, unit_header, unit_content, unit_frame, answer_header, answer, ack_octets, answer_frame, is_named, is_acceptance}
+use Rattle.jt_world.specs.World.{World, Line, written, moved, completed, carried, fixes_in, empty}
 use Rattle.jt_world.specs.Events.{Event, Record, Form, Send, Up, Down, Accept, IsPrefixOf, MayForm, MaySend, MayCome, after, was_sent, frame_at, is_accepted_by, accepted_by, oldest_by, may_accept, told_of, heard, sent, answered, is_above, is_new, stored, seen, unit_taken, moved_up, moved_down}
-use Rattle.jt_world.specs.Reaching.{MayAll, after_all, Leads, Reached}
+use Rattle.jt_world.specs.Reaching.{MayAll, after_all, Reached}
 use Rattle.jt_world.specs.Claim.{Kept}
 use Rattle.jt_world.proofs.Lists.{some_is, none_some, get_left, get_push, get_pushed, get_within, get_has, get_take, take_next, and_left, and_right, filter_passes}
 use Rattle.jt_world.proofs.View.{Laws, View, Comes, view_silent, view_written, view_moved}
-use Rattle.jt_world.proofs.Meaning.{IsGood, unit_header_good, unit_content_is, answer_header_good, answer_content_is, answer_read, content_fits, fix_one, good_unit, good_of}
+use Rattle.jt_world.proofs.Meaning.{IsGood, unit_header_good, unit_content_is, answer_content_is, answer_read, content_fits, fix_one, good_unit, good_of}
 use Rattle.jt_world.proofs.Invariant.{Sent, Reply, content_sent, content_replied, end_of, InOrder, AllStored, UnitsOk, Inv}
 
 -- the laws of the layers below

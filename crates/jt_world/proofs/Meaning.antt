@@ -1,8 +1,8 @@
 -- What the frames of this world are read as.
-use Rattle.std.proofs.Common.{ℕ, suc, ◌+◌, ◌%◌, ◌^◌, ◌<◌, ◌≤◌, ◌≡◌, List, [], ◌∷◌, ◌++◌, length, Option, Some, None, Result, Ok, Err, arith, refl, ap, sym, ◌∙◌, subst}
-use Rattle.std.specs.Prelude.{Bool, true, false, IsTrue, is_none, is_some, is_ok, ◌&&◌, ◌==◌, if◌then◌else◌, MatchResult, IfOk}
+use Rattle.std.proofs.Common.{ℕ, ◌^◌, ◌<◌, ◌≡◌, List, [], ◌∷◌, length, Some, Result, Ok, Err, arith, refl, ap, sym, ◌∙◌}
+use Rattle.std.specs.Prelude.{Bool, true, false, IsTrue, is_none, is_ok, ◌&&◌, MatchResult, IfOk}
 use Rattle.jt_escape.specs.Span.{IsContent}
-use Rattle.jt_header.specs.Content.{Content, IsHeader, IsPhone, content_of, header_len}
+use Rattle.jt_header.specs.Content.{Content, IsHeader, IsPhone, header_len}
 use Rattle.jt_header.specs.Law.{IsLengthOfContent}
 use Rattle.jt_header.specs.declared.header.Header.{Header}
 use Rattle.jt_codec.specs.Bodies.{body, Fits}
@@ -10,7 +10,7 @@ use Rattle.jt_codec.specs.Layouts.{ack}
 use Rattle.jt_codec.specs.Parsing.{placed}
 use Rattle.jt_codec.specs.declared.message.Message.TheVariants.{PlatformAck}
 use Rattle.jt_value.specs.declared.phone.Edition.{Edition}
-use Rattle.jt_layout.specs.Layout.{Body, Fills, number}
+use Rattle.jt_layout.specs.Layout.{Fills, number}
 use Rattle.jt_layout.proofs.Laws.{IsBody, byte_law, word_law, then_law, ended_law, body_as_law}
 use Rattle.jt_position.specs.Fixes.{IsFix, FixesAre, fixes_of, of_position}
 use Rattle.jt_position.specs.Positions.{position}
@@ -18,11 +18,9 @@ use Rattle.jt_position.specs.declared.position.Position.{Position}
 use Rattle.jt_value.specs.declared.refusal.Refusal.{Refusal}
 use Rattle.std.proofs.lemmas.Bool.{eq-eqb}
 use Rattle.jt_position.specs.Views.{is_position}
-use Rattle.jt_stream.specs.Unplaced.{Unplaced, Message, of_content}
 use Rattle.jt_world.specs.declared.row.Row.{Row}
 use Rattle.jt_world.specs.declared.acknowledgement.Acknowledgement.{Acknowledgement}
 use Rattle.jt_world.specs.Messages.{serial_of, phone, unit_header, unit_content, is_unit, unit_of, answer_header, answer, ack_octets, answer_content, acknowledged, acknowledgement_in}
-use Rattle.jt_world.specs.World.{carried}
 
 -- a unit of this world: its number does not wrap, and it carries one fix
 pub record IsGood (unit : Row) : Type 0 where

@@ -1,14 +1,14 @@
 -- The units of a terminal that numbers them by their places.
-use Rattle.std.proofs.Common.{ℕ, zero, suc, ◌+◌, ◌<◌, ◌≤◌, ◌≡◌, ◌≢◌, List, [], ◌∷◌, ◌++◌, length, take, Option, Some, None, slice_get, arith, refl, ap, sym, ◌∙◌, subst, inl, inr}
-use Rattle.std.specs.Prelude.{Bool, true, false, cond, IsTrue, nat_lt, nat_le, ◌&&◌, ◌||◌, ◌==◌, if◌then◌else◌, Result, Ok, Err, OnOk}
+use Rattle.std.proofs.Common.{ℕ, zero, suc, ◌+◌, ◌<◌, ◌≤◌, ◌≡◌, ◌≢◌, List, [], ◌∷◌, ◌++◌, length, take, Option, Some, None, slice_get, arith, refl, ap, sym, ◌∙◌, inl, inr}
+use Rattle.std.specs.Prelude.{Bool, true, false, cond, nat_lt, nat_le, ◌&&◌, ◌||◌, ◌==◌, if◌then◌else◌, Result, Ok, Err, OnOk}
 use Rattle.std.specs.List.{filter, list_any, range_with_len}
-use Rattle.std.proofs.lemmas.Bool.{cases_lt, cases_eq, lt-ltb, le-ltb, ltb-true, eq-eqb, ne_eqb, eqb-true, false≢true}
+use Rattle.std.proofs.lemmas.Bool.{cases_lt, cases_eq, lt-ltb, le-ltb, ltb-true, eq-eqb, ne_eqb}
 use Rattle.std.proofs.lemmas.List.{length-take-le}
 use Rattle.jt_world.specs.declared.row.Row.{Row}
 use Rattle.jt_world.specs.declared.acknowledgement.Acknowledgement.{Acknowledgement}
 use Rattle.jt_world.specs.Messages.{serial_of, is_acceptance, is_named}
-use Rattle.jt_world.specs.World.{World, Line, Wire}
-use Rattle.jt_world.specs.Events.{Accept, after, was_sent, is_accepted_by, accepted_by, may_accept, oldest_by, told_of}
+use Rattle.jt_world.specs.World.{Wire}
+use Rattle.jt_world.specs.Events.{Accept, after, was_sent, is_accepted_by, accepted_by, oldest_by, told_of}
 use Rattle.jt_world.specs.Script.{accepting}
 use Rattle.jt_world.specs.Holding.{Terminal, Platform, IsNumbered, unit_at, units_from, world_of, accepts_at, told_by}
 use Rattle.jt_world.proofs.Lists.{get_has, get_take, and_left, and_right}

@@ -1,25 +1,23 @@
 -- Fixes that become units, one after another, in a world whose units are numbered by their places.
-use Rattle.std.proofs.Common.{ℕ, zero, suc, ◌+◌, ◌-◌, ◌<◌, ◌≤◌, ◌≡◌, List, [], ◌∷◌, ◌++◌, length, take, drop, get_or, map, Option, Some, None, slice_get, arith, refl, ap, sym, ◌∙◌, subst}
-use Rattle.std.specs.Prelude.{Bool, true, false, cond, IsTrue, is_ok, All, Result, Ok, Err, if◌then◌else◌, ◌==◌}
-use Rattle.std.specs.List.{range_with_len, list_any}
-use Rattle.std.proofs.lemmas.List.{length-take-le, take-take, take-append-drop, drop_more, take_more, take-append-le, append_assoc, length-append, length_push, drop_all}
+use Rattle.std.proofs.Common.{ℕ, zero, suc, ◌+◌, ◌<◌, ◌≤◌, ◌≡◌, List, [], ◌∷◌, ◌++◌, length, take, drop, get_or, Option, Some, None, slice_get, arith, refl, ap, sym, ◌∙◌, subst}
+use Rattle.std.specs.Prelude.{IsTrue, is_ok, All, Result, Ok, Err}
+use Rattle.std.specs.List.{range_with_len}
+use Rattle.std.proofs.lemmas.List.{length-take-le, take-take, take-append-drop, drop_more, take_more, take-append-le, length_push, drop_all}
 use Rattle.std.proofs.lemmas.List.Elements.{All-take, All-head, All-tail, All-nil, All-cons}
-use Rattle.std.proofs.lemmas.List.FromFn.{length-range_with_len}
-use Rattle.std.proofs.lemmas.Option.{slice_get-get_or}
 use Rattle.jt_value.specs.declared.refusal.Refusal.{Refusal}
 use Rattle.jt_position.specs.declared.position.Position.{Position}
-use Rattle.jt_position.specs.Fixes.{IsFix, fixes_of, of_position}
+use Rattle.jt_position.specs.Fixes.{IsFix, of_position}
 use Rattle.jt_position.specs.Positions.{position}
 use Rattle.jt_position.specs.Views.{is_position}
 use Rattle.jt_world.specs.declared.row.Row.{Row}
 use Rattle.jt_world.specs.Messages.{unit_frame}
-use Rattle.jt_world.specs.World.{World, Line, Wire, written, carried, fixes_in}
-use Rattle.jt_world.specs.Events.{Event, Record, Form, Send, IsPrefixOf, MayForm, MaySend, MayCome, after, was_sent, frame_at, past, past_accepted}
+use Rattle.jt_world.specs.World.{World, Wire, written, fixes_in}
+use Rattle.jt_world.specs.Events.{Record, Form, Send, MayForm, MaySend, after, frame_at, past, past_accepted}
 use Rattle.jt_world.specs.Reaching.{Leads}
 use Rattle.jt_world.specs.Script.{next_unit, reported, all_reported, waiting}
 use Rattle.jt_world.specs.Holding.{Terminal, Platform, IsNumbered, AllPositions, unit_at, units_from, world_of, frame_of_next, IsFormed}
-use Rattle.jt_world.proofs.Lists.{get_has, get_take, get_within, get_pushed, some_is}
-use Rattle.jt_world.proofs.Numbered.{length_units, unit_found, no_unit, in_range}
+use Rattle.jt_world.proofs.Lists.{get_has, get_take, get_pushed}
+use Rattle.jt_world.proofs.Numbered.{length_units, unit_found, in_range}
 use Rattle.jt_world.proofs.Leading.{leads_both, leads_one, leads_same}
 
 -- ---- the fixes in units

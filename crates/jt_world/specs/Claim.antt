@@ -1,5 +1,5 @@
 -- What is claimed of every world that is reached. To be believed.
-use Rattle.std.specs.Prelude.{◌≡◌, ℕ, ◌<◌, ◌≤◌, List, length, take, All}
+use Rattle.std.specs.Prelude.{◌≡◌, ℕ, ◌<◌, ◌≤◌, length, take, All}
 use Rattle.jt_world.specs.World.{World, fixes_in}
 use Rattle.jt_world.specs.Events.{IsPrefixOf}
 use Rattle.jt_world.specs.Reaching.{Reached}

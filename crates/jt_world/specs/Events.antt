@@ -8,7 +8,7 @@ use Rattle.jt_stream.specs.Unplaced.{Unplaced, Message, Fault}
 use Rattle.jt_world.specs.declared.row.Row.{Row}
 use Rattle.jt_world.specs.declared.acknowledgement.Acknowledgement.{Acknowledgement}
 use Rattle.jt_world.specs.Messages.{serial_of, is_unit, unit_of, unit_frame, answer_frame, acknowledgement_in, is_acceptance, is_named}
-use Rattle.jt_world.specs.World.{World, Line, Wire, written, moved, completed, fixes_in}
+use Rattle.jt_world.specs.World.{World, Line, written, moved, completed, fixes_in}
 
 pub data Event : Type 0 where
   -- the terminal records a fix

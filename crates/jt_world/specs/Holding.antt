@@ -3,7 +3,6 @@ use Rattle.std.specs.Prelude.{◌≡◌, ℕ, ◌+◌, ◌^◌, ◌<◌, ◌≤�
 use Rattle.std.specs.List.{range_with_len}
 use Rattle.jt_value.specs.Octets.{AreOctets}
 use Rattle.jt_escape.specs.Splitter.{StandsFor}
-use Rattle.jt_header.specs.declared.header.Header.{Header}
 use Rattle.jt_header.specs.Fields.{header_at, body_at}
 use Rattle.jt_position.specs.Views.{is_position}
 use Rattle.jt_stream.specs.Stream.{Held}

@@ -1,5 +1,5 @@
 -- The world after a script line, and what the line stored. To be believed.
-use Rattle.std.specs.Prelude.{◌≡◌, ℕ, zero, suc, ◌-◌, ◌<◌, min, Bool, if◌then◌else◌, List, [], ◌∷◌, length, map, drop, Option, Some, None}
+use Rattle.std.specs.Prelude.{◌≡◌, ℕ, zero, suc, ◌-◌, ◌<◌, min, if◌then◌else◌, List, [], ◌∷◌, length, map, drop, Option, Some, None}
 use Rattle.jt_position.specs.Fixes.{position_at}
 use Rattle.jt_position.specs.Positions.{position}
 use Rattle.jt_script.specs.declared.event.WorldEvent.{WorldEvent}

@@ -1,5 +1,4 @@
-use Rattle.jt_world.proofs.View.{Laws}
-use Rattle.jt_world.proofs.Keeping.{Below, law_kept}
+use Rattle.jt_world.proofs.Keeping.{law_kept}
 use Rattle.jt_world.proofs.laws.law_world.Goals as goal
 
 pub returns : goal.returns

@@ -1,6 +1,6 @@
-use Rattle.std.proofs.Common.{◌≡◌, ◌∙◌, ◌<◌, ◌++◌, ap, sym, subst, List, [], ℕ, length, get_or, arith}
+use Rattle.std.proofs.Common.{◌≡◌, ◌∙◌, ◌<◌, ap, sym, subst, List, [], ℕ, length, get_or}
 use Rattle.std.proofs.lemmas.List.{get_or_default}
-use Rattle.jt_world.specs.World.{Wire, written}
+use Rattle.jt_world.specs.World.{written}
 use Rattle.jt_world.specs.Messages.{unit_frame}
 use Rattle.jt_world.specs.Holding.{Terminal, frame_of_next, unit_at}
 use Rattle.jt_world.proofs.terminal.Terminal.report.Goals as goal

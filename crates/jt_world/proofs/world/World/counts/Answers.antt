@@ -1,6 +1,5 @@
 use Rattle.std.proofs.Common.{sym, ap, ◌∙◌, length, take}
 use Rattle.jt_world.specs.World.{World, fixes_in}
-use Rattle.jt_world.specs.Holding.{world_of}
 use Rattle.jt_world.proofs.Reporting.{accepted_fixes}
 use Rattle.jt_world.proofs.world.World.counts.Goals as goal
 
