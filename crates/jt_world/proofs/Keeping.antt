@@ -8,13 +8,14 @@ use Rattle.std.proofs.lemmas.List.{append-nil, length_push, take-append-le, appe
 use Rattle.std.proofs.lemmas.List.Elements.{All-push, All-append, All-nil}
 use Rattle.std.proofs.lemmas.List.Folds.{list_any-append}
 use Rattle.std.proofs.lemmas.List.Concat.{flat_map-append}
+use Rattle.jt_value.specs.declared.phone.Edition.TheVariants.{E2013}
 use Rattle.jt_header.specs.Law.{IsLengthOfContent}
 use Rattle.jt_header.specs.Content.{IsHeader}
 use Rattle.jt_position.specs.Fixes.{IsFix, FixesAre, fixes, fixes_of}
 use Rattle.jt_stream.specs.Unplaced.{Unplaced, Message, of_content}
 use Rattle.jt_world.specs.declared.row.Row.{Row}
 use Rattle.jt_world.specs.declared.acknowledgement.Acknowledgement.{Acknowledgement}
-use Rattle.jt_world.specs.Messages.{serial_of, unit_header, unit_content, unit_frame, acknowledgement, answer_header, answer, answer_frame, is_named, is_acceptance}
+use Rattle.jt_world.specs.Messages.{serial_of, unit_header, unit_content, unit_frame, answer_header, answer, ack_octets, answer_frame, is_named, is_acceptance}
 use Rattle.jt_world.specs.World.{World, Line, written, moved, completed, carried, fixes_in, empty}
 use Rattle.jt_world.specs.Events.{Event, Record, Form, Send, Up, Down, Accept, IsPrefixOf, MayForm, MaySend, MayCome, after, was_sent, frame_at, is_accepted_by, accepted_by, oldest_by, may_accept, told_of, heard, sent, answered, is_above, is_new, stored, seen, unit_taken, moved_up, moved_down}
 use Rattle.jt_world.specs.Reaching.{MayAll, after_all, Reached}
@@ -288,7 +289,7 @@ unit_kept below w v m ms order sent view grown g = record {
   sent = λ place is. subst (λ (n : ℕ). place < end_of n ms) (sym g.long) (sent place is);
   replies = v.replies ++ this ∷ [];
   down = subst (λ (contents : List (List ℕ)). View (written w.line.down (answer_frame (unit_header m.unit) w.line.serial)) contents) (sym (map-append content_replied v.replies (this ∷ [])))
-      (view_written w.line.down (map content_replied v.replies) (content_replied this) v.down (content_fits below.long (answer_header (unit_header m.unit) w.line.serial) (acknowledgement.spell (answer (unit_header m.unit))) (content_replied this) (answer_content_is (unit_header m.unit) w.line.serial (unit_header_good m.unit (v.units.good m.place m.unit order.0)) v.serial)));
+      (view_written w.line.down (map content_replied v.replies) (content_replied this) v.down (content_fits below.long (answer_header (unit_header m.unit) w.line.serial) (ack_octets E2013 (answer (unit_header m.unit))) (content_replied this) (answer_content_is (unit_header m.unit) w.line.serial (unit_header_good m.unit (v.units.good m.place m.unit order.0)) v.serial)));
   all_stored = all_stored_push w.units (length grown) v.replies this (all_stored_later w.units (length w.rows) (length grown) v.replies (omega (arith, g.long)) v.all_stored) order.0 (omega (arith, g.long)) v.serial;
   serial = omega arith;
   told = λ k d lt. omega (arith, v.told k d lt, g.long);
@@ -423,8 +424,8 @@ down_kept below w v (r ∷ rs) all (inr came) =
     rest : map content_replied rs ≡ came.1
     rest = tails (content_replied r) came.0 (map content_replied rs) came.1 came.2
 
-    done : completed w.line.down ≡ Some (Message (answer_header (unit_header r.unit) r.serial) (acknowledgement.spell (answer (unit_header r.unit))))
-    done = came.3 ∙ ap Some (ap of_content (heads (content_replied r) came.0 (map content_replied rs) came.1 came.2) ∙ below.streams.message (answer_header (unit_header r.unit) r.serial) (acknowledgement.spell (answer (unit_header r.unit))) (content_replied r) (answer_content_is (unit_header r.unit) r.serial good all.2))
+    done : completed w.line.down ≡ Some (Message (answer_header (unit_header r.unit) r.serial) (ack_octets E2013 (answer (unit_header r.unit))))
+    done = came.3 ∙ ap Some (ap of_content (heads (content_replied r) came.0 (map content_replied rs) came.1 came.2) ∙ below.streams.message (answer_header (unit_header r.unit) r.serial) (ack_octets E2013 (answer (unit_header r.unit))) (content_replied r) (answer_content_is (unit_header r.unit) r.serial good all.2))
 
 -- ---- all steps
 

@@ -1,11 +1,15 @@
 -- What the frames of this world are read as.
-use Rattle.std.proofs.Common.{ℕ, ◌%◌, ◌^◌, ◌<◌, ◌≡◌, List, [], ◌∷◌, length, get_or, Some, Result, Ok, Err, arith, refl, ap, sym, ◌∙◌}
-use Rattle.std.specs.Prelude.{Bool, true, false, IsTrue, is_none, is_ok, ◌&&◌, MatchResult}
-use Rattle.std.specs.Int.{w16, to_be_bytes}
+use Rattle.std.proofs.Common.{ℕ, ◌^◌, ◌<◌, ◌≡◌, List, [], ◌∷◌, length, Some, Result, Ok, Err, arith, refl, ap, sym, ◌∙◌}
+use Rattle.std.specs.Prelude.{Bool, true, false, IsTrue, is_none, is_ok, ◌&&◌, MatchResult, IfOk}
 use Rattle.jt_escape.specs.Span.{IsContent}
-use Rattle.jt_header.specs.Content.{Content, IsHeader, IsPhone}
+use Rattle.jt_header.specs.Content.{Content, IsHeader, IsPhone, header_len}
 use Rattle.jt_header.specs.Law.{IsLengthOfContent}
 use Rattle.jt_header.specs.declared.header.Header.{Header}
+use Rattle.jt_codec.specs.Bodies.{body, Fits}
+use Rattle.jt_codec.specs.Layouts.{ack}
+use Rattle.jt_codec.specs.Parsing.{placed}
+use Rattle.jt_codec.specs.declared.message.Message.TheVariants.{PlatformAck}
+use Rattle.jt_value.specs.declared.phone.Edition.{Edition}
 use Rattle.jt_layout.specs.Layout.{Fills, number}
 use Rattle.jt_layout.proofs.Laws.{IsBody, byte_law, word_law, then_law, ended_law, body_as_law}
 use Rattle.jt_position.specs.Fixes.{IsFix, FixesAre, fixes_of, of_position}
@@ -16,7 +20,7 @@ use Rattle.std.proofs.lemmas.Bool.{eq-eqb}
 use Rattle.jt_position.specs.Views.{is_position}
 use Rattle.jt_world.specs.declared.row.Row.{Row}
 use Rattle.jt_world.specs.declared.acknowledgement.Acknowledgement.{Acknowledgement}
-use Rattle.jt_world.specs.Messages.{serial_of, phone, unit_header, unit_content, is_unit, unit_of, acknowledgement, answer_header, answer, answer_content, acknowledged, acknowledgement_in}
+use Rattle.jt_world.specs.Messages.{serial_of, phone, unit_header, unit_content, is_unit, unit_of, answer_header, answer, ack_octets, answer_content, acknowledged, acknowledgement_in}
 
 -- a unit of this world: its number does not wrap, and it carries one fix
 pub record IsGood (unit : Row) : Type 0 where
@@ -62,26 +66,42 @@ answer_header_good header serial good lt = record {
   packet = tt;
 }
 
-pub acknowledgement_law : IsBody acknowledgement
-unfolding acknowledgement
-acknowledgement_law = body_as_law _ _ _ (ended_law _ (then_law _ _ word_law (λ _. then_law _ _ word_law (λ _. byte_law)))) (λ x fits. refl) (λ m. refl)
+ack_law : IsBody ack
+unfolding ack
+ack_law = body_as_law _ _ _ (ended_law _ (then_law _ _ word_law (λ _. then_law _ _ word_law (λ _. byte_law)))) (λ x fits. refl) (λ m. refl)
 
-pub spell_length : (ack : Acknowledgement) → length (acknowledgement.spell ack) ≡ 5
-unfolding acknowledgement number
-spell_length ack = refl
+pub ack_fits : (edition : Edition) (one : Acknowledgement) → one.reply < 2 ^ 16 → one.id < 2 ^ 16 → one.result < 2 ^ 8 → Fits edition (PlatformAck one.reply one.id one.result)
+unfolding body ack number
+ack_fits edition one reply id result = (reply, (id, result))
 
-fits : (ack : Acknowledgement) → ack.reply < 2 ^ 16 → ack.id < 2 ^ 16 → ack.result < 2 ^ 8 → acknowledgement.Fits ack
-unfolding acknowledgement number
-fits ack reply id result = (reply, (id, result))
+pub ack_length : (edition : Edition) (one : Acknowledgement) → length (ack_octets edition one) ≡ 5
+unfolding body ack number
+ack_length edition one = refl
 
-pub answer_content_is : (header : Header) (serial : ℕ) → IsHeader header → serial < 65536 → Content (answer_header header serial) (acknowledgement.spell (answer header)) (answer_content header serial)
-unfolding answer_content
-answer_content_is header serial good lt = record { header = answer_header_good header serial good lt; short = omega (arith, spell_length (answer header)); octets = refl }
+-- the row of the platform's acknowledgement, which is the same in each edition
+row_read : (edition : Edition) (octets : List ℕ) (x : ℕ × ℕ × ℕ) → ack.read octets 0 ≡ Ok x → (body edition 0x8001).read octets 0 ≡ Ok (PlatformAck x.0 x.1 x.2)
+unfolding body
+row_read edition octets x e = rw e refl
+
+row_spell : (edition : Edition) (one : Acknowledgement) → ack_octets edition one ≡ ack.spell (one.reply, one.id, one.result)
+unfolding body
+row_spell edition one = refl
+
+one_fits : (one : Acknowledgement) → one.reply < 2 ^ 16 → one.id < 2 ^ 16 → one.result < 2 ^ 8 → ack.Fits (one.reply, one.id, one.result)
+unfolding ack number
+one_fits one reply id result = (reply, (id, result))
 
 -- the terminal reads an answer as what it is
-pub answer_read : (header : Header) (serial : ℕ) → IsHeader header → acknowledgement_in (answer_header header serial) (acknowledgement.spell (answer header)) ≡ Some (answer header)
+pub answer_read : (header : Header) (serial : ℕ) → IsHeader header → acknowledgement_in (answer_header header serial) (ack_octets header.edition (answer header)) ≡ Some (answer header)
 answer_read header serial good =
-    ap acknowledged (acknowledgement_law.again (acknowledgement.spell (answer header)) 0 (answer header) (omega arith) (record { fits = fits (answer header) good.serial good.id (omega arith); parts = refl }))
+    ap (λ read. acknowledged (placed (header_len header.edition false) read))
+    (row_read header.edition (ack_octets header.edition (answer header)) (header.serial, header.id, 0)
+    (ack_law.again (ack_octets header.edition (answer header)) 0 (header.serial, header.id, 0) (omega arith)
+    (record { fits = one_fits (answer header) good.serial good.id (omega arith); parts = row_spell header.edition (answer header) })))
+
+pub answer_content_is : (header : Header) (serial : ℕ) → IsHeader header → serial < 65536 → Content (answer_header header serial) (ack_octets header.edition (answer header)) (answer_content header serial)
+unfolding answer_content
+answer_content_is header serial good lt = record { header = answer_header_good header serial good lt; short = omega (arith, ack_length header.edition (answer header)); octets = refl }
 
 -- a content of a header and a body fits a frame
 pub content_fits : IsLengthOfContent → (header : Header) (body content : List ℕ) → Content header body content → IsContent content
@@ -126,12 +146,6 @@ pub unit_told : (header : Header) (body : List ℕ) (told : Bool) → header.id 
 unit_told header body told id packet is =
     is ∙ sym (ap (λ (b : Bool). b && (is_none header.packet && is_position body)) (eq-eqb header.id 0x0200 id) ∙ ap (λ (b : Bool). b && is_position body) packet)
 
--- the octets of an acknowledgement, by those of its words
-pub spelled : (ack : Acknowledgement) (reply id : List ℕ) → reply ≡ to_be_bytes w16 ack.reply → id ≡ to_be_bytes w16 ack.id → ack.result < 256
-    → ◌≡◌ {A = List ℕ} (get_or reply 0 0 ∷ get_or reply 1 0 ∷ get_or id 0 0 ∷ get_or id 1 0 ∷ ack.result ∷ []) (acknowledgement.spell ack)
-unfolding acknowledgement number
-spelled ack reply id e f small =
-    let same : ack.result ≡ ack.result % 256 = omega arith in
-    ap (λ (x : List ℕ). get_or x 0 0 ∷ get_or x 1 0 ∷ get_or id 0 0 ∷ get_or id 1 0 ∷ ack.result ∷ []) e
-    ∙ (ap (λ (x : List ℕ). get_or (to_be_bytes w16 ack.reply) 0 0 ∷ get_or (to_be_bytes w16 ack.reply) 1 0 ∷ get_or x 0 0 ∷ get_or x 1 0 ∷ ack.result ∷ []) f
-    ∙ ap (λ (n : ℕ). get_or (to_be_bytes w16 ack.reply) 0 0 ∷ get_or (to_be_bytes w16 ack.reply) 1 0 ∷ get_or (to_be_bytes w16 ack.id) 0 0 ∷ get_or (to_be_bytes w16 ack.id) 1 0 ∷ n ∷ []) same)
+pub ack_short : {F : Type 0} (edition : Edition) (one : Acknowledgement) (written : Result (List ℕ) F) → IfOk written (λ octets. octets ≡ ack_octets edition one) → IfOk written (λ octets. length octets < 1024)
+ack_short edition one (Ok octets) same = omega (arith, ap length same, ack_length edition one)
+ack_short edition one (Err e) same = tt

@@ -1,13 +1,17 @@
--- The messages of this world: positions, which carry a unit each, and the platform's acknowledgements. To be believed. The
--- layouts and the header are the standard's.
-use Rattle.std.specs.Prelude.{ℕ, ◌%◌, Bool, false, ◌&&◌, ◌||◌, ◌==◌, if◌then◌else◌, List, [], ◌∷◌, Option, Some, None, is_none, Result, Ok, Err}
+-- The messages of this world: positions, which carry a unit each, and the platform's acknowledgements. To be believed.
+-- Bodies and headers are the standard's.
+use Rattle.std.specs.Prelude.{ℕ, ◌%◌, Bool, false, ◌&&◌, ◌||◌, ◌==◌, List, [], ◌∷◌, Option, Some, None, is_none, Result, Ok, Err}
+use Rattle.jt_value.specs.declared.phone.Edition.{Edition}
 use Rattle.jt_value.specs.declared.phone.Edition.TheVariants.{E2013}
 use Rattle.jt_value.specs.declared.phone.Phone.{Phone}
 use Rattle.jt_value.specs.declared.refusal.Refusal.{Refusal}
 use Rattle.jt_escape.specs.Frame.{framed}
 use Rattle.jt_header.specs.Content.{content_of}
 use Rattle.jt_header.specs.declared.header.Header.{Header}
-use Rattle.jt_layout.specs.Layout.{Body, byte, word, ◌▹◌, ended, body_as}
+use Rattle.jt_codec.specs.Bodies.{body_octets}
+use Rattle.jt_codec.specs.Parsing.{message_read}
+use Rattle.jt_codec.specs.declared.message.Message.{Message}
+use Rattle.jt_codec.specs.declared.message.Message.TheVariants as message
 use Rattle.jt_position.specs.Views.{is_position}
 use Rattle.jt_world.specs.declared.row.Row.{Row}
 use Rattle.jt_world.specs.declared.acknowledgement.Acknowledgement.{Acknowledgement}
@@ -39,12 +43,6 @@ is_unit header body = (header.id == 0x0200) && (is_none header.packet && is_posi
 abbrev pub unit_of : Header → List ℕ → Row
 unit_of header body = record { number = header.serial; id = header.id; body = body }
 
--- the acknowledgement of the platform: serial W, id W, result B
-unfoldable pub acknowledgement : Body Acknowledgement
-acknowledgement = body_as (ended (word ▹ λ _. word ▹ λ _. byte))
-    (λ x. record { reply = x.0; id = x.1.0; result = x.1.1 })
-    (λ m. (m.reply, (m.id, m.result)))
-
 -- the header of the answer to a message: an acknowledgement to the message's phone under a serial of the platform's own
 abbrev pub answer_header : Header → ℕ → Header
 answer_header header serial = record { edition = header.edition; id = 0x8001; bit15 = false; version = header.version; phone = header.phone; serial = serial; packet = None }
@@ -53,21 +51,26 @@ answer_header header serial = record { edition = header.edition; id = 0x8001; bi
 abbrev pub answer : Header → Acknowledgement
 answer header = record { reply = header.serial; id = header.id; result = 0 }
 
+-- the body that acknowledges so
+abbrev pub ack_octets : Edition → Acknowledgement → List ℕ
+ack_octets edition ack = body_octets edition (message.PlatformAck ack.reply ack.id ack.result)
+
 unfoldable pub answer_content : Header → ℕ → List ℕ
-answer_content header serial = content_of (answer_header header serial) (acknowledgement.spell (answer header))
+answer_content header serial = content_of (answer_header header serial) (ack_octets header.edition (answer header))
 
 -- the frame that answers a message
 abbrev pub answer_frame : Header → ℕ → List ℕ
 answer_frame header serial = framed (answer_content header serial)
 
-abbrev pub acknowledged : Result Acknowledgement Refusal → Option Acknowledgement
-acknowledged (Ok ack) = Some ack
+-- the platform's general response is the acknowledgement
+abbrev pub acknowledged : Result Message Refusal → Option Acknowledgement
+acknowledged (Ok (message.PlatformAck reply id result)) = Some (record { reply = reply; id = id; result = result })
+acknowledged (Ok _) = None
 acknowledged (Err refusal) = None
 
--- the acknowledgement that a message is, if it is one
+-- the acknowledgement that a header and a body are, if they are one
 abbrev pub acknowledgement_in : Header → List ℕ → Option Acknowledgement
-acknowledgement_in header body =
-    if (header.id == 0x8001) && is_none header.packet then acknowledged (acknowledgement.read body 0) else None
+acknowledgement_in header body = acknowledged (message_read header.packet header.edition header.id body)
 
 -- success, or an alarm that is acknowledged too
 abbrev pub is_acceptance : Acknowledgement → Bool

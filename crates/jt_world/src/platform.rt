@@ -53,10 +53,17 @@ fn is_unit(header: &Header, body: &[u8]) -> bool
     header.id == POSITION && header.packet.is_none() && view_position(body).is_ok()
 }
 
-fn answer(header: &Header, serial: u16, frame: &mut ArrayVec<u8, 2092>)
+// Puts the frame that answers a message into an empty `frame`.
+#[tactic(auto, unfolding(crate::specs::Messages::answer_content))]
+fn answer(
+    alloc: Global,
+    header: &Header,
+    serial: u16,
+    frame: &mut ArrayVec<u8, 2092>,
+) -> Result<(), Memory>
     requires header { IsHeader header.now }
     requires empty { frame.old.items ≡ [] }
-    ensures { frame.new.items ≡ answer_frame header.now serial }
+    ensures { OnOk result (frame.new.items ≡ answer_frame header.now serial) }
 {
     let ack = Acknowledgement {
         reply: header.serial,
@@ -72,7 +79,9 @@ fn answer(header: &Header, serial: u16, frame: &mut ArrayVec<u8, 2092>)
         serial,
         packet: None,
     };
-    frame_into(&answer, &ack.octets(), frame);
+    let octets = ack.octets(alloc, header.edition)?;
+    frame_into(&answer, octets.as_slice(), frame);
+    Ok(())
 }
 
 impl Platform {
@@ -143,7 +152,7 @@ impl Platform {
         ensures no_answer { OnErr result (down.new.wire ≡ down.old.wire) }
     {
         let mut frame = ArrayVec::new();
-        answer(header, self.serial, &mut frame);
+        answer(alloc, header, self.serial, &mut frame)?;
         let is_new = self.store(alloc, header, body)?;
         if down.write(frame.as_slice()).is_err() {
             if is_new {

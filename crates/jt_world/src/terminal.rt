@@ -1,6 +1,6 @@
 //! The terminal's end of the world.
 
-ghost use Rattle.std.specs.Prelude.{◌≡◌, ◌<◌, ◌≤◌, ◌↔◌, ◌++◌, ◌+◌, [], ◌∷◌, ℕ, List, length, true, IsTrue, None, Some, Option, MatchOption, OnOk, OnErr};
+ghost use Rattle.std.specs.Prelude.{◌≡◌, ◌^◌, IfSome, ◌<◌, ◌≤◌, ◌↔◌, ◌++◌, ◌+◌, [], ◌∷◌, ℕ, List, length, true, IsTrue, None, Some, Option, MatchOption, OnOk, OnErr};
 ghost use Rattle.jt_header.specs.Content.{IsHeader};
 ghost use Rattle.jt_position.specs.Fixes.{IsFix};
 ghost use Rattle.jt_stream.specs.Unplaced.{Unplaced, Message};
@@ -8,12 +8,11 @@ ghost use Rattle.jt_world.specs.Events.{heard, told_of};
 ghost use Rattle.jt_world.specs.Holding as holding;
 ghost use Rattle.jt_world.specs.Holding.{IsNoMessage, IsNumbered, Platform, frame_of_next, unit_at, world_of, accepts_at, told_by};
 ghost use Rattle.jt_world.specs.Messages as messages;
-ghost use Rattle.jt_world.specs.Messages.{acknowledgement_in};
 ghost use Rattle.jt_world.specs.Script.{accepting, fix_limit};
 ghost use Rattle.jt_world.specs.World as defined;
 ghost use Rattle.jt_world.specs.World.{written};
 
-use crate::acknowledgement::{Acknowledgement, read_acknowledgement};
+use crate::acknowledgement::Acknowledgement;
 use crate::wire::Wire;
 use arrayvec::ArrayVec;
 use jt_codec::frame_into;
@@ -25,8 +24,6 @@ use std::marker::Model;
 
 /// The id of a position report.
 pub(crate) const POSITION: u16 = 0x0200;
-
-const PLATFORM_ACK: u16 = 0x8001;
 
 /// The most fixes that are recorded.
 const FIX_LIMIT: usize = 32_766;
@@ -89,17 +86,6 @@ fn unit_frame(place: usize, fix: &Fix, frame: &mut ArrayVec<u8, 2092>)
     ensures { frame.new.items ≡ messages.unit_frame (unit_at place fix.now) }
 {
     frame_into(&unit_header(place), fix.as_slice(), frame);
-}
-
-// The acknowledgement that a message is, if it is one.
-fn acknowledgement_of(header: &Header, body: &[u8]) -> Option<Acknowledgement>
-    ensures { result ≡ acknowledgement_in header.now body.now }
-{
-    if header.id == PLATFORM_ACK && header.packet.is_none() {
-        read_acknowledgement(body).ok()
-    } else {
-        None
-    }
 }
 
 impl Terminal {
@@ -192,7 +178,12 @@ impl Terminal {
     }
 
     /// Takes in the message that an octet completes, if it completes one.
-    pub(crate) fn hear(&mut self, message: Option<(Header, &[u8])>) -> Result<(), Memory>
+    pub(crate) fn hear(
+        &mut self,
+        alloc: Global,
+        message: Option<(Header, &[u8])>,
+    ) -> Result<(), Memory>
+        requires { IfSome message (λ message. length message.1.now < 2 ^ 10) }
         ensures ok { OnOk result ((platform : Platform) (up down : defined.Wire) (item : Option Unplaced) →
             MatchOption message.entry (IsNoMessage item) (λ message. item ≡ Some (Message message.0 message.1.now)) →
             world_of self.new platform up down ≡ heard (world_of self.old platform up down) item) }
@@ -203,7 +194,10 @@ impl Terminal {
                 self.pass();
                 Ok(())
             }
-            Some((header, body)) => self.take_acknowledgement(acknowledgement_of(&header, body)),
+            Some((header, body)) => {
+                let ack = Acknowledgement::read(alloc, &header, body)?;
+                self.take_acknowledgement(ack)
+            }
         }
     }
 

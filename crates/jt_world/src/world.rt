@@ -133,13 +133,13 @@ impl World {
     }
 
     // The terminal takes one more octet.
-    fn hear(&mut self) -> Result<(), Memory>
+    fn hear(&mut self, alloc: Global) -> Result<(), Memory>
         requires { self.old.line.down.taken < length self.old.line.down.octets }
         ensures ok { OnOk result (self.new ≡ after self.old Down) }
         ensures err { OnErr result (self.new ≡ self.old) }
     {
         self.down.look();
-        self.terminal.hear(self.down.message())?;
+        self.terminal.hear(alloc, self.down.message())?;
         self.down.pass();
         Ok(())
     }
@@ -152,12 +152,12 @@ impl World {
     }
 
     // The terminal takes one more octet, and an acceptance if that completes it.
-    fn take_down(&mut self) -> Result<(), Memory>
+    fn take_down(&mut self, alloc: Global) -> Result<(), Memory>
         requires { self.old.line.down.taken < length self.old.line.down.octets }
         ensures ok { OnOk result (self.new ≡ accepting (after self.old Down)) }
         ensures err { OnErr result (self.new ≡ self.old) }
     {
-        self.hear()?;
+        self.hear(alloc)?;
         self.accept();
         Ok(())
     }
@@ -173,13 +173,13 @@ impl World {
         Ok(())
     }
 
-    fn take_all_down(&mut self, count: usize) -> Result<(), Memory>
+    fn take_all_down(&mut self, alloc: Global, count: usize) -> Result<(), Memory>
         requires { count ≤ length self.old.line.down.octets - self.old.line.down.taken }
         ensures ok { OnOk result (self.new ≡ taken_down count self.old) }
         ensures leads { Leads self.old self.new }
     {
         for _ in 0..count {
-            self.take_down()?;
+            self.take_down(alloc)?;
         }
         Ok(())
     }
@@ -242,7 +242,7 @@ impl World {
             }
             WorldEvent::Down(count) => {
                 let count = moving(count, self.down.left());
-                self.take_all_down(count)
+                self.take_all_down(alloc, count)
             }
             WorldEvent::Tick(_milliseconds) => self.report_all(),
         }
