@@ -43,6 +43,7 @@ fn a_position_of_a_raw_item(rt: HostRuntime) -> Result<(), Fail> {
     assert!(rt; matches!(position.items.get(0), Some(Item::Raw { id: 0x01, .. })));
     assert_eq!(rt; position.items.len(), 1);
     assert!(rt; position.fits());
+    assert_eq!(rt; position.size(), 33);
     let written = write_position(rt.alloc(), &position)?;
     assert_eq!(rt; written.as_slice(), BODY.as_slice());
     Ok(())
@@ -113,6 +114,7 @@ fn items_by_the_table(rt: HostRuntime) -> Result<(), Fail> {
     assert_eq!(rt; items.next(), None);
     let position = read_position(rt.alloc(), body.as_slice())?;
     assert_eq!(rt; position.items.len(), 26);
+    assert_eq!(rt; position.size(), 153);
     let written = write_position(rt.alloc(), &position)?;
     assert_eq!(rt; written.as_slice(), body.as_slice());
     Ok(())
