@@ -1,5 +1,5 @@
 -- Octets that are taken at once lead to where they lead one by one.
-use Rattle.std.proofs.Common.{◌≡◌, ◌≢◌, ℕ, zero, suc, ◌+◌, ◌-◌, ◌<◌, ◌≤◌, eqb, Bool, true, false, ◌⊎◌, Option, Some, None, List, [], ◌∷◌, ◌++◌, length, take, drop, get_or, refl, sym, ap, subst, ◌∙◌, append_assoc, arith, inl, inr, add-zero, take_all, take-add, length-append, length-take-le, length-drop}
+use Rattle.std.proofs.Common.{◌≡◌, ◌≢◌, ℕ, zero, suc, ◌+◌, ◌-◌, ◌<◌, ◌≤◌, eqb, Bool, true, false, ◌⊎◌, Option, Some, None, List, [], ◌∷◌, ◌++◌, length, take, drop, get_or, refl, sym, ap, subst, ◌∙◌, append_assoc, arith, inl, inr, take_all, take-add, length-append, length-take-le, length-drop}
 use Rattle.std.proofs.Math.Seq.{take-append-add}
 use Rattle.std.proofs.lemmas.Bool.{cases_lt, ne_eqb, eq-eqb, false≢true}
 use Rattle.std.specs.Prelude.{unwrap_or, slice_range}
@@ -7,11 +7,9 @@ use Rattle.memchr.specs.Find.{IsFirstByte, is_byte, is_byte2}
 use Rattle.std.proofs.lemmas.List.{append-nil, take-append-le, take-append-drop, take-take, take_more}
 use Rattle.jt_escape.specs.declared.splitter.Mode.{Mode}
 use Rattle.jt_escape.specs.declared.splitter.Mode.TheVariants as modes
-use Rattle.jt_escape.specs.declared.splitter.Split.{Split}
-use Rattle.jt_escape.specs.declared.splitter.Split.TheVariants as split
 use Rattle.jt_escape.specs.Span.{Event, HasNoFlag, Events}
 use Rattle.jt_escape.specs.Scan.{State, start, after, events_of, run, scan, IsPlain, keeping_all, passing_all, opening, Runs}
-use Rattle.jt_escape.specs.Splitter.{StandsFor, Takes, IsSilent}
+use Rattle.jt_escape.specs.Splitter.{Takes, IsSilent}
 use Rattle.jt_escape.proofs.Scanning.{at}
 use Rattle.jt_escape.proofs.Reading.{scan-append, run-append, events_held, events_only}
 use Rattle.jt_escape.proofs.Taking.{place_next}

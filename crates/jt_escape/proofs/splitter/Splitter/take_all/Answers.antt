@@ -1,4 +1,4 @@
-use Rattle.std.proofs.Common.{arith, length-drop}
+use Rattle.std.proofs.Common.{arith}
 use Rattle.jt_escape.proofs.Runs.{Runs-onward}
 use Rattle.jt_escape.proofs.splitter.Splitter.take_all.Goals as goal
 

@@ -1,4 +1,4 @@
-use Rattle.std.proofs.Common.{ℕ, ◌+◌, ◌-◌, ◌≤◌, [], length, take, ◌≡◌}
+use Rattle.std.proofs.Common.{◌+◌, ◌-◌, ◌≤◌, [], length, take, ◌≡◌}
 use Rattle.jt_escape.specs.Scan.{Runs}
 use Rattle.jt_escape.proofs.splitter.Splitter.take_all.Given as goal
 
