@@ -3,7 +3,8 @@
 ghost use Rattle.jt_world.specs.Claim.{EachReachedIsKept};
 
 /// What is claimed of delivery holds of every world that steps lead to, whatever steps these are: the fixes stored are the
-/// first of those recorded, each once and in order, and hold every fix whose acceptance the terminal received.
+/// first of those recorded, each once and in order, and hold every fix whose acceptance the terminal received. In this world
+/// a unit carries one fix, its number is below 65,536, and the line is never lost (this project's own limits).
 pub fn law_world()
     ensures { EachReachedIsKept }
 {

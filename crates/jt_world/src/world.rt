@@ -248,8 +248,9 @@ impl World {
         }
     }
 
-    /// The world after an event, which `accepts` tells to be one that may come. Answers what it stored. After Memory the
-    /// event was done in part, or not at all.
+    /// The world after an event, which `accepts` tells to be one that may come, and the units that it stored. After Memory
+    /// the world is one that steps lead to from the old one: the event may be done in part or whole, and what it stored is
+    /// not told. In this world no other error comes.
     pub fn step(&mut self, alloc: Global, event: WorldEvent) -> Result<Seq<SmallEntry>, WorldError>
         requires { IsAllowed self.old event }
         ensures after { OnOk result (self.new ≡ world_after self.old event) }
