@@ -1,12 +1,12 @@
 -- The law of the body table.
-use Rattle.std.proofs.Common.{◌≡◌, ℕ, Bool, true, false, cond, eqb, List, Option, Some, None, Result, Ok, Err, refl, sym, ap, subst, ◌∙◌, arith, ◌++◌}
+use Rattle.std.proofs.Common.{◌≡◌, ℕ, ◌++◌, Bool, true, false, cond, eqb, List, Option, Some, None, Result, Ok, Err, refl, sym, ap, subst, ◌∙◌, arith}
 use Rattle.std.specs.Prelude.{◌&&◌, IsSomeAnd, IfOk, IfErr}
 use Rattle.std.proofs.lemmas.Bool.{and_parts, eqb-true, eq-eqb}
 use Rattle.jt_value.specs.declared.phone.Edition.{Edition}
 use Rattle.jt_value.specs.declared.refusal.Refusal.{Refusal}
 use Rattle.jt_value.specs.declared.refusal.CodecError.{CodecError}
 use Rattle.jt_value.specs.declared.refusal.CodecError.TheVariants as errors
-use Rattle.jt_layout.specs.Layout.{Body, Fills, if_body, body_case, number, word, dword, ended, spell_option, only_if, may_end}
+use Rattle.jt_layout.specs.Layout.{Body, Fills, number, word, dword, ended, rest, if_body, body_case, spell_case, spell_option, only_if, may_end}
 use Rattle.jt_layout.specs.Answer.{Answers}
 use Rattle.jt_layout.proofs.Laws.{IsBody, byte_law, word_law, dword_law, if_law, then_law, then_body_law, ended_law, body_as_law, empty_law, rest_law, case_law}
 use Rattle.jt_layout.proofs.Repeats.{IsNeverEmpty, only_if_law, may_end_law}
@@ -27,7 +27,7 @@ use Rattle.jt_register.specs.declared.reply.RegisterReply.{RegisterReply}
 use Rattle.jt_register.specs.declared.auth.Auth.{Auth}
 use Rattle.jt_register.proofs.RegistrationLaws.{register_law, register_reply_law, auth_law}
 use Rattle.jt_codec.specs.Answer.{IsUnlessMemory}
-use Rattle.jt_codec.specs.Kinds.{terminal_ack_of, platform_ack_of, heartbeat_of, deregister_of, register_of, register_reply_of, auth_of, set_params_of, query_params_of, query_some_of, params_of, position_of, position_reply_of, query_position_of, track_of, batch_of, text_of, control_of, opaque_of, circles_of, rectangles_of, polygon_of, route_of, delete_circles_of, delete_rectangles_of, delete_polygons_of, delete_routes_of}
+use Rattle.jt_codec.specs.Kinds.{terminal_ack_of, platform_ack_of, heartbeat_of, deregister_of, register_of, register_reply_of, auth_of, set_params_of, query_params_of, query_some_of, params_of, position_of, position_reply_of, query_position_of, track_of, batch_of, text_of, control_of, circles_of, rectangles_of, polygon_of, route_of, delete_circles_of, delete_rectangles_of, delete_polygons_of, delete_routes_of, opaque_of}
 use Rattle.jt_codec.specs.Layouts.{ack, position_reply, track, octet_and_text}
 use Rattle.jt_codec.specs.Bodies.{body, is_2013, id_of, Fits, HasBody, IsInside, body_octets, octets_under}
 use Rattle.jt_codec.specs.declared.message.Message.{Message}
@@ -192,6 +192,8 @@ pub record IsRow (id : ℕ) (b : Body Message) : Type 0 where
   pub law : IsBody b
   -- what stands in it has this id
   pub under : (m : Message) → b.Fits m → id_of m ≡ Some id
+  -- an opaque message that fits is spelled by its octets
+  pub opaque : (own : ℕ) (v : List ℕ) → b.Fits (message.Opaque own v) → b.spell (message.Opaque own v) ≡ v
 
 some_case : {A : Type 0} (o : Option A) (P : A → Type 0) → IsSomeAnd o P → (x : A) × (o ≡ Some x)
 some_case None P h = absurd h
@@ -199,11 +201,23 @@ some_case (Some x) P h = (x, refl)
 
 is_row : (id : ℕ) {A : Type 0} (f : Body A) (make : A → Message) (case_of : Message → Option A) → IsBody f
     → ((x : A) → case_of (make x) ≡ Some x) → ((m : Message) (x : A) → case_of m ≡ Some x → make x ≡ m) → ((x : A) → id_of (make x) ≡ Some id)
+    → ((own : ℕ) (v : List ℕ) → IsSomeAnd (case_of (message.Opaque own v)) f.Fits → spell_case f.spell (case_of (message.Opaque own v)) ≡ v)
     → IsRow id (body_case f make case_of)
-is_row id f make case_of law back forth named = record {
+is_row id f make case_of law back forth named opaque = record {
   law = case_law f make case_of law back forth;
   under = λ m fits. let c = some_case (case_of m) f.Fits fits in ap id_of (sym (forth m c.0 c.1)) ∙ named c.0;
+  opaque = opaque;
 }
+
+-- a row of its own has no opaque message
+no_opaque : {A : Type 0} (f : Body A) (o : Option A) (v : List ℕ) → o ≡ None → IsSomeAnd o f.Fits → spell_case f.spell o ≡ v
+no_opaque f None v none fits = absurd fits
+no_opaque f (Some x) v none fits = absurd cc
+
+own_opaque : (b : Bool) (v : List ℕ) → IsSomeAnd (cond b (Some v) None) rest.Fits → spell_case rest.spell (cond b (Some v) None) ≡ v
+unfolding rest
+own_opaque true v fits = refl
+own_opaque false v fits = absurd fits
 
 if_row_by : (b test : Bool) (id n : ℕ) (f other : Body Message) → test ≡ b → (test ≡ true → id ≡ n) → IsRow n f → IsRow id other → IsRow id (if_body b f other)
 if_row_by true test id n f other e means lf lo = subst (λ (k : ℕ). IsRow k f) (sym (means e)) lf
@@ -212,59 +226,63 @@ if_row_by false test id n f other e means lf lo = lo
 -- the row of this id where a test holds, and otherwise the rows of the others
 if_row_when : (test : Bool) (id n : ℕ) → (test ≡ true → id ≡ n) → {A : Type 0} (f : Body A) (make : A → Message) (case_of : Message → Option A) (other : Body Message) → IsBody f
     → ((x : A) → case_of (make x) ≡ Some x) → ((m : Message) (x : A) → case_of m ≡ Some x → make x ≡ m) → ((x : A) → id_of (make x) ≡ Some n)
-    → IsRow id other → IsRow id (if_body test (body_case f make case_of) other)
-if_row_when test id n means f make case_of other law back forth named rows =
-    if_row_by test test id n (body_case f make case_of) other refl means (is_row n f make case_of law back forth named) rows
+    → ((own : ℕ) (v : List ℕ) → case_of (message.Opaque own v) ≡ None) → IsRow id other → IsRow id (if_body test (body_case f make case_of) other)
+if_row_when test id n means f make case_of other law back forth named clear rows =
+    if_row_by test test id n (body_case f make case_of) other refl means
+    (is_row n f make case_of law back forth named (λ own v fits. no_opaque f (case_of (message.Opaque own v)) v (clear own v) fits)) rows
 
 -- the row of an id in both editions
 if_row : (id n : ℕ) {A : Type 0} (f : Body A) (make : A → Message) (case_of : Message → Option A) (other : Body Message) → IsBody f
     → ((x : A) → case_of (make x) ≡ Some x) → ((m : Message) (x : A) → case_of m ≡ Some x → make x ≡ m) → ((x : A) → id_of (make x) ≡ Some n)
-    → IsRow id other → IsRow id (if_body (eqb id n) (body_case f make case_of) other)
+    → ((own : ℕ) (v : List ℕ) → case_of (message.Opaque own v) ≡ None) → IsRow id other → IsRow id (if_body (eqb id n) (body_case f make case_of) other)
 if_row id n = if_row_when (eqb id n) id n (eqb-true id n)
 
 -- the row of an id in 2013 alone
 if_row_2013 : (edition : Edition) (id n : ℕ) {A : Type 0} (f : Body A) (make : A → Message) (case_of : Message → Option A) (other : Body Message) → IsBody f
     → ((x : A) → case_of (make x) ≡ Some x) → ((m : Message) (x : A) → case_of m ≡ Some x → make x ≡ m) → ((x : A) → id_of (make x) ≡ Some n)
-    → IsRow id other → IsRow id (if_body (is_2013 edition && eqb id n) (body_case f make case_of) other)
+    → ((own : ℕ) (v : List ℕ) → case_of (message.Opaque own v) ≡ None) → IsRow id other → IsRow id (if_body (is_2013 edition && eqb id n) (body_case f make case_of) other)
 if_row_2013 edition id n = if_row_when (is_2013 edition && eqb id n) id n (λ e. eqb-true id n (and_parts (is_2013 edition) (eqb id n) e).1)
 
 -- a row: its id, the law of its layout, and the message that has its fields
 body_row : (edition : Edition) (id : ℕ) → IsRow id (body edition id)
 unfolding body
 body_row edition id =
-    if_row id 0x0001 _ _ _ _ ack_law (λ x. refl) terminal_ack_forth (λ x. refl) (
-    if_row id 0x8001 _ _ _ _ ack_law (λ x. refl) platform_ack_forth (λ x. refl) (
-    if_row id 0x0002 _ _ _ _ empty_law (λ x. refl) heartbeat_forth (λ x. refl) (
-    if_row id 0x0003 _ _ _ _ empty_law (λ x. refl) deregister_forth (λ x. refl) (
-    if_row_2013 edition id 0x0100 _ _ _ _ (register_law 5 20 7) (λ x. refl) register_forth (λ x. refl) (
-    if_row id 0x8100 _ _ _ _ register_reply_law (λ x. refl) register_reply_forth (λ x. refl) (
-    if_row_2013 edition id 0x0102 _ _ _ _ auth_law (λ x. refl) auth_forth (λ x. refl) (
-    if_row id 0x8103 _ _ _ _ params_law (λ x. refl) set_params_forth (λ x. refl) (
-    if_row id 0x8104 _ _ _ _ empty_law (λ x. refl) query_params_forth (λ x. refl) (
-    if_row id 0x8106 _ _ _ _ query_some_law (λ x. refl) query_some_forth (λ x. refl) (
-    if_row id 0x0104 _ _ _ _ params_reply_law (λ x. refl) params_forth (λ x. refl) (
-    if_row id 0x0200 _ _ _ _ position_law (λ x. refl) position_forth (λ x. refl) (
-    if_row id 0x0201 _ _ _ _ position_reply_law (λ x. refl) position_reply_forth (λ x. refl) (
-    if_row id 0x8201 _ _ _ _ empty_law (λ x. refl) query_position_forth (λ x. refl) (
-    if_row id 0x8202 _ _ _ _ track_law (λ x. refl) track_forth (λ x. refl) (
-    if_row id 0x0704 _ _ _ _ batch_law (λ x. refl) batch_forth (λ x. refl) (
-    if_row_2013 edition id 0x8300 _ _ _ _ octet_and_text_law (λ x. refl) text_forth (λ x. refl) (
-    if_row id 0x8105 _ _ _ _ octet_and_text_law (λ x. refl) control_forth (λ x. refl) (
-    if_row_2013 edition id 0x8600 _ _ _ _ circles_law (λ x. refl) circles_forth (λ x. refl) (
-    if_row_2013 edition id 0x8602 _ _ _ _ rectangles_law (λ x. refl) rectangles_forth (λ x. refl) (
-    if_row_2013 edition id 0x8604 _ _ _ _ polygon_law (λ x. refl) polygon_forth (λ x. refl) (
-    if_row_2013 edition id 0x8606 _ _ _ _ route_law (λ x. refl) route_forth (λ x. refl) (
-    if_row id 0x8601 _ _ _ _ deletion_law (λ x. refl) delete_circles_forth (λ x. refl) (
-    if_row id 0x8603 _ _ _ _ deletion_law (λ x. refl) delete_rectangles_forth (λ x. refl) (
-    if_row id 0x8605 _ _ _ _ deletion_law (λ x. refl) delete_polygons_forth (λ x. refl) (
-    if_row id 0x8607 _ _ _ _ deletion_law (λ x. refl) delete_routes_forth (λ x. refl)
-    (is_row id _ _ _ rest_law (opaque_back id) (opaque_forth id) (λ x. refl)))))))))))))))))))))))))))
+    if_row id 0x0001 _ _ _ _ ack_law (λ x. refl) terminal_ack_forth (λ x. refl) (λ _ _. refl) (
+    if_row id 0x8001 _ _ _ _ ack_law (λ x. refl) platform_ack_forth (λ x. refl) (λ _ _. refl) (
+    if_row id 0x0002 _ _ _ _ empty_law (λ x. refl) heartbeat_forth (λ x. refl) (λ _ _. refl) (
+    if_row id 0x0003 _ _ _ _ empty_law (λ x. refl) deregister_forth (λ x. refl) (λ _ _. refl) (
+    if_row_2013 edition id 0x0100 _ _ _ _ (register_law 5 20 7) (λ x. refl) register_forth (λ x. refl) (λ _ _. refl) (
+    if_row id 0x8100 _ _ _ _ register_reply_law (λ x. refl) register_reply_forth (λ x. refl) (λ _ _. refl) (
+    if_row_2013 edition id 0x0102 _ _ _ _ auth_law (λ x. refl) auth_forth (λ x. refl) (λ _ _. refl) (
+    if_row id 0x8103 _ _ _ _ params_law (λ x. refl) set_params_forth (λ x. refl) (λ _ _. refl) (
+    if_row id 0x8104 _ _ _ _ empty_law (λ x. refl) query_params_forth (λ x. refl) (λ _ _. refl) (
+    if_row id 0x8106 _ _ _ _ query_some_law (λ x. refl) query_some_forth (λ x. refl) (λ _ _. refl) (
+    if_row id 0x0104 _ _ _ _ params_reply_law (λ x. refl) params_forth (λ x. refl) (λ _ _. refl) (
+    if_row id 0x0200 _ _ _ _ position_law (λ x. refl) position_forth (λ x. refl) (λ _ _. refl) (
+    if_row id 0x0201 _ _ _ _ position_reply_law (λ x. refl) position_reply_forth (λ x. refl) (λ _ _. refl) (
+    if_row id 0x8201 _ _ _ _ empty_law (λ x. refl) query_position_forth (λ x. refl) (λ _ _. refl) (
+    if_row id 0x8202 _ _ _ _ track_law (λ x. refl) track_forth (λ x. refl) (λ _ _. refl) (
+    if_row id 0x0704 _ _ _ _ batch_law (λ x. refl) batch_forth (λ x. refl) (λ _ _. refl) (
+    if_row_2013 edition id 0x8300 _ _ _ _ octet_and_text_law (λ x. refl) text_forth (λ x. refl) (λ _ _. refl) (
+    if_row id 0x8105 _ _ _ _ octet_and_text_law (λ x. refl) control_forth (λ x. refl) (λ _ _. refl) (
+    if_row_2013 edition id 0x8600 _ _ _ _ circles_law (λ x. refl) circles_forth (λ x. refl) (λ _ _. refl) (
+    if_row_2013 edition id 0x8602 _ _ _ _ rectangles_law (λ x. refl) rectangles_forth (λ x. refl) (λ _ _. refl) (
+    if_row_2013 edition id 0x8604 _ _ _ _ polygon_law (λ x. refl) polygon_forth (λ x. refl) (λ _ _. refl) (
+    if_row_2013 edition id 0x8606 _ _ _ _ route_law (λ x. refl) route_forth (λ x. refl) (λ _ _. refl) (
+    if_row id 0x8601 _ _ _ _ deletion_law (λ x. refl) delete_circles_forth (λ x. refl) (λ _ _. refl) (
+    if_row id 0x8603 _ _ _ _ deletion_law (λ x. refl) delete_rectangles_forth (λ x. refl) (λ _ _. refl) (
+    if_row id 0x8605 _ _ _ _ deletion_law (λ x. refl) delete_polygons_forth (λ x. refl) (λ _ _. refl) (
+    if_row id 0x8607 _ _ _ _ deletion_law (λ x. refl) delete_routes_forth (λ x. refl) (λ _ _. refl)
+    (is_row id _ _ _ rest_law (opaque_back id) (opaque_forth id) (λ x. refl) (λ own v fits. own_opaque (eqb own id) v fits)))))))))))))))))))))))))))
 
 pub body_law : (edition : Edition) (id : ℕ) → IsBody (body edition id)
 body_law edition id = (body_row edition id).law
 
 pub body_under : (edition : Edition) (id : ℕ) (m : Message) → (body edition id).Fits m → id_of m ≡ Some id
 body_under edition id = (body_row edition id).under
+
+pub opaque_octets : (edition : Edition) (id : ℕ) (v : List ℕ) → Fits edition (message.Opaque id v) → v ≡ body_octets edition (message.Opaque id v)
+opaque_octets edition id v fits = sym ((body_row edition id).opaque id v fits)
 
 -- ---- reading and writing
 

@@ -200,6 +200,14 @@ pub fn read_body(
     read_row(alloc, edition, id, octets)
 }
 
+// The octets of an opaque message.
+fn write_opaque(alloc: Global, edition: Edition, id: u16, body: &Octets) -> Result<Octets, Memory>
+    requires { Fits edition (message.Opaque id body.now) }
+    ensures { IfOk result (λ octets. octets ≡ body_octets edition (message.Opaque id body.now)) }
+{
+    Ok(body.copy(alloc)?)
+}
+
 // The octets of the row of a message.
 #[tactic(auto, unfolding(crate::specs::Bodies::body, crate::specs::Layouts::position_reply, jt_layout::specs::Layout::rest))]
 fn write_row(alloc: Global, edition: Edition, message: &Message) -> Result<Octets, Memory>
@@ -229,7 +237,8 @@ fn write_row(alloc: Global, edition: Edition, message: &Message) -> Result<Octet
         Message::Polygon(polygon) => write_polygon(alloc, polygon),
         Message::Route(route) => write_route(alloc, route),
         Message::Delete { kind, ids } => write_region_ids(alloc, edition, *kind, ids),
-        Message::Opaque { body, .. } | Message::Part(body) => body.copy(alloc),
+        Message::Opaque { id, body } => write_opaque(alloc, edition, *id, body),
+        Message::Part(body) => body.copy(alloc),
     }
 }
 
