@@ -7,7 +7,7 @@ use Rattle.jt_world.specs.Claim.{Kept}
 use Rattle.jt_world.specs.Rehearsal.{Rehearsal, rehearsal, rehearsal_text, world_of}
 use Rattle.jt_world.specs.Rehearsing.{Rehearses, ending}
 use Rattle.jt_world.specs.Rehearsing as rehearsing
-use Rattle.jt_cli.specs.Answer.{IsFault}
+use Rattle.jt_cli.specs.Answer.{Answers, IsFault, IsSettled, Runs}
 use Rattle.jt_cli.specs.Script.{script_status, script_reply, RunsScript}
 use Rattle.jt_cli.specs.Reply.{Reply}
 use Rattle.jt_cli.specs.declared.status.Status.{Status}
