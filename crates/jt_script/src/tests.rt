@@ -93,20 +93,20 @@ fn lines(rt: HostRuntime) {
     let mut cutter = LineCutter::new();
     let text = b"fix 0\n\n# a\r\ntick 0";
     assert_eq!(rt; cutter.take(&text[..3]), (3, Cut::More));
-    assert_eq!(rt; cutter.last(), Some(b"fix".as_slice()));
+    assert_eq!(rt; cutter.last().expect(&rt, "a line"), b"fix".as_slice());
     assert_eq!(rt; cutter.take(&text[3..]), (3, Cut::Line));
     assert_eq!(rt; cutter.line(), b"fix 0".as_slice());
     assert_eq!(rt; cutter.number(), 1);
-    assert_eq!(rt; cutter.last(), None);
+    assert!(rt; cutter.last().is_none());
     assert_eq!(rt; cutter.take(&text[6..]), (1, Cut::Line));
     assert_eq!(rt; cutter.line(), b"".as_slice());
     assert_eq!(rt; cutter.take(&text[7..]), (5, Cut::Line));
     assert_eq!(rt; cutter.line(), b"# a\r".as_slice());
     assert_eq!(rt; cutter.take(&text[12..]), (6, Cut::More));
     assert_eq!(rt; cutter.number(), 3);
-    assert_eq!(rt; cutter.last(), Some(b"tick 0".as_slice()));
+    assert_eq!(rt; cutter.last().expect(&rt, "a line"), b"tick 0".as_slice());
     assert_eq!(rt; cutter.take(b""), (0, Cut::More));
-    assert_eq!(rt; cutter.last(), Some(b"tick 0".as_slice()));
+    assert_eq!(rt; cutter.last().expect(&rt, "a line"), b"tick 0".as_slice());
 }
 
 #[test]
@@ -133,5 +133,5 @@ fn many_lines(rt: HostRuntime) {
     assert_eq!(rt; cutter.take(b""), (0, Cut::More));
     assert_eq!(rt; cutter.take(b"\n"), (0, Cut::Bad));
     assert_eq!(rt; cutter.take(b"#"), (0, Cut::Bad));
-    assert_eq!(rt; cutter.last(), None);
+    assert!(rt; cutter.last().is_none());
 }
