@@ -1,3 +1,4 @@
+pub mod Checks
 pub mod Cutting
 pub mod Frames
 pub mod Octets

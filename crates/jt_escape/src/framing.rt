@@ -1,9 +1,11 @@
 //! Check octets, escapes and frames.
 
-ghost use Rattle.std.specs.Prelude.{◌≡◌, ◌≤◌, [], length};
+ghost use Rattle.std.specs.Prelude.{◌≡◌, ◌≤◌, [], length, take, fold, bit_xor};
+ghost use Rattle.std.specs.Simd.Lanes.{zip2};
 ghost use Rattle.jt_escape.specs.Frame.{check_of, framed};
 
 use arrayvec::ArrayVec;
+use std::simd::prelude::*;
 
 /// Opens and closes a frame.
 pub const FLAG: u8 = 0x7E;
@@ -19,11 +21,43 @@ pub const CONTENT_LIMIT: usize = 1045;
 /// The octets that the frame of such a content has at most.
 pub const FRAME_LIMIT: usize = 2092;
 
+// Octets that are taken together into a check octet.
+const LANES: usize = 16;
+
+// The XOR of a value and all octets.
+fn check_on(check: u8, octets: &[u8]) -> u8
+    ensures { result ≡ fold bit_xor check octets.now }
+{
+    octets.iter().fold(check, |check, octet| check ^ octet)
+}
+
+// One more row of octets, each in its lane.
+#[inline(always)]
+fn check_row(lanes: u8x16, octets: &[u8]) -> u8x16
+    requires { 16 ≤ length octets.now }
+    ensures { result ≡ zip2 bit_xor lanes (take 16 octets.now) }
+{
+    lanes ^ u8x16::from_slice(octets)
+}
+
+#[inline(always)]
+fn check_lanes(lanes: u8x16) -> u8
+    ensures { result ≡ fold bit_xor 0 lanes }
+{
+    lanes.reduce_xor()
+}
+
 /// The XOR of all octets, 0 for none: the check octet of these octets (the standard's framing).
 pub fn check(octets: &[u8]) -> u8
     ensures { result ≡ check_of octets.now }
 {
-    octets.iter().fold(0, |check, octet| check ^ octet)
+    let mut lanes = u8x16::splat(0);
+    let mut left = octets;
+    while left.len() >= LANES {
+        lanes = check_row(lanes, left);
+        left = &left[LANES..];
+    }
+    check_on(check_lanes(lanes), left)
 }
 
 /// Writes the frame of a content of at most 1,045 octets into an empty `out` (the standard's framing).
