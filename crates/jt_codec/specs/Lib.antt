@@ -6,3 +6,4 @@ pub mod Kinds
 pub mod Law
 pub mod Layouts
 pub mod Parsing
+pub mod Viewing

@@ -1,0 +1,25 @@
+use Rattle.std.proofs.Common.{ap, Err, sym, ◌∙◌, arith}
+use Rattle.jt_value.specs.declared.refusal.Refusal.{Refusal}
+use Rattle.jt_codec.proofs.FrameLaws.{refused_at}
+use Rattle.jt_codec.proofs.JudgingLaws.{judged_inside}
+use Rattle.jt_codec.proofs.ViewingLaws.{heartbeat_read, heartbeat_refused}
+use Rattle.jt_codec.proofs.viewing.view_of_heartbeat.Goals as goal
+
+pub in_content-requires : goal.in_content-requires
+in_content-requires c =
+    let h = c.args.header.now in
+    let refusal = c.in-Err-Refused.refusal in
+    omega (arith, judged_inside h.edition h.id c.args.body.now refusal (heartbeat_refused h.edition h.id c.args.body.now refusal c.requires.id (rw c.in-Err-Refused.field-0-is at c.in-Err-Refused.ensures)))
+
+pub returns-in-Ok : goal.returns-in-Ok
+returns-in-Ok c =
+    let h = c.args.header.now in
+    heartbeat_read h.packet h.edition h.id c.args.body.now (sym c.requires.whole) c.requires.id c.in-Ok.ensures
+
+pub returns-in-Err-Refused : goal.returns-in-Err-Refused
+returns-in-Err-Refused c =
+    let h = c.args.header.now in
+    let refusal = c.in-Err-Refused.refusal in
+    refused_at h.packet h.edition h.id c.args.start c.args.body.now refusal (sym c.requires.whole) (λ _. c.requires.start)
+    (heartbeat_refused h.edition h.id c.args.body.now refusal c.requires.id (rw c.in-Err-Refused.field-0-is at c.in-Err-Refused.ensures))
+    ∙ ap (λ (r : Refusal). Err r) (sym c.in_content.ensures)

@@ -1,0 +1,23 @@
+use Rattle.std.proofs.Common.{ap, Err, sym, ◌∙◌, arith}
+use Rattle.jt_value.specs.declared.refusal.Refusal.{Refusal}
+use Rattle.jt_codec.proofs.FrameLaws.{refused_at}
+use Rattle.jt_codec.proofs.JudgingLaws.{judged_inside}
+use Rattle.jt_codec.proofs.ViewingLaws.{position_read, position_refused}
+use Rattle.jt_codec.proofs.viewing.view_of_position.Goals as goal
+
+pub in_content-requires : goal.in_content-requires
+in_content-requires c =
+    let h = c.args.header.now in
+    omega (arith, judged_inside h.edition h.id c.args.body.now c.in-Err.refusal (position_refused h.edition h.id c.args.body.now c.in-Err.refusal c.requires.id c.in-Err.ensures.position))
+
+pub returns-in-Ok : goal.returns-in-Ok
+returns-in-Ok c =
+    let h = c.args.header.now in
+    position_read h.packet h.edition h.id c.args.body.now _ (sym c.requires.whole) c.requires.id c.in-Ok.ensures.position
+
+pub returns-in-Err : goal.returns-in-Err
+returns-in-Err c =
+    let h = c.args.header.now in
+    refused_at h.packet h.edition h.id c.args.start c.args.body.now c.in-Err.refusal (sym c.requires.whole) (λ _. c.requires.start)
+    (position_refused h.edition h.id c.args.body.now c.in-Err.refusal c.requires.id c.in-Err.ensures.position)
+    ∙ ap (λ (r : Refusal). Err r) (sym c.in_content.ensures)
