@@ -1,5 +1,7 @@
 pub mod Cutting
 pub mod Frames
+pub mod Lasting
+pub mod Lending
 pub mod Octets
 pub mod Reading
 pub mod Scanning
