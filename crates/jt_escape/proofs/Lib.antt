@@ -1,6 +1,8 @@
 pub mod Checks
 pub mod Cutting
 pub mod Frames
+pub mod Lasting
+pub mod Lending
 pub mod Octets
 pub mod Reading
 pub mod Scanning

@@ -8,11 +8,11 @@ use Rattle.std.proofs.lemmas.List.{append-nil, take-append-le, take-append-drop,
 use Rattle.jt_escape.specs.declared.splitter.Mode.{Mode}
 use Rattle.jt_escape.specs.declared.splitter.Mode.TheVariants as modes
 use Rattle.jt_escape.specs.Span.{Event, HasNoFlag, Events}
-use Rattle.jt_escape.specs.Scan.{State, start, after, events_of, run, scan, IsPlain, keeping_all, passing_all, opening, Runs}
+use Rattle.jt_escape.specs.Scan.{State, start, after, events_of, run, scan, IsPlain, keeping_all, passing_all, opening, lasting, IsLike, Runs}
 use Rattle.jt_escape.specs.Splitter.{Takes, IsSilent}
 use Rattle.jt_escape.proofs.Scanning.{at}
 use Rattle.jt_escape.proofs.Reading.{scan-append, run-append, events_held, events_only}
-use Rattle.jt_escape.proofs.Taking.{place_next}
+use Rattle.jt_escape.proofs.Lasting.{run_like, scan_like}
 
 -- ---- runs of octets, one after another
 
@@ -28,7 +28,7 @@ quiet_front state octets count none =
     (sym (scan-append (take count octets) (drop count octets) state) ∙ apart)
 
 pub Runs-quiet : (old new : State) (octets : List ℕ) → new ≡ run old octets → scan old octets ≡ [] → Runs old new octets []
-Runs-quiet old new octets e none = record { reached = e; read = sym none; quiet = λ count lt. quiet_front old octets count none }
+Runs-quiet old new octets e none = record { reached = ap lasting e; read = sym none; quiet = λ count lt. quiet_front old octets count none }
 
 -- no octets
 pub Runs-none : (state : State) → Runs state state [] []
@@ -41,7 +41,11 @@ quiet_one state octet (suc count) lt = absurd (omega (arith, lt))
 -- one octet
 pub Runs-one : (old new : State) (octet : ℕ) (events : List Event) → new ≡ after old octet → events ≡ events_of old octet → Runs old new (octet ∷ []) events
 Runs-one old new octet events e f =
-    record { reached = e; read = f ∙ sym (append-nil (events_of old octet)); quiet = λ count lt. quiet_one old octet count lt }
+    record { reached = ap lasting e; read = f ∙ sym (append-nil (events_of old octet)); quiet = λ count lt. quiet_one old octet count lt }
+
+-- a state that is like the one that is led to
+pub Runs-like : (a b c : State) (octets : List ℕ) (events : List Event) → Runs a b octets events → IsLike c b → Runs a c octets events
+Runs-like a b c octets events runs like = record { reached = like ∙ runs.reached; read = runs.read; quiet = runs.quiet }
 
 quiet_then : (a b : State) (x y : List ℕ) (count : ℕ) → Runs a b x [] → ((count : ℕ) → count < length y → scan b (take count y) ≡ [])
     → count < length (x ++ y) → scan a (take count (x ++ y)) ≡ []
@@ -52,7 +56,7 @@ quiet_then a b x y count first second lt =
           let more : ℕ = count - length x in
           let total : length x + more ≡ count = omega (arith, past) in
           ap (λ (n : ℕ). scan a (take n (x ++ y))) (sym total) ∙ ap (scan a) (take-append-add x y more) ∙ scan-append x (take more y) a
-          ∙ ap (λ (xs : List Event). xs ++ scan (run a x) (take more y)) (sym first.read) ∙ ap (λ (s : State). scan s (take more y)) (sym first.reached)
+          ∙ ap (λ (xs : List Event). xs ++ scan (run a x) (take more y)) (sym first.read) ∙ sym (scan_like (take more y) b (run a x) first.reached)
           ∙ second more (omega (arith, lt, past, length-append x y))
     ]
 
@@ -60,8 +64,8 @@ quiet_then a b x y count first second lt =
 pub Runs-then : (a b c : State) (x y : List ℕ) (g : List Event) → Runs a b x [] → Runs b c y g → Runs a c (x ++ y) g
 Runs-then a b c x y g first second =
     record {
-      reached = second.reached ∙ ap (λ (s : State). run s y) first.reached ∙ sym (run-append x y a);
-      read = second.read ∙ ap (λ (s : State). scan s y) first.reached ∙ ap (λ (xs : List Event). xs ++ scan (run a x) y) first.read ∙ sym (scan-append x y a);
+      reached = second.reached ∙ run_like y b (run a x) first.reached ∙ sym (ap lasting (run-append x y a));
+      read = second.read ∙ scan_like y b (run a x) first.reached ∙ ap (λ (xs : List Event). xs ++ scan (run a x) y) first.read ∙ sym (scan-append x y a);
       quiet = λ count lt. quiet_then a b x y count first second.quiet lt;
     }
 
@@ -91,20 +95,12 @@ opens_frame old octet is flag = (rw (is, flag) refl, rw (is, flag) refl)
 
 -- ---- what a run is to the streams
 
-place_run : (state : State) (octets : List ℕ) → (run state octets).place ≡ state.place + length octets
-place_run state [] = omega arith
-place_run state (octet ∷ octets) =
-    place_run (after state octet) octets ∙ (let next = place_next state (after state octet) octet refl in omega (arith, next))
-
-pub place_after : (old new : State) (octets : List ℕ) (events : List Event) → Runs old new octets events → new.place ≡ old.place + length octets
-place_after old new octets events runs = ap (λ (state : State). state.place) runs.reached ∙ place_run old octets
-
 pub takes_run : (old new : State) (octets : List ℕ) (events : List Event) → Runs old new octets events → Takes old new octets events
 takes_run old new octets events runs =
     record {
-      stands = λ stream h. record { taken = runs.reached ∙ ap (λ (state : State). run state octets) h.taken ∙ sym (run-append stream octets start) };
+      stands = λ stream h. record { taken = runs.reached ∙ run_like octets old (run start stream) h.taken ∙ sym (ap lasting (run-append stream octets start)) };
       events = λ stream before h x.
-          let same : scan (run start stream) octets ≡ events = ap (λ (state : State). scan state octets) (sym h.taken) ∙ sym runs.read in
+          let same : scan (run start stream) octets ≡ events = sym (scan_like octets old (run start stream) h.taken) ∙ sym runs.read in
           let whole : scan start (stream ++ octets) ≡ before ++ events =
           scan-append stream octets start ∙ ap (λ (xs : List Event). scan start stream ++ xs) same ∙ ap (λ (xs : List Event). xs ++ events) (sym (events_only stream before x)) in
           subst (Events (stream ++ octets)) whole (events_held (stream ++ octets));
@@ -148,7 +144,7 @@ keeps_run (octet ∷ octets) kept place opened plain le =
           ∙ ap (λ (state : State). scan state octets) first.0 ∙ others.1,
     )
 
-keeps_all_plain : (old : State) (octets : List ℕ) → old.mode ≡ modes.Inside → IsPlain octets → length old.content + length octets ≤ 1045 → Runs old (keeping_all old octets) octets []
+pub keeps_all_plain : (old : State) (octets : List ℕ) → old.mode ≡ modes.Inside → IsPlain octets → length old.content + length octets ≤ 1045 → Runs old (keeping_all old octets) octets []
 keeps_all_plain old octets inside plain le =
     let here : old ≡ at modes.Inside old.content old.place old.opened = mode_is old modes.Inside inside in
     let there = keeps_run octets old.content old.place old.opened plain le in

@@ -1,4 +1,4 @@
--- What a splitter'stream calls do to the streams that it stands for.
+-- What a splitter's step does, and the end of the streams that it stands for.
 use Rattle.std.proofs.Common.{◌≡◌, ℕ, ◌+◌, eqb, ◌<◌, length, Option, List, [], ◌∷◌, ◌++◌, refl, sym, ap, subst, ◌∙◌, arith, inl, inr}
 use Rattle.std.proofs.lemmas.Bool.{cases_Bool, cases_eq, ne_eqb}
 use Rattle.std.proofs.lemmas.List.{append-nil}
@@ -10,26 +10,13 @@ use Rattle.jt_escape.specs.declared.splitter.Split.TheVariants as split
 use Rattle.jt_escape.specs.Span.{Event, Whole, Events, Ends}
 use Rattle.jt_escape.specs.Scan.{end_of_stream, State, start, after, after_in, events_of, events_in, run, scan, end_in}
 use Rattle.jt_escape.specs.Splitter.{StandsFor, Takes, told}
+use Rattle.jt_escape.proofs.Lasting.{end_like}
 use Rattle.jt_escape.proofs.Reading.{scan-append, run-append, events_held, events_only, ended, whole_is}
-
--- after one octet the state stands for one octet more
-pub stands_next : (old new : State) (octet : ℕ) (stream : List ℕ) → new ≡ after old octet → StandsFor old stream → StandsFor new (stream ++ octet ∷ [])
-stands_next old new octet stream e h = record { taken = e ∙ ap (λ (state : State). after state octet) h.taken ∙ sym (run-append stream (octet ∷ []) start) }
-
--- and the stream has gained what the step told
-pub gains_next : (old : State) (octet : ℕ) (stream : List ℕ) (before gained : List Event) → gained ≡ events_of old octet → StandsFor old stream → Events stream before
-    → Events (stream ++ octet ∷ []) (before ++ gained)
-gains_next old octet stream before gained e h x =
-    let same : events_of (run start stream) octet ++ [] ≡ gained =
-    append-nil (events_of (run start stream) octet) ∙ ap (λ (state : State). events_of state octet) (sym h.taken) ∙ sym e in
-    let whole : scan start (stream ++ octet ∷ []) ≡ before ++ gained =
-    scan-append stream (octet ∷ []) start ∙ ap (λ (xs : List Event). scan start stream ++ xs) same ∙ ap (λ (xs : List Event). xs ++ gained) (sym (events_only stream before x)) in
-    subst (Events (stream ++ octet ∷ [])) whole (events_held (stream ++ octet ∷ []))
 
 -- the end of a stream by the state that stands for it
 pub end_now : (state : State) (stream : List ℕ) (end : Option Refusal) → end ≡ end_in state.mode state.place → StandsFor state stream → Ends stream end
 unfolding end_of_stream
-end_now state stream end e h = subst (Ends stream) (ap (λ (x : State). end_in x.mode x.place) (sym h.taken) ∙ sym e) (ended stream)
+end_now state stream end e h = subst (Ends stream) (sym (e ∙ end_like state (run start stream) h.taken)) (ended stream)
 
 -- each step is one octet
 place_in : (mode : Mode) (state : State) (octet : ℕ) → (after_in mode state octet).place ≡ state.place + 1
@@ -56,10 +43,6 @@ place_in modes.Skipping state octet = elim (cases_Bool (eqb octet 0x7E)) [ inl e
 pub place_next : (old new : State) (octet : ℕ) → new ≡ after old octet → new.place ≡ old.place + 1
 unfolding after
 place_next old new octet e = ap (λ (state : State). state.place) e ∙ place_in old.mode old octet
-
-pub takes_one : (old new : State) (octet : ℕ) (events : List Event) → new ≡ after old octet → events ≡ events_of old octet → Takes old new (octet ∷ []) events
-takes_one old new octet events e f =
-    record { stands = λ stream h. stands_next old new octet stream e h; events = λ stream before h x. gains_next old octet stream before events f h x }
 
 -- a content that is told has octets
 some_in : (mode : Mode) (state : State) (octet opened : ℕ) (content : List ℕ) → Whole opened content ∷ [] ≡ events_in mode state octet → 0 < length content

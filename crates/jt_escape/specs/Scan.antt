@@ -106,8 +106,27 @@ abbrev pub passing_all : State → List ℕ → State
 passing_all state octets =
     record { mode = state.mode; content = state.content; place = state.place + length octets; opened = state.opened }
 
--- the octets lead from the old state to the new one and have these events, and none before the last octet
+-- the state after a frame, from its first flag to its last, whose content of so many octets is not kept
+abbrev pub lending : State → ℕ → State
+lending state count = record { mode = Outside; content = []; place = state.place + (count + 2); opened = state.place }
+
+abbrev pub lasting_in : Mode → State → State
+lasting_in Outside state = record { mode = Outside; content = []; place = state.place; opened = 0 }
+lasting_in Straying state = record { mode = Straying; content = []; place = state.place; opened = 0 }
+lasting_in Inside state = record state { mode = Inside }
+lasting_in Escaping state = record state { mode = Escaping }
+lasting_in Skipping state = record { mode = Skipping; content = []; place = state.place; opened = 0 }
+
+-- What later octets see of a state: outside a frame neither the last content nor its opening flag.
+abbrev pub lasting : State → State
+lasting state = lasting_in state.mode state
+
+-- Later octets see the same of both: the mode, the place and, where a frame is open, its content and its opening flag.
+abbrev pub IsLike : State → State → Type 0
+IsLike a b = lasting a ≡ lasting b
+
+-- the octets lead from the old state to one like the new one and have these events, and none before the last octet
 pub record Runs (old new : State) (octets : List ℕ) (events : List Event) : Type 0 where
-  pub reached : new ≡ run old octets
+  pub reached : IsLike new (run old octets)
   pub read : events ≡ scan old octets
   pub quiet : (count : ℕ) → count < length octets → scan old (take count octets) ≡ []

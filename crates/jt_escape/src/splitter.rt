@@ -1,11 +1,11 @@
 //! Contents and refusals of a stream that comes octet by octet, or in pieces.
 
-ghost use Rattle.std.specs.Prelude.{◌≡◌, ◌⊎◌, ◌<◌, ◌≤◌, ◌+◌, ◌-◌, ◌^◌, [], ◌∷◌, List, ℕ, length, take};
+ghost use Rattle.std.specs.Prelude.{◌≡◌, ◌⊎◌, ◌<◌, ◌≤◌, ◌+◌, ◌-◌, ◌^◌, [], ◌∷◌, List, ℕ, length, take, slice_index, slice_range, IfSome, IfNone};
 ghost use Rattle.jt_value.specs.declared.refusal.Refusal.{Refusal};
 ghost use Rattle.jt_escape.specs.declared.splitter.Mode.TheVariants.{Outside, Straying, Inside, Escaping, Skipping};
-ghost use Rattle.jt_escape.specs.Span.{Ends, HasNoFlag, refusal_at};
-ghost use Rattle.jt_escape.specs.Scan.{State, opening, passing, passing_all, keeping, keeping_all, after_in, after, events_in, events_of, end_in, IsPlain, Runs};
-ghost use Rattle.jt_escape.specs.Splitter.{StandsFor, Takes, IsSilent, told};
+ghost use Rattle.jt_escape.specs.Span.{Ends, HasNoFlag, IsContent, refusal_at};
+ghost use Rattle.jt_escape.specs.Scan.{State, opening, passing, passing_all, keeping, keeping_all, lending, after_in, after, events_in, events_of, end_in, IsPlain, Runs};
+ghost use Rattle.jt_escape.specs.Splitter.{StandsFor, Takes, IsSilent, told, lent, told_in};
 
 use crate::framing::{CONTENT_LIMIT, ESCAPE, ESCAPE_CODE, FLAG, FLAG_CODE};
 use arrayvec::ArrayVec;
@@ -91,6 +91,23 @@ fn plain_len(octets: &[u8]) -> usize
     ensures plain { IsPlain (take result octets.now) }
 {
     memchr2(FLAG, ESCAPE, octets).unwrap_or(octets.len())
+}
+
+// How many octets stand between two flags, where the piece begins with a frame that is whole and has no escape. None, else.
+#[inline(always)]
+fn plain_frame(piece: &[u8]) -> Option<usize>
+    ensures length { IfSome result (λ count. (0 < count) × (count ≤ 1045) × (count + 2 ≤ length piece.now)) }
+    ensures flags { IfSome result (λ count. (slice_index piece.now 0 ≡ 0x7E) × (slice_index piece.now (count + 1) ≡ 0x7E)) }
+    ensures plain { IfSome result (λ count. IsPlain (slice_range piece.now 1 (count + 1))) }
+{
+    if piece.len() < 3 || piece[0] != FLAG {
+        return None;
+    }
+    let count = plain_len(&piece[1..piece.len().min(CONTENT_LIMIT + 1)]);
+    if count == 0 || count + 1 == piece.len() || piece[count + 1] != FLAG {
+        return None;
+    }
+    Some(count)
 }
 
 impl Splitter {
@@ -411,6 +428,91 @@ impl Splitter {
         ensures content { result.1 ≡ Split.Content → 0 < length self.new.content }
     {
         self.take_all(piece)
+    }
+
+    // Takes a frame whose content of so many octets stays where it stands.
+    #[inline(always)]
+    fn lend(&mut self, count: usize)
+        requires place { self.old.place + (count + 2) < 2 ^ 63 }
+        requires mode { self.old.mode ≡ Outside }
+        ensures { self.new ≡ lending self.old count }
+    {
+        self.opened = self.place;
+        self.place += count as u64 + 2;
+        if !self.content.is_empty() {
+            self.content.clear();
+        }
+    }
+
+    // Takes a frame that stands whole and without escapes at the front of the piece, and leaves its content there: how many
+    // octets were taken, or None where there is no such frame.
+    #[inline(always)]
+    fn take_plain(&mut self, piece: &[u8]) -> Option<usize>
+        requires { self.old.place + length piece.now < 2 ^ 63 }
+        ensures within { IfSome result (λ taken. (0 < taken) × (taken ≤ length piece.now)) }
+        ensures place { IfSome result (λ taken. self.new.place ≡ self.old.place + taken) }
+        ensures runs { IfSome result (λ taken. Runs self.old self.new (take taken piece.now)
+            (told_in Split.Content self.new (take taken piece.now))) }
+        ensures content { IfSome result (λ taken. IsContent (lent self.new (take taken piece.now))) }
+        ensures none { IfNone result (self.new ≡ self.old) }
+    {
+        if self.mode != Mode::Outside {
+            return None;
+        }
+        let count = plain_frame(piece)?;
+        self.lend(count);
+        Some(count + 2)
+    }
+
+    // Takes octets up to the first that brings an event, or all, and keeps each content.
+    fn take_kept(&mut self, piece: &[u8]) -> (usize, Split)
+        requires { self.old.place + length piece.now < 2 ^ 63 }
+        ensures within { result.0 ≤ length piece.now }
+        ensures some { 0 < length piece.now → 0 < result.0 }
+        ensures place { self.new.place ≡ self.old.place + result.0 }
+        ensures runs { Runs self.old self.new (take result.0 piece.now)
+            (told_in result.1 self.new (take result.0 piece.now)) }
+        ensures more { result.1 ≡ Split.More → result.0 ≡ length piece.now }
+        ensures content { result.1 ≡ Split.Content → IsContent (lent self.new (take result.0 piece.now)) }
+    {
+        let answer = self.take_all(piece);
+        prove!(self.content.len() <= CONTENT_LIMIT);
+        answer
+    }
+
+    /// Takes the stream's next octets as `take` does. The content of a frame that stands whole and without escapes in the
+    /// piece is left there, and `content_in` gives it from there. The octets taken so far and the piece are together fewer
+    /// than 2^63.
+    #[inline(always)]
+    pub fn take_in_place(&mut self, piece: &[u8]) -> (usize, Split)
+        requires { self.old.place + length piece.now < 2 ^ 63 }
+        ensures taken { result.0 ≤ length piece.now }
+        ensures some { 0 < length piece.now → 0 < result.0 }
+        ensures place { self.new.place ≡ self.old.place + result.0 }
+        ensures events { Takes self.old self.new (take result.0 piece.now)
+            (told_in result.1 self.new (take result.0 piece.now)) }
+        ensures more { result.1 ≡ Split.More → result.0 ≡ length piece.now }
+        // No octet past the first that completes something is taken.
+        ensures first { (count : ℕ) → count < result.0 → IsSilent self.old (take count piece.now) }
+        ensures content { result.1 ≡ Split.Content → IsContent (lent self.new (take result.0 piece.now)) }
+    {
+        match self.take_plain(piece) {
+            Some(taken) => (taken, Split::Content),
+            None => self.take_kept(piece),
+        }
+    }
+
+    /// The content that the last `take_in_place` completed, `taken` being the octets that it took. It stands in the piece or
+    /// in the splitter.
+    #[inline(always)]
+    pub fn content_in<'a>(&'a self, taken: &'a [u8]) -> &'a [u8]
+        ensures { result.now ≡ lent self.now taken.now }
+    {
+        if self.content.is_empty() && 2 <= taken.len() {
+            &taken[1..taken.len() - 1]
+        } else {
+            self.content.as_slice()
+        }
     }
 
     /// Takes the stream's next octet. Fewer than 2^63 octets may have been taken.

@@ -1,13 +1,13 @@
 //! Messages and refusals of a stream that comes in pieces.
 
-ghost use Rattle.std.specs.Prelude.{◌≡◌, ◌<◌, ◌≤◌, ◌+◌, ◌^◌, [], ◌∷◌, ◌↔◌, List, ℕ, false, length, take, Some, None, IsTrue, IsSome, IfSome};
+ghost use Rattle.std.specs.Prelude.{◌≡◌, ◌<◌, ◌≤◌, ◌+◌, ◌^◌, [], ◌∷◌, ◌↔◌, List, ℕ, false, length, take, Some, None, IsTrue, IsSome, IfSome, IfOk, IfErr};
 ghost use Rattle.std.specs.Option.{ForSome};
 ghost use Rattle.std.specs.Result.{ForOk};
 ghost use Rattle.jt_escape.specs.Span.{Ends, Whole};
-ghost use Rattle.jt_escape.specs.Splitter.{StandsFor};
+ghost use Rattle.jt_escape.specs.Splitter.{StandsFor, lent, told_in};
 ghost use Rattle.jt_header.specs.Content.{Content};
 ghost use Rattle.jt_header.specs.Reason.{Reads};
-ghost use Rattle.jt_stream.specs.Item.{AreItemsOf};
+ghost use Rattle.jt_stream.specs.Item.{Item, Frame, Refused, AreItemsOf};
 ghost use Rattle.jt_stream.specs.Message.{IsMessage, completed};
 ghost use Rattle.jt_stream.specs.Stream.{Gains, IsSilent, told};
 
@@ -149,6 +149,56 @@ impl Stream {
         let content = self.splitter.content();
         let body = &content[message.start..content.len() - 1];
         Some((self.splitter.opened(), message.header, body))
+    }
+
+    /// Takes the stream's next octets as `take` does, and judges no content: where the answer is `Content`, `frame_in` gives its
+    /// frame or the refusal. Answers how many octets were taken, and what they complete. The octets taken so far and the piece
+    /// are together fewer than 2^63.
+    #[inline(always)]
+    pub fn take_in_place(&mut self, piece: &[u8]) -> (usize, Split)
+        requires { self.old.splitter.place + length piece.now < 2 ^ 63 }
+        ensures taken { result.0 ≤ length piece.now }
+        ensures some { 0 < length piece.now → 0 < result.0 }
+        ensures place { self.new.splitter.place ≡ self.old.splitter.place + result.0 }
+        // The items of a content are those of `frame_in`.
+        ensures items { (items : List Item) →
+            AreItemsOf (told_in result.1 self.new.splitter (take result.0 piece.now)) items →
+            Gains self.old.splitter self.new.splitter (take result.0 piece.now) items }
+        ensures more { result.1 ≡ Split.More → result.0 ≡ length piece.now }
+        // No octet past the first that completes an item is taken.
+        ensures first { (count : ℕ) → count < result.0 → IsSilent self.old.splitter (take count piece.now) }
+        ensures content { result.1 ≡ Split.Content → length (lent self.new.splitter (take result.0 piece.now)) ≤ 1045 }
+        ensures found { self.new.found ≡ false }
+    {
+        self.message = None;
+        self.splitter.take_in_place(piece)
+    }
+
+    /// The frame of the content that the last `take_in_place` completed, `taken` being the octets that it took: the place of
+    /// the opening flag, the header and the body, which stays where it stands. Or why it is refused, at the opening flag with
+    /// the offset in the content.
+    #[inline(always)]
+    pub fn frame_in<'a>(&'a self, taken: &'a [u8]) -> Result<(u64, Header, &'a [u8]), Refusal>
+        requires { length (lent self.now.splitter taken.now) ≤ 1045 }
+        ensures item { IfOk result (λ frame. AreItemsOf
+            (Whole self.now.splitter.opened (lent self.now.splitter taken.now) ∷ [])
+            (Frame frame.0 frame.1 frame.2.now ∷ [])) }
+        ensures refused { IfErr result (λ refusal. AreItemsOf
+            (Whole self.now.splitter.opened (lent self.now.splitter taken.now) ∷ [])
+            (Refused refusal ∷ [])) }
+        ensures place { IfOk result (λ frame. frame.0 ≡ self.now.splitter.opened) }
+        ensures message { IfOk result (λ frame. Content frame.1 frame.2.now (lent self.now.splitter taken.now)) }
+        ensures fields { IfOk result (λ frame. Reads (lent self.now.splitter taken.now) frame.1 frame.2.now) }
+    {
+        let at = self.splitter.opened();
+        match read_header(self.splitter.content_in(taken)) {
+            Ok((header, body)) => Ok((at, header, body)),
+            Err(refusal) => Err(Refusal {
+                at,
+                inside: refusal.inside,
+                why: refusal.why,
+            }),
+        }
     }
 
     /// Judges the stream's end: `Truncated` at the stream's length where it ends inside a frame.
