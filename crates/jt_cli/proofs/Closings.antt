@@ -7,9 +7,7 @@ use Rattle.jt_cli.specs.declared.command.Report.{Report}
 use Rattle.jt_cli.specs.declared.command.Report.TheVariants.{View, Check}
 use Rattle.jt_cli.specs.declared.closing.Closing.TheVariants.{Whole, TooLong, HexRefused}
 use Rattle.jt_cli.specs.declared.status.Status.TheVariants as status
-use Rattle.jt_cli.specs.declared.entry.Entry.{Entry}
-use Rattle.jt_cli.specs.declared.entry.Entry.TheVariants.{Frame, Refused}
-use Rattle.jt_cli.specs.Entry.{line_of, lines, entries_of, end_entries, frames, refusals, first_refusal}
+use Rattle.jt_cli.specs.Entry.{Entry, Frame, Refused, line_of, lines, entries_of, end_entries, frames, refusals, first_refusal}
 use Rattle.jt_text.specs.Refusals.{refusal_line}
 use Rattle.jt_cli.specs.Line.{counts_line, ok_line, too_long_line, hex_refused_line}
 use Rattle.jt_cli.specs.Report.{view_text, check_text}

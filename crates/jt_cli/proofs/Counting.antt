@@ -8,15 +8,9 @@ use Rattle.jt_codec.specs.declared.message.Message.{Message}
 use Rattle.jt_escape.specs.Scan.{State}
 use Rattle.jt_header.specs.declared.header.Header.{Header}
 use Rattle.jt_stream.specs.Item.{Item, Items, all_items, placed}
-use Rattle.jt_stream.specs.Stream.{Gains, told}
-use Rattle.jt_stream.specs.declared.stream.StreamItem.{StreamItem}
-use Rattle.jt_stream.specs.declared.stream.StreamItem.TheVariants as answer
-use Rattle.jt_cli.specs.declared.judged.Judged.{Judged}
-use Rattle.jt_cli.specs.declared.judged.Judged.TheVariants as judgement
-use Rattle.jt_cli.specs.declared.entry.Entry.{Entry}
-use Rattle.jt_cli.specs.declared.entry.Entry.TheVariants.{Frame, Refused}
-use Rattle.jt_cli.specs.Entry.{entry_of, entries_of, frame_entry, frames, refusals}
-use Rattle.jt_cli.specs.Reporting.{Tally, Counts, Brings, IsCounted, entry_told, judged}
+use Rattle.jt_stream.specs.Stream.{Gains}
+use Rattle.jt_cli.specs.Entry.{Entry, Frame, Refused, entry_of, entries_of, frame_entry, frames, refusals}
+use Rattle.jt_cli.specs.Reporting.{Tally, Counts, Brings, IsCounted}
 
 pub frames-append : (xs ys : List Entry) → frames (xs ++ ys) ≡ frames xs + frames ys
 frames-append [] ys = omega arith
@@ -38,12 +32,6 @@ pub entries_of-more : (before octets : List ℕ) (gained : List Item) → all_it
     → entries_of (before ++ octets) ≡ entries_of before ++ map entry_of gained
 unfolding entries_of
 entries_of-more before octets gained more = ap (map entry_of) more ∙ map-append entry_of (all_items before) gained
-
--- the entry of what a stream tells
-pub told_entry : (told_item : StreamItem) (state : State) → option_to_list (entry_told told_item state) ≡ map entry_of (told told_item state)
-told_entry answer.More state = refl
-told_entry answer.Frame state = refl
-told_entry (answer.Refused refusal) state = refl
 
 -- octets that gained items were taken, and the entry of these was counted
 pub brings : ((stream : List ℕ) (list : List Item) → Items stream list → list ≡ all_items stream)

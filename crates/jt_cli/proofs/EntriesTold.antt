@@ -7,9 +7,7 @@ use Rattle.std.specs.Prelude.{option_to_list}
 use Rattle.jt_value.specs.declared.refusal.Refusal.{Refusal}
 use Rattle.jt_stream.specs.Item.{Item, all_items}
 use Rattle.jt_cli.specs.declared.command.Report.TheVariants.{View, Check}
-use Rattle.jt_cli.specs.declared.entry.Entry.{Entry}
-use Rattle.jt_cli.specs.declared.entry.Entry.TheVariants.{Frame, Refused}
-use Rattle.jt_cli.specs.Entry.{line_of, lines, entries_of, first_refusal}
+use Rattle.jt_cli.specs.Entry.{Entry, Frame, Refused, line_of, lines, entries_of, first_refusal}
 use Rattle.jt_text.specs.Refusals.{refusal_line}
 use Rattle.jt_cli.specs.Reporting.{Tally, Counts, Brings, GoesOn, TellsOn, TellsLast}
 use Rattle.jt_cli.proofs.Counting.{entries_of-front}

@@ -11,13 +11,12 @@ use Rattle.jt_cli.specs.declared.command.Report.{Report}
 use Rattle.jt_cli.specs.declared.command.Report.TheVariants.{View, Check}
 use Rattle.jt_cli.specs.declared.command.Encoding.{Encoding}
 use Rattle.jt_cli.specs.declared.command.Encoding.TheVariants.{Octets, Hex}
-use Rattle.jt_cli.specs.declared.entry.Entry.{Entry}
+use Rattle.jt_cli.specs.Entry.{Entry, entries_of, end_entries, first_refusal}
 use Rattle.jt_cli.specs.declared.closing.Closing.{Closing}
 use Rattle.jt_cli.specs.declared.closing.Closing.TheVariants.{Whole, TooLong, HexRefused}
 use Rattle.jt_cli.specs.declared.reporter.Reporter.{Reporter}
 use Rattle.jt_cli.specs.declared.status.Status.{Status}
 use Rattle.jt_cli.specs.declared.status.Status.TheVariants.{Refused}
-use Rattle.jt_cli.specs.Entry.{entries_of, end_entries, first_refusal}
 use Rattle.jt_cli.specs.HexInput as hex
 use Rattle.jt_text.specs.Refusals.{refusal_line}
 use Rattle.jt_cli.specs.Report.{decoded, wrong_place, closing_of, closed_entries, report_text, check_text, answer_of, printed}

@@ -9,5 +9,7 @@ pub mod PiecesTaken
 pub mod PrintedFirst
 pub mod RunsOver
 pub mod StepsTaken
+pub mod Told
 mod ScriptRuns
 mod TaskWords
+mod Told

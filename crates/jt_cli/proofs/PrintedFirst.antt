@@ -4,11 +4,10 @@ use Rattle.std.proofs.lemmas.List.Concat.{flat_map-append}
 use Rattle.jt_escape.specs.Scan.{end_of_stream}
 use Rattle.jt_cli.specs.declared.command.Report.{Report}
 use Rattle.jt_cli.specs.declared.command.Report.TheVariants.{View, Check}
-use Rattle.jt_cli.specs.declared.entry.Entry.{Entry}
+use Rattle.jt_cli.specs.Entry.{Entry, line_of, lines, entries_of, end_entries}
 use Rattle.jt_cli.specs.declared.closing.Closing.{Closing}
 use Rattle.jt_cli.specs.declared.closing.Closing.TheVariants.{Whole, TooLong, HexRefused}
 use Rattle.jt_cli.specs.declared.reporter.Reporter.{Reporter}
-use Rattle.jt_cli.specs.Entry.{line_of, lines, entries_of, end_entries}
 use Rattle.jt_cli.specs.Report.{decoded, closing_of, closed_entries, report_text, view_text, view_close, answer_of, printed}
 use Rattle.jt_cli.specs.Taking.{printed_of}
 use Rattle.jt_cli.proofs.Counting.{entries_of-front}

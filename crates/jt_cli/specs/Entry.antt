@@ -10,8 +10,12 @@ use Rattle.jt_stream.specs.Item.{Item, placed, all_items}
 use Rattle.jt_stream.specs.Item as item
 use Rattle.jt_text.specs.Frames.{view_line}
 use Rattle.jt_text.specs.Refusals.{refusal_line}
-use Rattle.jt_cli.specs.declared.entry.Entry.{Entry}
-use Rattle.jt_cli.specs.declared.entry.Entry.TheVariants.{Frame, Refused}
+
+-- what a line is printed of: a frame with the place of its opening flag, its header, its message and the octets of its body,
+-- or a refusal
+pub data Entry : Type 0 where
+  Frame : ℕ → Header → Message → ℕ → Entry
+  Refused : Refusal → Entry
 
 -- the line of an entry
 abbrev pub line_of : Entry → List ℕ

@@ -5,8 +5,7 @@ use Rattle.jt_value.specs.declared.refusal.Refusal.{Refusal}
 use Rattle.jt_escape.specs.Scan.{end_of_stream}
 use Rattle.jt_text.specs.Refusals.{refusal_line}
 use Rattle.jt_cli.specs.Line.{counts_line, ok_line, too_long_line, hex_refused_line}
-use Rattle.jt_cli.specs.Entry.{lines, entries_of, end_entries, refusals, frames, first_refusal}
-use Rattle.jt_cli.specs.declared.entry.Entry.{Entry}
+use Rattle.jt_cli.specs.Entry.{lines, entries_of, end_entries, refusals, frames, first_refusal, Entry}
 use Rattle.jt_cli.specs.HexInput.{first_wrong, digits, octets_of}
 use Rattle.jt_cli.specs.declared.command.Command.{Command}
 use Rattle.jt_cli.specs.declared.command.Report.{Report}

@@ -1,25 +1,21 @@
 -- How far a report has come: what is counted and printed of a front of the input. A step function for the proofs.
-use Rattle.std.specs.Prelude.{◌≡◌, ℕ, ◌+◌, List, ◌++◌, length, Bool, true, false, Option, Some, None, option_to_list}
+use Rattle.std.specs.Prelude.{◌≡◌, ℕ, ◌+◌, List, ◌++◌, length, Bool, true, false, Option, Some, None, option_to_list, map}
 use Rattle.jt_value.specs.declared.refusal.Refusal.{Refusal}
 use Rattle.jt_escape.specs.Splitter as splitter
 use Rattle.jt_escape.specs.Scan.{State}
-use Rattle.jt_header.specs.Fields.{header_at, body_at}
-use Rattle.jt_stream.specs.Item.{Items, all_items}
-use Rattle.jt_stream.specs.Item as item
-use Rattle.jt_stream.specs.declared.stream.StreamItem.{StreamItem}
-use Rattle.jt_stream.specs.declared.stream.StreamItem.TheVariants as answer
+use Rattle.jt_escape.specs.Splitter.{told_in}
+use Rattle.jt_escape.specs.declared.splitter.Split.{Split}
+use Rattle.jt_stream.specs.Item.{Item, Items, AreItemsOf, all_items}
 use Rattle.jt_stream.specs.Stream.{Held}
 use Rattle.jt_cli.specs.declared.command.Report.{Report}
 use Rattle.jt_cli.specs.declared.command.Report.TheVariants.{View, Check}
-use Rattle.jt_cli.specs.declared.entry.Entry.{Entry}
-use Rattle.jt_cli.specs.declared.entry.Entry.TheVariants.{Frame, Refused}
+use Rattle.jt_cli.specs.Entry.{Entry, Frame, Refused, line_of, lines, entry_of, entries_of, frames, refusals, first_refusal}
 use Rattle.jt_cli.specs.declared.judged.Judged.{Judged}
 use Rattle.jt_cli.specs.declared.judged.Judged.TheVariants as judgement
 use Rattle.jt_cli.specs.declared.closing.Closing.{Closing}
 use Rattle.jt_cli.specs.declared.status.Status.{Status}
 use Rattle.jt_text.specs.Refusals.{refusal_line}
 use Rattle.jt_cli.specs.Report.{printed, report_text, closed_entries}
-use Rattle.jt_cli.specs.Entry.{lines, entry_of, entries_of, frames, refusals, first_refusal}
 
 -- a stream's reader, and how many frames and refusals it told
 pub record Tally : Type 0 where
@@ -52,11 +48,29 @@ judged None = judgement.Nothing
 judged (Some (Frame place header message body_len)) = judgement.Frame
 judged (Some (Refused refusal)) = judgement.Refused refusal
 
--- the entry of what a stream tells, if it tells something
-abbrev pub entry_told : StreamItem → State → Option Entry
-entry_told answer.More state = None
-entry_told answer.Frame state = Some (entry_of (item.Frame state.opened (header_at state.content) (body_at state.content)))
-entry_told (answer.Refused refusal) state = Some (Refused refusal)
+-- what a splitter answers to these octets is this entry or none
+pub record IsTold (answer : Split) (state : State) (taken : List ℕ) (entry : Option Entry) : Type 0 where
+  pub items : List Item
+  pub each : AreItemsOf (told_in answer state taken) items
+  pub entry_is : option_to_list entry ≡ map entry_of items
+
+-- it is this, as far as a check asks
+pub record JudgesTold (answer : Split) (state : State) (taken : List ℕ) (judgement : Judged) : Type 0 where
+  pub entry : Option Entry
+  pub told : IsTold answer state taken entry
+  pub judgement_is : judgement ≡ judged entry
+
+-- it is this, and its line was printed
+pub record ViewsTold (answer : Split) (state : State) (taken : List ℕ) (judgement : Judged) (text text_now : List ℕ) : Type 0 where
+  pub entry : Option Entry
+  pub told : IsTold answer state taken entry
+  pub judgement_is : judgement ≡ judged entry
+  pub text_is : text_now ≡ text ++ lines (option_to_list entry)
+
+-- the line of the entry was printed, which is this, as far as a check asks
+pub record ViewsEntry (entry : Entry) (judgement : Judged) (text text_now : List ℕ) : Type 0 where
+  pub judgement_is : judgement ≡ judged (Some entry)
+  pub text_is : text_now ≡ text ++ line_of entry
 
 -- these octets were taken behind others, and the line of the entry that they brought was printed
 pub record Views (old new : Tally) (octets text text_now : List ℕ) : Type 0 where

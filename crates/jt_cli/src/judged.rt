@@ -1,6 +1,17 @@
 //! What a check asks of an entry.
 
-use jt_value::Refusal;
+ghost use Rattle.std.specs.Prelude.{◌≡◌, ◌<◌, ◌≤◌, ◌^◌, Some, length, IfOk};
+ghost use Rattle.jt_escape.specs.Splitter.{lent};
+ghost use Rattle.jt_stream.specs.Item.{Frame, placed};
+ghost use Rattle.jt_cli.specs.Entry.{entry_of};
+ghost use Rattle.jt_cli.specs.Reporting.{JudgesTold, judged};
+
+use jt_codec::judge_message;
+use jt_escape::Split;
+use jt_header::Header;
+use jt_stream::Stream;
+use jt_value::{Memory, Refusal};
+use std::alloc::Global;
 
 /// Whether an entry is a refusal.
 #[derive(Clone, Copy, Debug, PartialEq, Eq)]
@@ -10,4 +21,62 @@ pub enum Judged {
     /// It is a frame.
     Frame,
     Refused(Refusal),
+}
+
+/// What is refused in the content of the frame that opens at this place.
+pub fn placed(place: u64, refusal: Refusal) -> Refusal
+    ensures { result ≡ placed place refusal }
+{
+    Refusal {
+        at: place,
+        inside: refusal.inside,
+        why: refusal.why,
+    }
+}
+
+// Whether the body behind this header is refused, in the frame that opens at this place.
+#[inline(always)]
+fn judge_body(
+    alloc: Global,
+    place: u64,
+    header: &Header,
+    body: &[u8],
+) -> Result<Judged, Memory>
+    requires { length body.now < 2 ^ 10 }
+    ensures { IfOk result (λ judgement. judgement ≡ judged (Some (entry_of (Frame place header.now body.now)))) }
+{
+    match judge_message(alloc, header, body)? {
+        None => Ok(Judged::Frame),
+        Some(refusal) => Ok(Judged::Refused(placed(place, refusal))),
+    }
+}
+
+// Whether the frame that the stream just took is refused.
+#[inline(always)]
+fn judge_frame(alloc: Global, stream: &Stream, taken: &[u8]) -> Result<Judged, Memory>
+    requires { length (lent stream.now.splitter taken.now) ≤ 1045 }
+    ensures { IfOk result (JudgesTold Split.Content stream.now.splitter taken.now) }
+{
+    match stream.frame_in(taken) {
+        Ok((place, header, body)) => judge_body(alloc, place, &header, body),
+        Err(refusal) => Ok(Judged::Refused(refusal)),
+    }
+}
+
+/// Whether what the stream just took is refused: `taken` are the octets, and `split` is the answer.
+#[inline(always)]
+pub fn judge_told(
+    alloc: Global,
+    stream: &Stream,
+    taken: &[u8],
+    split: Split,
+) -> Result<Judged, Memory>
+    requires { split ≡ Split.Content → length (lent stream.now.splitter taken.now) ≤ 1045 }
+    ensures { IfOk result (JudgesTold split stream.now.splitter taken.now) }
+{
+    match split {
+        Split::Content => judge_frame(alloc, stream, taken),
+        Split::Refused(refusal) => Ok(Judged::Refused(refusal)),
+        Split::More => Ok(Judged::Nothing),
+    }
 }

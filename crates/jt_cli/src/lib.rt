@@ -3,7 +3,6 @@
 
 mod closing;
 mod command;
-mod entry;
 mod hex_laws;
 mod hex_reader;
 mod judged;
@@ -15,10 +14,10 @@ mod status;
 mod tally;
 mod telling;
 mod top;
+mod viewing;
 
 pub use closing::Closing;
 pub use command::{Command, Encoding, Report, Task};
-pub use entry::Entry;
 pub use hex_laws::{law_octets_of_front, law_wrong_stays};
 pub use jt_text::{refusal_line, view_line};
 pub use playing::play;

@@ -1,46 +1,18 @@
 //! What is printed of a stream, as it comes.
 
-ghost use Rattle.std.specs.Prelude.{◌≡◌, ◌≢◌, ◌⊎◌, ◌<◌, ◌≤◌, ◌+◌, ◌^◌, ◌++◌, ◌==◌, if◌then◌else◌, length, take, string_bytes, IfOk, OnOk, option_to_list};
+ghost use Rattle.std.specs.Prelude.{◌≡◌, ◌≢◌, ◌⊎◌, ◌<◌, ◌≤◌, ◌+◌, ◌^◌, ◌++◌, ◌==◌, if◌then◌else◌, length, string_bytes, IfOk, OnOk};
 ghost use Rattle.jt_cli.specs.Entry.{lines, end_entries, refusals};
-ghost use Rattle.jt_cli.specs.Reporting.{Views, Tells, TellsOn, Closes};
+ghost use Rattle.jt_cli.specs.Reporting.{Tells, TellsOn, Closes};
 
 use crate::closing::Closing;
 use crate::command::Report;
-use crate::entry::Entry;
 use crate::lines::{push_counts_line, push_hex_refused_line, push_ok_line, push_too_long_line};
 use crate::status::Status;
 use crate::tally::Tally;
 use jt_stream::law_all_items;
-use jt_text::push_refusal_line;
+use jt_text::{Line, push_refusal_line};
 use jt_value::{Memory, Refusal};
 use std::alloc::{AllocError, Global};
-
-fn push_entry(text: &mut String, entry: &Option<Entry>) -> Result<(), AllocError>
-    ensures { OnOk result (string_bytes text.new ≡ string_bytes text.old ++ lines (option_to_list entry.now)) }
-{
-    match entry {
-        Some(entry) => entry.push_line(text),
-        None => Ok(()),
-    }
-}
-
-// Takes octets up to the first that brings an entry, or all, and puts the entry's line. The answer is how many were taken.
-fn view_next(
-    alloc: Global,
-    tally: &mut Tally,
-    piece: &[u8],
-    text: &mut String,
-) -> Result<usize, Memory>
-    requires some { 0 < length piece.now }
-    requires place { tally.old.stream.splitter.place + length piece.now < 2 ^ 63 }
-    ensures some { IfOk result (λ count. (0 < count) × (count ≤ length piece.now)) }
-    ensures place { IfOk result (λ count. tally.new.stream.splitter.place ≡ tally.old.stream.splitter.place + count) }
-    ensures views { IfOk result (λ count. Views tally.old tally.new (take count piece.now) (string_bytes text.old) (string_bytes text.new)) }
-{
-    let (count, entry) = tally.next(alloc, piece)?;
-    push_entry(text, &entry)?;
-    Ok(count)
-}
 
 // Puts the lines of all entries that the octets bring.
 fn view(alloc: Global, tally: &mut Tally, octets: &[u8], text: &mut String) -> Result<(), Memory>
@@ -48,9 +20,10 @@ fn view(alloc: Global, tally: &mut Tally, octets: &[u8], text: &mut String) -> R
     ensures place { OnOk result (tally.new.stream.splitter.place ≡ tally.old.stream.splitter.place + length octets.now) }
     ensures tells { OnOk result (TellsOn Report.View tally.old tally.new octets.now (string_bytes text.old) (string_bytes text.new)) }
 {
+    let mut line = Line::new();
     let mut at = 0;
     while at < octets.len() {
-        at += view_next(alloc, tally, &octets[at..], text)?;
+        at += tally.view(alloc, &octets[at..], &mut line, text)?;
     }
     Ok(())
 }

@@ -17,6 +17,7 @@ use jt_position::view_position;
 use jt_value::{CodecError, Edition, Memory, Refusal};
 use std::alloc::Global;
 
+#[inline(always)]
 fn judge_empty(octets: &[u8]) -> Result<Option<Refusal>, Memory>
     ensures { IfOk result (Judges empty octets.now) }
 {
@@ -27,6 +28,7 @@ fn judge_empty(octets: &[u8]) -> Result<Option<Refusal>, Memory>
     }
 }
 
+#[inline(always)]
 fn judge_position(octets: &[u8]) -> Option<Refusal>
     ensures { Judges position octets.now result }
 {
@@ -52,6 +54,7 @@ fn judge_read(
 }
 
 // Judges a body by the row of its id. The most frequent ones are judged in place.
+#[inline(always)]
 fn judge_row(
     alloc: Global,
     edition: Edition,
@@ -68,6 +71,7 @@ fn judge_row(
 }
 
 // Judges a body that begins at this place of its content. A packet is not read.
+#[inline(always)]
 fn judge_at(
     alloc: Global,
     header: &Header,
@@ -91,6 +95,7 @@ fn judge_at(
 /// The first reason against the body behind this header, of at most 1,023 octets, with its offset in the content and `at`
 /// 0, or None where `read_message` has a message of it. No message is made, and for heartbeats and positions no memory is
 /// taken.
+#[inline(always)]
 pub fn judge_message(alloc: Global, header: &Header, body: &[u8]) -> Result<Option<Refusal>, Memory>
     requires { length body.now < 2 ^ 10 }
     ensures { IfOk result (λ refusal. refusal

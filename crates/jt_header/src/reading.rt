@@ -35,6 +35,7 @@ fn refusal(inside: usize, why: Why) -> Refusal
     }
 }
 
+#[inline(always)]
 fn word(content: &[u8], place: usize) -> u16
     requires { place + 1 < length content.now }
     ensures { result ≡ word_at place content.now }
@@ -43,6 +44,7 @@ fn word(content: &[u8], place: usize) -> u16
 }
 
 // The attributes of a content that has room for its header and its check octet.
+#[inline(always)]
 #[tactic(auto, unfolding(crate::specs::Reason::too_short))]
 fn attributes(content: &[u8]) -> Result<Attributes, Refusal>
     requires { length content.now ≤ 1045 }
@@ -61,6 +63,7 @@ fn attributes(content: &[u8]) -> Result<Attributes, Refusal>
     Ok(attributes)
 }
 
+#[inline(always)]
 #[tactic(auto, unfolding(crate::specs::Reason::check_mismatch))]
 fn check_octet(content: &[u8]) -> Result<(), Refusal>
     requires some { 0 < length content.now }
@@ -77,6 +80,7 @@ fn check_octet(content: &[u8]) -> Result<(), Refusal>
 }
 
 // Whether the attributes are those of a message that is read, with a body of this length.
+#[inline(always)]
 #[tactic(auto, unfolding(crate::specs::Reason::other_edition, crate::specs::Reason::encrypted, crate::specs::Reason::length_mismatch))]
 fn attributes_hold(attributes: Attributes, actual: u16) -> Result<(), Refusal>
     ensures rows { Rejects result (first_of
@@ -96,6 +100,7 @@ fn attributes_hold(attributes: Attributes, actual: u16) -> Result<(), Refusal>
     Ok(())
 }
 
+#[inline(always)]
 #[tactic(auto, unfolding(crate::specs::Reason::phone_digit))]
 fn phone(field: &[u8]) -> Result<Phone, Refusal>
     requires { length field.now ≡ 6 }
@@ -107,6 +112,7 @@ fn phone(field: &[u8]) -> Result<Phone, Refusal>
     Phone::from_octets(Edition::E2013, field).map_err(at_digit)
 }
 
+#[inline(always)]
 #[tactic(auto, unfolding(crate::specs::Reason::bad_packet_number, crate::specs::Fields::packet_at))]
 fn packet(content: &[u8], attributes: Attributes) -> Result<Option<Packet>, Refusal>
     requires attributes { attributes.0 ≡ attributes_at content.now }
@@ -127,6 +133,7 @@ fn packet(content: &[u8], attributes: Attributes) -> Result<Option<Packet>, Refu
 }
 
 // What `read_header` answers, in the terms of the table of reasons.
+#[inline(always)]
 #[tactic(auto, unfolding(crate::specs::Reason::reason, crate::specs::Fields::header_in))]
 fn read(content: &[u8]) -> Result<(Header, &[u8]), Refusal>
     requires { length content.now ≤ 1045 }
@@ -156,6 +163,7 @@ fn read(content: &[u8]) -> Result<(Header, &[u8]), Refusal>
 /// none. The reasons, of which the first counts, are this project's own: TooShort, CheckMismatch, OtherEdition where
 /// attribute bit 14 is set, Encrypted, LengthMismatch, PhoneDigit, BadPacketNumber. `inside` is the offset in the content,
 /// and `at` is 0.
+#[inline(always)]
 pub fn read_header(content: &[u8]) -> Result<(Header, &[u8]), Refusal>
     requires { length content.now ≤ 1045 }
     // What is read is what the octets are.

@@ -49,6 +49,7 @@ impl Fixed {
         octets_fit(&time, 6)
     }
 
+    #[inline(always)]
     #[tactic(auto, unfolding(crate::specs::Positions::fixed))]
     pub(crate) fn read(reader: &mut Reader<'_>) -> Result<Fixed, Refusal>
         ensures value { Finds (λ read. (read, reader.new.place)) result (fixed.read reader.old.octets reader.old.place) }

@@ -34,6 +34,7 @@ impl<'a> Items<'a> {
     ghost use Rattle.jt_position.specs.Positions.{item};
 
     // All items from the reader's place up to the end, or the first reason against one.
+    #[inline(always)]
     fn of(reader: &Reader<'a>) -> Result<Items<'a>, Refusal>
         ensures { Finds (λ items. items) result ((to_the_end item).read reader.now.octets reader.now.place) }
     {
@@ -57,6 +58,7 @@ impl<'a> Iterator for Items<'a> {
 
     ghost remaining = { item_count (λ left. left) };
 
+    #[inline(always)]
     fn next(&mut self) -> Option<ItemView<'a>> {
         if self.reader.is_at_end() {
             return None;
@@ -72,6 +74,7 @@ pub struct PositionView<'a> {
     pub items: Items<'a>,
 }
 
+#[inline(always)]
 #[tactic(auto, unfolding(crate::specs::Positions::position))]
 fn view_in(octets: &[u8]) -> Result<PositionView<'_>, Refusal>
     ensures { Finds (λ view. record { fixed = view.fixed; items = view.items }) result (position.read octets.now 0) }
@@ -84,6 +87,7 @@ fn view_in(octets: &[u8]) -> Result<PositionView<'_>, Refusal>
 
 /// Reads a position report's body in place: the fixed fields and the items that `read_position` gives, raw values being the
 /// slices of the octets where they stand. An error is Truncated at the first field that passes the end.
+#[inline(always)]
 pub fn view_position(octets: &[u8]) -> Result<PositionView<'_>, Refusal>
     ensures position { MatchResult result
         (λ view. Fills position octets.now 0 (record { fixed = view.fixed; items = view.items }))

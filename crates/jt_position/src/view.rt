@@ -42,6 +42,7 @@ pub enum ItemView<'a> {
     },
 }
 
+#[inline(always)]
 fn word_of(octets: &[u8]) -> u16
     requires { length octets.now ≡ 2 }
     ensures { result ≡ from_be_bytes w16 octets.now }
@@ -49,6 +50,7 @@ fn word_of(octets: &[u8]) -> u16
     u16::from_be_bytes([octets[0], octets[1]])
 }
 
+#[inline(always)]
 fn dword_of(octets: &[u8]) -> u32
     requires { length octets.now ≡ 4 }
     ensures { result ≡ from_be_bytes w32 octets.now }
@@ -61,6 +63,7 @@ impl<'a> ItemView<'a> {
     ghost use Rattle.jt_position.specs.Views.{owned};
 
     // The item of an id and its value, by the table.
+    #[inline(always)]
     #[tactic(auto, unfolding(crate::specs::Items::typed, crate::specs::Views::owned))]
     pub(crate) fn of(id: u8, value: &'a [u8]) -> ItemView<'a>
         ensures { owned result ≡ typed (id, value.now) }
@@ -97,6 +100,7 @@ impl<'a> ItemView<'a> {
         }
     }
 
+    #[inline(always)]
     #[tactic(auto, unfolding(crate::specs::Positions::item))]
     pub(crate) fn read(reader: &mut Reader<'a>) -> Result<ItemView<'a>, Refusal>
         ensures value { Finds (λ view. (owned view, reader.new.place)) result (item.read reader.old.octets reader.old.place) }

@@ -2,8 +2,7 @@ use Rattle.std.proofs.Common.{◌≡◌, ◌-◌, Option, Some, length, take, dr
 use Rattle.std.proofs.lemmas.Grind.{common_steps}
 use Rattle.jt_cli.proofs.EntriesTold.{checking_none, checking_more, checking_done, checking_last, only_entry}
 use Rattle.jt_cli.specs.Reporting.{Brings}
-use Rattle.jt_cli.specs.declared.entry.Entry.{Entry}
-use Rattle.jt_cli.specs.declared.entry.Entry.TheVariants.{Refused}
+use Rattle.jt_cli.specs.Entry.{Entry, Refused}
 use Rattle.jt_cli.proofs.telling.check.Goals as goal
 
 pub loop-at-init : goal.loop-at-init
