@@ -12,4 +12,3 @@ pub mod StepsTaken
 pub mod Told
 mod ScriptRuns
 mod TaskWords
-mod Told
