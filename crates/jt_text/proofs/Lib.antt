@@ -1,3 +1,4 @@
 pub mod HexPieces
-pub mod TimeLaws
+pub mod Lines
 pub mod NamedValues
+pub mod TimeLaws

@@ -30,7 +30,7 @@ utf8_number name n text fits = IsUtf8-append name (decimal n) text (IsUtf8-from_
 pub short_number : (n : ℕ) → n < 2 ^ 64 → length (decimal n) ≤ 20
 short_number n fits = length-decimal-le 20 n (omega arith) (omega (arith, fits)) fits
 
-passed : (start at : ℕ) (xs : List ℕ) → start + (at - start) ≡ at → drop (at - start) (drop start xs) ≡ drop at xs
+pub passed : (start at : ℕ) (xs : List ℕ) → start + (at - start) ≡ at → drop (at - start) (drop start xs) ≡ drop at xs
 passed start at xs total = drop-drop (at - start) start xs ∙ ap (λ (k : ℕ). drop k xs) total
 
 -- the room before a number

@@ -1,22 +1,28 @@
 //! The lines of frames.
 
-ghost use Rattle.std.specs.Prelude.{◌≡◌, ◌++◌, string_bytes, IfOk, OnOk};
+ghost use Rattle.std.specs.Prelude.{◌≡◌, ◌+◌, ◌≤◌, true, [], ◌++◌, length, string_bytes, codes, IfOk, OnOk};
+ghost use Rattle.std.specs.Fmt.{decimal};
+ghost use Rattle.hex.specs.Hex.{encode_lower};
+ghost use Rattle.jt_value.specs.Phone.{field_of};
+ghost use Rattle.jt_codec.specs.declared.message.Message.TheVariants as message;
+ghost use Rattle.jt_text.specs.Fields.{fields_of};
 ghost use Rattle.jt_text.specs.Frames.{bit15_text, frame_start, header_fields, packet_text, version_text, view_line, year};
 ghost use Rattle.jt_text.specs.Names.{deletion_name, id_name, name_of};
 
-use crate::fields::push_fields;
-use crate::values::{push_digits, push_number};
+use crate::fields::{push_fields, push_item_views, put_fixed};
+use crate::line::Line;
 use jt_codec::Message;
 use jt_header::{Header, Packet};
+use jt_position::PositionView;
 use jt_regions::RegionKind;
-use jt_value::{Edition, Memory, Octets};
+use jt_value::{Edition, Memory, Octets, Phone};
 use std::alloc::{AllocError, Global};
-use std::fmt::Write;
 
 // The name of a message id of 2013.
 #[tactic(auto, unfolding(crate::specs::Names::id_name))]
 fn id_name(id: u16) -> &'static str
-    ensures { result.now ≡ id_name id }
+    ensures name { result.now ≡ id_name id }
+    ensures short { length result.now ≤ 17 }
 {
     match id {
         0x0001 => "terminal-ack",
@@ -50,7 +56,8 @@ fn id_name(id: u16) -> &'static str
 }
 
 fn deletion_name(kind: RegionKind) -> &'static str
-    ensures { result.now ≡ deletion_name kind }
+    ensures name { result.now ≡ deletion_name kind }
+    ensures short { length result.now ≤ 17 }
 {
     match kind {
         RegionKind::Circle => "delete-circles",
@@ -61,7 +68,8 @@ fn deletion_name(kind: RegionKind) -> &'static str
 }
 
 fn name(header: &Header, message: &Message) -> &'static str
-    ensures { result.now ≡ name_of header.now message.now }
+    ensures name { result.now ≡ name_of header.now message.now }
+    ensures short { length result.now ≤ 17 }
 {
     match message {
         Message::TerminalAck { .. } => "terminal-ack",
@@ -93,7 +101,8 @@ fn name(header: &Header, message: &Message) -> &'static str
 }
 
 fn year(edition: Edition) -> &'static str
-    ensures { result.now ≡ year edition }
+    ensures text { result.now ≡ year edition }
+    ensures short { length result.now ≤ 4 }
 {
     match edition {
         Edition::E2013 => "2013",
@@ -102,56 +111,187 @@ fn year(edition: Edition) -> &'static str
 }
 
 fn bit15_text(bit15: bool) -> &'static str
-    ensures { result.now ≡ bit15_text bit15 }
+    ensures text { result.now ≡ bit15_text bit15 }
+    ensures short { length result.now ≤ 6 }
 {
     if bit15 { " bit15" } else { "" }
 }
 
-fn push_version(text: &mut String, header: &Header) -> Result<(), AllocError>
-    ensures { OnOk result (string_bytes text.new ≡ string_bytes text.old ++ version_text header.now.edition header.now.version) }
+#[tactic(auto, using(std::proofs::Common::append_assoc))]
+fn put_version(line: &mut Line, header: &Header)
+    requires { length line.old ≤ 400 }
+    ensures text { line.new ≡ version_text header.now.edition header.now.version ++ line.old }
+    ensures room { length line.new ≤ length line.old + 29 }
 {
     match header.edition {
-        Edition::E2013 => Ok(()),
-        Edition::E2019 => push_number(text, " version=", header.version as u64),
+        Edition::E2013 => {}
+        Edition::E2019 => line.put_named_number(" version=", header.version as u64),
     }
 }
 
-fn push_packet(text: &mut String, packet: Option<Packet>) -> Result<(), AllocError>
-    ensures { OnOk result (string_bytes text.new ≡ string_bytes text.old ++ packet_text packet) }
+#[tactic(auto, using(std::proofs::Common::append_assoc))]
+fn put_packet(line: &mut Line, packet: Option<Packet>)
+    requires { length line.old ≤ 400 }
+    ensures text { line.new ≡ packet_text packet ++ line.old }
+    ensures room { length line.new ≤ length line.old + 49 }
 {
     match packet {
-        None => Ok(()),
-        Some(Packet { total, number }) => write!(text, " packet={number}/{total}"),
+        None => {}
+        Some(Packet { total, number }) => {
+            line.put_named_number("/", total as u64);
+            line.put_named_number(" packet=", number as u64);
+        }
     }
 }
 
-#[tactic(auto, using(std::proofs::Common::append_assoc), unfolding(crate::specs::Frames::frame_start))]
-fn push_frame_start(
-    text: &mut String,
-    place: u64,
-    header: &Header,
-    name: &str,
-) -> Result<(), AllocError>
-    ensures { OnOk result (string_bytes text.new ≡ string_bytes text.old ++ frame_start place header.now name.now) }
+fn put_phone(line: &mut Line, phone: &Phone)
+    requires { length line.old ≤ 400 }
+    ensures text { line.new ≡ codes " phone=" ++ (encode_lower (field_of phone.now.edition phone.now.digits) ++ line.old) }
+    ensures room { length line.new ≤ length line.old + 27 }
 {
-    push_number(text, "", place)?;
-    text.push_str(" ")?;
-    text.push_str(year(header.edition))?;
-    push_digits(text, " 0x", header.id.to_be_bytes().as_slice())?;
-    text.push_str(" ")?;
-    text.push_str(name)
+    match phone.edition {
+        Edition::E2013 => line.put_named_digits(" phone=", &phone.digits[4..]),
+        Edition::E2019 => line.put_named_digits(" phone=", &phone.digits),
+    }
+}
+
+// What stands behind the serial.
+fn put_header_end(line: &mut Line, header: &Header, body_len: u16)
+    requires { length line.old ≤ 230 }
+    ensures text { line.new ≡ version_text header.now.edition header.now.version
+        ++ (bit15_text header.now.bit15 ++ (packet_text header.now.packet ++ (codes " body=" ++ (decimal body_len ++ line.old)))) }
+    ensures room { length line.new ≤ length line.old + 110 }
+{
+    line.put_named_number(" body=", body_len as u64);
+    put_packet(line, header.packet);
+    line.put_str(bit15_text(header.bit15));
+    put_version(line, header);
 }
 
 #[tactic(auto, using(std::proofs::Common::append_assoc), unfolding(crate::specs::Frames::header_fields))]
-fn push_header_fields(text: &mut String, header: &Header, body_len: u16) -> Result<(), AllocError>
-    ensures { OnOk result (string_bytes text.new ≡ string_bytes text.old ++ header_fields header.now body_len) }
+fn put_header_fields(line: &mut Line, header: &Header, body_len: u16)
+    requires { length line.old ≤ 230 }
+    ensures text { line.new ≡ header_fields header.now body_len ++ line.old }
+    ensures room { length line.new ≤ length line.old + 165 }
 {
-    push_digits(text, " phone=", header.phone.octets().as_slice())?;
-    push_number(text, " serial=", header.serial as u64)?;
-    push_version(text, header)?;
-    text.push_str(bit15_text(header.bit15))?;
-    push_packet(text, header.packet)?;
-    push_number(text, " body=", body_len as u64)
+    put_header_end(line, header, body_len);
+    line.put_named_number(" serial=", header.serial as u64);
+    put_phone(line, &header.phone);
+}
+
+#[tactic(auto, using(std::proofs::Common::append_assoc), unfolding(crate::specs::Frames::frame_start))]
+fn put_frame_start(line: &mut Line, place: u64, header: &Header, name: &str)
+    requires line { length line.old ≤ 400 }
+    requires name { length name.now ≤ 17 }
+    ensures text { line.new ≡ frame_start place header.now name.now ++ line.old }
+    ensures room { length line.new ≤ length line.old + 54 }
+{
+    line.put_str(name);
+    line.put_str(" ");
+    line.put_named_digits(" 0x", header.id.to_be_bytes().as_slice());
+    line.put_str(year(header.edition));
+    line.put_str(" ");
+    line.put_number(place);
+}
+
+// What stands before the fields.
+fn put_front(line: &mut Line, place: u64, header: &Header, name: &str, body_len: u16)
+    requires line { length line.old ≤ 230 }
+    requires name { length name.now ≤ 17 }
+    ensures text { line.new ≡ frame_start place header.now name.now ++ (header_fields header.now body_len ++ line.old) }
+    ensures room { length line.new ≤ length line.old + 219 }
+{
+    put_header_fields(line, header, body_len);
+    put_frame_start(line, place, header, name);
+}
+
+/// Puts the line of a frame whose body is a position, read in place, at the end of a text, `place` being that of its opening
+/// flag and `body_len` the octets of its body. `line` is room that is used again.
+#[tactic(auto, using(std::proofs::Common::append_assoc), unfolding(crate::specs::Frames::view_line, crate::specs::PositionFields::position_fields))]
+pub fn push_position_line(
+    text: &mut String,
+    line: &mut Line,
+    place: u64,
+    header: &Header,
+    view: PositionView<'_>,
+    body_len: u16,
+) -> Result<(), AllocError>
+    ensures { OnOk result (string_bytes text.new ≡ string_bytes text.old
+        ++ view_line place header.now (message.Position (record { fixed = view.entry.fixed; items = view.entry.items })) body_len) }
+{
+    line.clear();
+    put_fixed(line, &view.fixed);
+    put_front(line, place, header, "position", body_len);
+    line.push_to(text)?;
+    push_item_views(text, line, view.items)?;
+    text.push_str("\n")?;
+    Ok(())
+}
+
+// Whether a message has no fields.
+fn is_bare(message: &Message) -> bool
+    ensures { result ≡ true → fields_of message.now ≡ [] }
+{
+    match message {
+        Message::Heartbeat | Message::Deregister | Message::QueryParams | Message::QueryPosition =>
+            true,
+        _ => false,
+    }
+}
+
+// The line of a message with no fields, with one push.
+#[tactic(auto, using(std::proofs::Common::append_assoc), unfolding(crate::specs::Frames::view_line))]
+fn push_bare_line(
+    text: &mut String,
+    line: &mut Line,
+    place: u64,
+    header: &Header,
+    message: &Message,
+    body_len: u16,
+) -> Result<(), AllocError>
+    requires { fields_of message.now ≡ [] }
+    ensures { OnOk result (string_bytes text.new ≡ string_bytes text.old ++ view_line place header.now message.now body_len) }
+{
+    line.clear();
+    line.put_str("\n");
+    put_front(line, place, header, name(header, message), body_len);
+    line.push_to(text)
+}
+
+#[tactic(auto, using(std::proofs::Common::append_assoc), unfolding(crate::specs::Frames::view_line))]
+fn push_full_line(
+    text: &mut String,
+    line: &mut Line,
+    place: u64,
+    header: &Header,
+    message: &Message,
+    body_len: u16,
+) -> Result<(), AllocError>
+    ensures { OnOk result (string_bytes text.new ≡ string_bytes text.old ++ view_line place header.now message.now body_len) }
+{
+    line.clear();
+    put_front(line, place, header, name(header, message), body_len);
+    line.push_to(text)?;
+    push_fields(text, line, message)?;
+    text.push_str("\n")?;
+    Ok(())
+}
+
+/// Puts the line of a frame at the end of a text, as `push_view_line`. `line` is room that is used again.
+pub fn push_message_line(
+    text: &mut String,
+    line: &mut Line,
+    place: u64,
+    header: &Header,
+    message: &Message,
+    body_len: u16,
+) -> Result<(), AllocError>
+    ensures { OnOk result (string_bytes text.new ≡ string_bytes text.old ++ view_line place header.now message.now body_len) }
+{
+    if is_bare(message) {
+        return push_bare_line(text, line, place, header, message, body_len);
+    }
+    push_full_line(text, line, place, header, message, body_len)
 }
 
 /// Puts the line of a frame at the end of a text, `place` being that of its opening flag and `body_len` the octets of its
@@ -165,11 +305,7 @@ pub fn push_view_line(
 ) -> Result<(), AllocError>
     ensures { OnOk result (string_bytes text.new ≡ string_bytes text.old ++ view_line place header.now message.now body_len) }
 {
-    push_frame_start(text, place, header, name(header, message))?;
-    push_header_fields(text, header, body_len)?;
-    push_fields(text, message)?;
-    text.push_str("\n")?;
-    Ok(())
+    push_message_line(text, &mut Line::new(), place, header, message, body_len)
 }
 
 /// The line of a frame, as a text of its own.

@@ -4,11 +4,14 @@
 mod fields;
 mod frame;
 mod laws;
+mod line;
 mod refusal;
+mod times;
 mod values;
 
-pub use frame::{push_view_line, view_line};
+pub use frame::{push_message_line, push_position_line, push_view_line, view_line};
 pub use laws::law_of_times;
+pub use line::Line;
 pub use refusal::{push_refusal_line, refusal_line};
 
 #[cfg(test)]

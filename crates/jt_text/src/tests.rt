@@ -1,6 +1,7 @@
 use super::*;
 use jt_codec::{Message, read_body};
 use jt_header::{Header, Packet};
+use jt_position::view_position;
 use jt_register::{Auth, AuthTail};
 use jt_value::{Edition, Octets, Phone, Refusal, Why};
 use std::alloc::Global;
@@ -294,5 +295,30 @@ fn refusals(rt: HostRuntime) -> Result<(), Fail> {
         let line = refusal_line(alloc, &refusal)?;
         assert_eq!(rt; line.as_slice(), written.as_bytes());
     }
+    Ok(())
+}
+
+// A position read in place and a message without fields, one after the other in one room.
+#[test]
+fn lines_in_one_room(rt: HostRuntime) -> Result<(), Fail> {
+    let alloc = rt.alloc();
+    let mut line = Line::new();
+    let mut text = String::new(alloc);
+    let body =
+        b"\0\0\0\0\0\0\0\x03\x01\x31\x2d\0\x06\xbc\x3e\x40\0\0\0\0\0\0\0\0\0\0\0\0\x01\x03\0\0\x0a";
+    let view = view_position(body).expect(&rt, "a position");
+    push_position_line(&mut text, &mut line, 0, &header(0x0200, None), view, 33)?;
+    push_message_line(
+        &mut text,
+        &mut line,
+        48,
+        &header(0x0002, None),
+        &Message::Heartbeat,
+        0,
+    )?;
+    assert_eq!(rt;
+        text.as_str(),
+        "0 2013 0x0200 position phone=013912345678 serial=3 body=33 alarm=0x00000000 status=0x00000003 lat=20000000 lon=113000000 altitude=0 speed=0 direction=0 time=- item=0x01:00000a\n48 2013 0x0002 heartbeat phone=013912345678 serial=3 body=0\n"
+    );
     Ok(())
 }

@@ -20,7 +20,7 @@ const ROOM: usize = NAME + 2 * PIECE;
 
 // Octets that are a text, which is proved and not tested at run time.
 #[inline(always)]
-fn push_text(text: &mut String, octets: &[u8]) -> Result<(), AllocError>
+pub(crate) fn push_text(text: &mut String, octets: &[u8]) -> Result<(), AllocError>
     requires { IsUtf8 octets.now }
     ensures { OnOk result (string_bytes text.new ≡ string_bytes text.old ++ octets.now) }
 {

@@ -10,12 +10,14 @@ ghost use Rattle.std.specs.Prelude.{◌≡◌, ◌++◌, string_bytes, OnOk};
 ghost use Rattle.jt_text.specs.Fields.{ack_fields, fields_of};
 ghost use Rattle.jt_codec.specs.declared.message.Message.TheVariants as message;
 
+use crate::line::Line;
 use crate::values::{push_digits, push_number, push_octets};
 use jt_codec::Message;
 use jt_params::Param;
 use jt_position::Position;
 use orders::{push_control, push_text, push_track};
 use params::{push_params, push_query_some};
+pub(crate) use position::{push_item_views, put_fixed};
 use position::{push_batch, push_position};
 use regions::{push_circles, push_deletion, push_polygon, push_rectangles, push_route};
 use registration::{push_auth, push_register, push_register_reply};
@@ -31,11 +33,16 @@ fn push_ack(text: &mut String, reply: u16, id: u16, answer: u8) -> Result<(), Al
 }
 
 #[tactic(auto, using(std::proofs::Common::append_assoc))]
-fn push_position_reply(text: &mut String, reply: u16, position: &Position) -> Result<(), AllocError>
+fn push_position_reply(
+    text: &mut String,
+    line: &mut Line,
+    reply: u16,
+    position: &Position,
+) -> Result<(), AllocError>
     ensures { OnOk result (string_bytes text.new ≡ string_bytes text.old ++ fields_of (message.PositionReply reply position.now)) }
 {
     push_number(text, " reply=", reply as u64)?;
-    push_position(text, position)
+    push_position(text, line, position)
 }
 
 #[tactic(auto, using(std::proofs::Common::append_assoc))]
@@ -46,8 +53,13 @@ fn push_params_reply(text: &mut String, reply: u16, params: &[Param]) -> Result<
     push_params(text, params)
 }
 
-/// Puts the fields of a message at the end of a text, in the order of its layout, each behind a blank.
-pub(crate) fn push_fields(text: &mut String, message: &Message) -> Result<(), AllocError>
+/// Puts the fields of a message at the end of a text, in the order of its layout, each behind a blank. `line` is room that is
+/// used again.
+pub(crate) fn push_fields(
+    text: &mut String,
+    line: &mut Line,
+    message: &Message,
+) -> Result<(), AllocError>
     ensures { OnOk result (string_bytes text.new ≡ string_bytes text.old ++ fields_of message.now) }
 {
     match message {
@@ -62,10 +74,12 @@ pub(crate) fn push_fields(text: &mut String, message: &Message) -> Result<(), Al
         Message::SetParams(params) => push_params(text, params.as_slice()),
         Message::QuerySome(ids) => push_query_some(text, ids.as_slice()),
         Message::Params { reply, params } => push_params_reply(text, *reply, params.as_slice()),
-        Message::Position(position) => push_position(text, position),
-        Message::PositionReply { reply, position } => push_position_reply(text, *reply, position),
+        Message::Position(position) => push_position(text, line, position),
+        Message::PositionReply { reply, position } => push_position_reply(
+            text, line, *reply, position,
+        ),
         Message::Track { interval, validity } => push_track(text, *interval, *validity),
-        Message::Batch(batch) => push_batch(text, batch),
+        Message::Batch(batch) => push_batch(text, line, batch),
         Message::Text {
             flag,
             kind,

@@ -1,7 +1,8 @@
 use Rattle.std.proofs.Common.{append_assoc}
+use Rattle.std.proofs.lemmas.List.{append-nil}
 use Rattle.jt_text.specs.PositionFields.{item_text}
 use Rattle.jt_text.proofs.fields.position.push_travel.Goals as goal
 
 pub returns : goal.returns
 unfolding item_text
-returns c = rw (c.in_ok-push_number-3.ensures, c.in_ok-push_number-2.ensures, c.in_ok-push_number.ensures) (simp append_assoc)
+returns c = rw (c.in_ok-push_to.ensures, c.put_named_number-3.ensures.text, c.put_named_number-2.ensures.text, c.put_named_number.ensures.text, c.clear.ensures) (simp (append_assoc, append-nil))
