@@ -45,6 +45,27 @@ fn agree(bulk: &mut Splitter, plain: &mut Splitter, piece: &[u8]) -> bool
     same && bulk.finish() == plain.finish()
 }
 
+// The same of octets that are taken in place, and of the content that is left in the piece.
+fn agree_in_place(lending: &mut Splitter, plain: &mut Splitter, piece: &[u8]) -> bool
+    requires lending { lending.old.place + length piece.now < 2 ^ 63 }
+    requires plain { plain.old.place + length piece.now < 2 ^ 63 }
+    ensures lending { lending.new.place ≡ lending.old.place + length piece.now }
+    ensures plain { plain.new.place ≡ plain.old.place + length piece.now }
+{
+    let mut same = true;
+    let mut at = 0;
+    while at < piece.len() {
+        let (taken, split) = lending.take_in_place(&piece[at..]);
+        let octets = &piece[at..at + taken];
+        let pushed = brings(plain, octets, &[(taken - 1, split)]);
+        let content = lending.content_in(octets) == plain.content()
+            && lending.opened() == plain.opened();
+        same = same && pushed && (content || split != Split::Content);
+        at += taken;
+    }
+    same && lending.finish() == plain.finish()
+}
+
 #[test]
 fn pieces(rt: HostRuntime) {
     let mut long = [0x55; 2200];
@@ -73,6 +94,10 @@ fn pieces(rt: HostRuntime) {
             let mut plain = Splitter::new();
             assert!(rt; agree(&mut bulk, &mut plain, &stream[..cut]));
             assert!(rt; agree(&mut bulk, &mut plain, &stream[cut..]));
+            let mut lending = Splitter::new();
+            let mut plain = Splitter::new();
+            assert!(rt; agree_in_place(&mut lending, &mut plain, &stream[..cut]));
+            assert!(rt; agree_in_place(&mut lending, &mut plain, &stream[cut..]));
         }
     }
 }
@@ -107,6 +132,35 @@ fn contents(rt: HostRuntime) {
         [0x30, 0x7E, 0x08, 0x7D, 0x55].as_slice()
     );
     assert_eq!(rt; splitter.opened(), 15);
+}
+
+#[test]
+fn in_place(rt: HostRuntime) {
+    let mut splitter = Splitter::new();
+    let escaped = [0x7E, 0x30, 0x7D, 0x02, 0x08, 0x7D, 0x01, 0x55, 0x7E];
+    assert_eq!(rt; splitter.take_in_place(&escaped), (9, Split::Content));
+    assert_eq!(rt;
+        splitter.content_in(&escaped),
+        [0x30, 0x7E, 0x08, 0x7D, 0x55].as_slice()
+    );
+    assert_eq!(rt; splitter.take_in_place(&HEARTBEAT), (15, Split::Content));
+    assert_eq!(rt; splitter.content_in(&HEARTBEAT), &HEARTBEAT[1..14]);
+    assert_eq!(rt; splitter.content().len(), 0);
+    assert_eq!(rt; splitter.opened(), 9);
+
+    let mut frame = [0x55; 1048];
+    frame[0] = 0x7E;
+    frame[1047] = 0x7E;
+    let long = Split::Refused(refusal(Why::TooLong, 1070));
+    assert_eq!(rt; splitter.take_in_place(&frame), (1047, long));
+    assert_eq!(rt; splitter.take_in_place(&frame[1047..]), (1, Split::More));
+    frame[1046] = 0x7E;
+    assert_eq!(rt; splitter.take_in_place(&frame), (1047, Split::Content));
+    assert_eq!(rt;
+        splitter.content_in(&frame[..1047]),
+        [0x55; 1045].as_slice()
+    );
+    assert_eq!(rt; splitter.opened(), 1072);
 }
 
 #[test]
