@@ -183,14 +183,16 @@ fn refusals(rt: HostRuntime) {
     assert!(rt; brings(&mut splitter, &HEARTBEAT, &[(14, Split::Content)]));
     assert_eq!(rt; splitter.opened(), 2);
 
-    for (octets, place) in [
-        ([0x7E, 0x00, 0x02, 0x7D, 0x03, 0x7E], 4),
-        ([0x7E, 0x7D, 0x7D, 0x01, 0x02, 0x7E], 2),
-        ([0x7E, 0x00, 0x02, 0x00, 0x7D, 0x7E], 5),
-    ] {
+    let rows: [(&[u8], u64); 3] = [
+        (b"\x7E\x00\x02\x7D\x03\x7E", 4),
+        (b"\x7E\x7D\x7D\x01\x02\x7E", 2),
+        (b"\x7E\x00\x02\x00\x7D\x7E", 5),
+    ];
+    for (octets, place) in rows {
+        assert!(rt; octets.len() <= 6);
         let mut splitter = Splitter::new();
-        let bad = Split::Refused(refusal(Why::BadEscape, place as u64));
-        assert!(rt; brings(&mut splitter, &octets, &[(place, bad)]));
+        let bad = Split::Refused(refusal(Why::BadEscape, place));
+        assert!(rt; brings(&mut splitter, octets, &[(place as usize, bad)]));
         assert_eq!(rt; splitter.finish(), None);
         assert!(rt; brings(&mut splitter, &HEARTBEAT, &[(14, Split::Content)]));
     }
