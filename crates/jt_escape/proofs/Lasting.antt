@@ -11,7 +11,7 @@ use Rattle.jt_escape.proofs.Scanning.{at}
 -- ---- one octet
 
 after_at : (mode : Mode) (kept : List ℕ) (place opened octet : ℕ) → IsLike (after (at mode kept place opened) octet) (after (lasting (at mode kept place opened)) octet)
-unfolding after
+unfolding after lasting
 after_at modes.Outside kept place opened octet = elim (cases_Bool (eqb octet 0x7E)) [ inl e ↦ rw e refl | inr e ↦ rw e refl ]
 after_at modes.Straying kept place opened octet = elim (cases_Bool (eqb octet 0x7E)) [ inl e ↦ rw e refl | inr e ↦ rw e refl ]
 after_at modes.Inside kept place opened octet = refl
@@ -22,7 +22,7 @@ lasting-after : (state : State) (octet : ℕ) → IsLike (after state octet) (af
 lasting-after state octet = after_at state.mode state.content state.place state.opened octet
 
 events_at : (mode : Mode) (kept : List ℕ) (place opened octet : ℕ) → events_of (at mode kept place opened) octet ≡ events_of (lasting (at mode kept place opened)) octet
-unfolding events_of
+unfolding events_of lasting
 events_at modes.Outside kept place opened octet = refl
 events_at modes.Straying kept place opened octet = refl
 events_at modes.Inside kept place opened octet = refl
@@ -53,6 +53,7 @@ scan_like (octet ∷ octets) a b like =
 -- ---- the end
 
 end_at : (mode : Mode) (kept : List ℕ) (place opened : ℕ) → end_in mode place ≡ end_in (lasting (at mode kept place opened)).mode (lasting (at mode kept place opened)).place
+unfolding lasting
 end_at modes.Outside kept place opened = refl
 end_at modes.Straying kept place opened = refl
 end_at modes.Inside kept place opened = refl

@@ -8,7 +8,7 @@ use Rattle.jt_escape.specs.declared.splitter.Mode.TheVariants as modes
 use Rattle.jt_escape.specs.declared.splitter.Split.{Split}
 use Rattle.jt_escape.specs.declared.splitter.Split.TheVariants as split
 use Rattle.jt_escape.specs.Span.{Event, Whole, IsContent}
-use Rattle.jt_escape.specs.Scan.{State, after, events_of, opening, keeping_all, lending, IsPlain, IsLike, Runs}
+use Rattle.jt_escape.specs.Scan.{State, after, events_of, opening, keeping_all, lending, lasting, IsPlain, IsLike, Runs}
 use Rattle.jt_escape.specs.Splitter.{told, told_in, lent}
 use Rattle.jt_escape.proofs.Scanning.{at}
 use Rattle.jt_escape.proofs.Runs.{Runs-one, Runs-then, Runs-like, keeps_all_plain, opens_frame}
@@ -33,7 +33,7 @@ is_kept state taken some short = subst IsContent (sym (lent_kept state taken som
 -- a flag after a content closes the frame
 closes : (content : List ℕ) (place opened q : ℕ) → 0 < length content → q ≡ place + 1
     → IsLike (at modes.Outside [] q opened) (after (at modes.Inside content place opened) 0x7E) × (Whole opened content ∷ [] ≡ events_of (at modes.Inside content place opened) 0x7E)
-unfolding after events_of
+unfolding after events_of lasting
 closes content place opened q some e =
     let more : eqb (length content) 0 ≡ false = ne_eqb _ _ (λ e. omega (arith, e)) in (
       rw (more, e) refl,

@@ -118,7 +118,7 @@ lasting_in Escaping state = record state { mode = Escaping }
 lasting_in Skipping state = record { mode = Skipping; content = []; place = state.place; opened = 0 }
 
 -- What later octets see of a state: outside a frame neither the last content nor its opening flag.
-abbrev pub lasting : State → State
+unfoldable pub lasting : State → State
 lasting state = lasting_in state.mode state
 
 -- Later octets see the same of both: the mode, the place and, where a frame is open, its content and its opening flag.

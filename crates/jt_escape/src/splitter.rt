@@ -437,8 +437,9 @@ impl Splitter {
         requires mode { self.old.mode ≡ Outside }
         ensures { self.new ≡ lending self.old count }
     {
-        self.opened = self.place;
-        self.place += count as u64 + 2;
+        let place = self.place;
+        self.opened = place;
+        self.place = place + count as u64 + 2;
         if !self.content.is_empty() {
             self.content.clear();
         }

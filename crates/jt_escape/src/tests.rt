@@ -45,6 +45,27 @@ fn agree(bulk: &mut Splitter, plain: &mut Splitter, piece: &[u8]) -> bool
     same && bulk.finish() == plain.finish()
 }
 
+// The same of octets that are taken in place, and of the content that is left in the piece.
+fn agree_in_place(lending: &mut Splitter, plain: &mut Splitter, piece: &[u8]) -> bool
+    requires lending { lending.old.place + length piece.now < 2 ^ 63 }
+    requires plain { plain.old.place + length piece.now < 2 ^ 63 }
+    ensures lending { lending.new.place ≡ lending.old.place + length piece.now }
+    ensures plain { plain.new.place ≡ plain.old.place + length piece.now }
+{
+    let mut same = true;
+    let mut at = 0;
+    while at < piece.len() {
+        let (taken, split) = lending.take_in_place(&piece[at..]);
+        let octets = &piece[at..at + taken];
+        let pushed = brings(plain, octets, &[(taken - 1, split)]);
+        let content = lending.content_in(octets) == plain.content()
+            && lending.opened() == plain.opened();
+        same = same && pushed && (content || split != Split::Content);
+        at += taken;
+    }
+    same && lending.finish() == plain.finish()
+}
+
 #[test]
 fn pieces(rt: HostRuntime) {
     let mut long = [0x55; 2200];
@@ -73,6 +94,10 @@ fn pieces(rt: HostRuntime) {
             let mut plain = Splitter::new();
             assert!(rt; agree(&mut bulk, &mut plain, &stream[..cut]));
             assert!(rt; agree(&mut bulk, &mut plain, &stream[cut..]));
+            let mut lending = Splitter::new();
+            let mut plain = Splitter::new();
+            assert!(rt; agree_in_place(&mut lending, &mut plain, &stream[..cut]));
+            assert!(rt; agree_in_place(&mut lending, &mut plain, &stream[cut..]));
         }
     }
 }
@@ -110,6 +135,35 @@ fn contents(rt: HostRuntime) {
 }
 
 #[test]
+fn in_place(rt: HostRuntime) {
+    let mut splitter = Splitter::new();
+    let escaped = [0x7E, 0x30, 0x7D, 0x02, 0x08, 0x7D, 0x01, 0x55, 0x7E];
+    assert_eq!(rt; splitter.take_in_place(&escaped), (9, Split::Content));
+    assert_eq!(rt;
+        splitter.content_in(&escaped),
+        [0x30, 0x7E, 0x08, 0x7D, 0x55].as_slice()
+    );
+    assert_eq!(rt; splitter.take_in_place(&HEARTBEAT), (15, Split::Content));
+    assert_eq!(rt; splitter.content_in(&HEARTBEAT), &HEARTBEAT[1..14]);
+    assert_eq!(rt; splitter.content().len(), 0);
+    assert_eq!(rt; splitter.opened(), 9);
+
+    let mut frame = [0x55; 1048];
+    frame[0] = 0x7E;
+    frame[1047] = 0x7E;
+    let long = Split::Refused(refusal(Why::TooLong, 1070));
+    assert_eq!(rt; splitter.take_in_place(&frame), (1047, long));
+    assert_eq!(rt; splitter.take_in_place(&frame[1047..]), (1, Split::More));
+    frame[1046] = 0x7E;
+    assert_eq!(rt; splitter.take_in_place(&frame), (1047, Split::Content));
+    assert_eq!(rt;
+        splitter.content_in(&frame[..1047]),
+        [0x55; 1045].as_slice()
+    );
+    assert_eq!(rt; splitter.opened(), 1072);
+}
+
+#[test]
 fn refusals(rt: HostRuntime) {
     let mut splitter = Splitter::new();
     let empty = Split::Refused(refusal(Why::EmptyFrame, 0));
@@ -129,14 +183,16 @@ fn refusals(rt: HostRuntime) {
     assert!(rt; brings(&mut splitter, &HEARTBEAT, &[(14, Split::Content)]));
     assert_eq!(rt; splitter.opened(), 2);
 
-    for (octets, place) in [
-        ([0x7E, 0x00, 0x02, 0x7D, 0x03, 0x7E], 4),
-        ([0x7E, 0x7D, 0x7D, 0x01, 0x02, 0x7E], 2),
-        ([0x7E, 0x00, 0x02, 0x00, 0x7D, 0x7E], 5),
-    ] {
+    let rows: [(&[u8], u64); 3] = [
+        (b"\x7E\x00\x02\x7D\x03\x7E", 4),
+        (b"\x7E\x7D\x7D\x01\x02\x7E", 2),
+        (b"\x7E\x00\x02\x00\x7D\x7E", 5),
+    ];
+    for (octets, place) in rows {
+        assert!(rt; octets.len() <= 6);
         let mut splitter = Splitter::new();
-        let bad = Split::Refused(refusal(Why::BadEscape, place as u64));
-        assert!(rt; brings(&mut splitter, &octets, &[(place, bad)]));
+        let bad = Split::Refused(refusal(Why::BadEscape, place));
+        assert!(rt; brings(&mut splitter, octets, &[(place as usize, bad)]));
         assert_eq!(rt; splitter.finish(), None);
         assert!(rt; brings(&mut splitter, &HEARTBEAT, &[(14, Split::Content)]));
     }

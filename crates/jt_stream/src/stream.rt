@@ -7,7 +7,7 @@ ghost use Rattle.jt_escape.specs.Span.{Ends, Whole};
 ghost use Rattle.jt_escape.specs.Splitter.{StandsFor, lent, told_in};
 ghost use Rattle.jt_header.specs.Content.{Content};
 ghost use Rattle.jt_header.specs.Reason.{Reads};
-ghost use Rattle.jt_stream.specs.Item.{Item, Frame, Refused, AreItemsOf};
+ghost use Rattle.jt_stream.specs.Item.{Item, Frame, Refused, placed, AreItemsOf};
 ghost use Rattle.jt_stream.specs.Message.{IsMessage, completed};
 ghost use Rattle.jt_stream.specs.Stream.{Gains, IsSilent, told};
 
@@ -58,6 +58,17 @@ impl Model for Stream {
         ForSome stream.message (λ message. IsMessage message.header message.start stream.splitter.content) };
 }
 
+// A refusal of a content, in the frame that opens at this place.
+fn in_frame(opened: u64, refusal: Refusal) -> Refusal
+    ensures { result ≡ placed opened refusal }
+{
+    Refusal {
+        at: opened,
+        inside: refusal.inside,
+        why: refusal.why,
+    }
+}
+
 // Judges the content that was just completed.
 fn judge(splitter: &Splitter) -> Result<Message, Refusal>
     ensures items { AreItemsOf (Whole splitter.now.opened splitter.now.content ∷ [])
@@ -70,11 +81,7 @@ fn judge(splitter: &Splitter) -> Result<Message, Refusal>
             header,
             start: content.len() - 1 - body.len(),
         }),
-        Err(refusal) => Err(Refusal {
-            at: splitter.opened(),
-            inside: refusal.inside,
-            why: refusal.why,
-        }),
+        Err(refusal) => Err(in_frame(splitter.opened(), refusal)),
     }
 }
 
@@ -190,14 +197,10 @@ impl Stream {
         ensures message { IfOk result (λ frame. Content frame.1 frame.2.now (lent self.now.splitter taken.now)) }
         ensures fields { IfOk result (λ frame. Reads (lent self.now.splitter taken.now) frame.1 frame.2.now) }
     {
-        let at = self.splitter.opened();
+        let opened = self.splitter.opened();
         match read_header(self.splitter.content_in(taken)) {
-            Ok((header, body)) => Ok((at, header, body)),
-            Err(refusal) => Err(Refusal {
-                at,
-                inside: refusal.inside,
-                why: refusal.why,
-            }),
+            Ok((header, body)) => Ok((opened, header, body)),
+            Err(refusal) => Err(in_frame(opened, refusal)),
         }
     }
 

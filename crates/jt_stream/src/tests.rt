@@ -2,7 +2,7 @@ ghost use Rattle.std.specs.Prelude.{◌<◌, ◌≤◌, ◌+◌, ◌^◌, length
 
 use super::*;
 use arrayvec::ArrayVec;
-use jt_escape::{check, escape_into};
+use jt_escape::{Split, check, escape_into};
 use jt_header::{Header, Packet, write_header};
 use jt_value::{Edition, Phone, Refusal, Why};
 use std::test::Fail;
@@ -43,6 +43,52 @@ fn brings(stream: &mut Stream, piece: &[u8], answers: &[(usize, StreamItem)]) ->
         rest = &rest[taken..];
     }
     all && rest.is_empty()
+}
+
+// Whether this piece ends a frame, which is this or is refused so.
+fn gives(stream: &mut Stream, piece: &[u8], wanted: Result<(u64, Header, &[u8]), Refusal>) -> bool
+    requires { stream.old.splitter.place + length piece.now < 2 ^ 63 }
+    ensures { stream.new.splitter.place ≤ stream.old.splitter.place + length piece.now }
+{
+    let (taken, split) = stream.take_in_place(piece);
+    match split {
+        Split::Content => taken == piece.len() && stream.frame_in(&piece[..taken]) == wanted,
+        Split::More | Split::Refused(_) => false,
+    }
+}
+
+#[test]
+fn in_place(rt: HostRuntime) {
+    let none: &[u8] = &[];
+    let heartbeat = header(0x0002, 0, None);
+    let mut stream = Stream::new();
+    assert!(rt; gives(&mut stream, &HEARTBEAT, Ok((0, heartbeat, none))));
+    assert_eq!(rt; stream.frame(), None);
+
+    let mut wrong = HEARTBEAT;
+    wrong[13] = 0x33;
+    let refusal = Refusal {
+        at: 15,
+        inside: 12,
+        why: Why::CheckMismatch {
+            computed: 0x32,
+            found: 0x33,
+        },
+    };
+    assert!(rt; gives(&mut stream, &wrong, Err(refusal)));
+
+    let escaped = b"\x7E\x0F\x01\x00\x01\x01\x39\x12\x34\x56\x78\x00\x00\x7D\x02\x41\x7E";
+    let body: &[u8] = &[0x7E];
+    assert!(rt;
+        gives(
+            &mut stream,
+            escaped,
+            Ok((30, header(0x0F01, 0, None), body))
+        )
+    );
+
+    assert_eq!(rt; stream.take_in_place(&HEARTBEAT[..5]), (5, Split::More));
+    assert!(rt; gives(&mut stream, &HEARTBEAT[5..], Ok((47, heartbeat, none))));
 }
 
 #[test]
