@@ -8,18 +8,16 @@ use Rattle.jt_codec.proofs.viewing.view_of_heartbeat.Goals as goal
 pub in_content-requires : goal.in_content-requires
 in_content-requires c =
     let h = c.args.header.now in
-    let refusal = c.in-Err-Refused.refusal in
-    omega (arith, judged_inside h.edition h.id c.args.body.now refusal (heartbeat_refused h.edition h.id c.args.body.now refusal c.requires.id (rw c.in-Err-Refused.field-0-is at c.in-Err-Refused.ensures)))
+    omega (arith, judged_inside h.edition h.id c.args.body.now c.in-Err.refusal (heartbeat_refused h.edition h.id c.args.body.now c.in-Err.refusal c.requires.id c.in-Err.ensures))
 
 pub returns-in-Ok : goal.returns-in-Ok
 returns-in-Ok c =
     let h = c.args.header.now in
     heartbeat_read h.packet h.edition h.id c.args.body.now (sym c.requires.whole) c.requires.id c.in-Ok.ensures
 
-pub returns-in-Err-Refused : goal.returns-in-Err-Refused
-returns-in-Err-Refused c =
+pub returns-in-Err : goal.returns-in-Err
+returns-in-Err c =
     let h = c.args.header.now in
-    let refusal = c.in-Err-Refused.refusal in
-    refused_at h.packet h.edition h.id c.args.start c.args.body.now refusal (sym c.requires.whole) (λ _. c.requires.start)
-    (heartbeat_refused h.edition h.id c.args.body.now refusal c.requires.id (rw c.in-Err-Refused.field-0-is at c.in-Err-Refused.ensures))
+    refused_at h.packet h.edition h.id c.start_of_body.result c.args.body.now c.in-Err.refusal (sym c.requires.whole) (λ _. c.start_of_body.ensures.value)
+    (heartbeat_refused h.edition h.id c.args.body.now c.in-Err.refusal c.requires.id c.in-Err.ensures)
     ∙ ap (λ (r : Refusal). Err r) (sym c.in_content.ensures)

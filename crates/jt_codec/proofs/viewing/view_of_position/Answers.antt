@@ -18,6 +18,6 @@ returns-in-Ok c =
 pub returns-in-Err : goal.returns-in-Err
 returns-in-Err c =
     let h = c.args.header.now in
-    refused_at h.packet h.edition h.id c.args.start c.args.body.now c.in-Err.refusal (sym c.requires.whole) (λ _. c.requires.start)
+    refused_at h.packet h.edition h.id c.start_of_body.result c.args.body.now c.in-Err.refusal (sym c.requires.whole) (λ _. c.start_of_body.ensures.value)
     (position_refused h.edition h.id c.args.body.now c.in-Err.refusal c.requires.id c.in-Err.ensures.position)
     ∙ ap (λ (r : Refusal). Err r) (sym c.in_content.ensures)
