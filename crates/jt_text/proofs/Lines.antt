@@ -1,16 +1,15 @@
 -- A text that is put together from its end, in one room.
-use Rattle.std.proofs.Common.{◌≡◌, ℕ, ◌+◌, ◌-◌, ◌*◌, ◌^◌, ◌<◌, ◌≤◌, length, take, drop, set, List, [], ◌∷◌, ◌++◌, refl, sym, ap, subst, ◌∙◌, arith, length-append, length-take-le, length-drop, length-set, slice_index, take_all, zero, suc, Bool, true, IsTrue, inl, inr, eqb, eq-zero-or-pos}
+use Rattle.std.proofs.Common.{◌≡◌, ℕ, ◌+◌, ◌-◌, ◌*◌, ◌^◌, ◌<◌, ◌≤◌, length, take, drop, set, List, [], ◌∷◌, ◌++◌, refl, sym, ap, subst, ◌∙◌, arith, length-take-le, length-drop, length-set, slice_index, take_all, zero, suc, Bool, true, IsTrue, inl, inr, eqb, eq-zero-or-pos}
 use Rattle.std.specs.Prelude.{◌/◌, ◌%◌, ◌&&◌}
 use Rattle.std.proofs.lemmas.Bool.{and_parts, eqb-true}
 use Rattle.std.specs.Str.{IsUtf8}
 use Rattle.std.specs.Fmt.{decimal}
 use Rattle.std.proofs.Math.ListN.{drop_of_length-le}
 use Rattle.std.proofs.Math.Seq.{drop-append_seam, drop-length}
-use Rattle.std.proofs.lemmas.Fmt.{IsAscii-decimal, length-decimal-le}
+use Rattle.std.proofs.lemmas.Fmt.{IsAscii-decimal}
 use Rattle.std.proofs.lemmas.List.{set_comm, drop-set, drop_more}
 use Rattle.std.proofs.lemmas.Str.{IsUtf8-nil, IsUtf8-append, IsUtf8-from_ascii, IsUtf8-had}
 use Rattle.hex.specs.Hex.{encode_lower, encode_with, lower_digits}
-use Rattle.jt_text.proofs.HexPieces.{utf8_digits}
 use Rattle.jt_text.specs.declared.line.TheConstants.{PAIRS}
 use Rattle.jt_text.proofs.NamedValues.{passed}
 use borrow.Rule.Slice.PartMut.{put_mid, post_of}

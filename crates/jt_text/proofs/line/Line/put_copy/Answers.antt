@@ -1,4 +1,4 @@
-use Rattle.std.proofs.Common.{◌≡◌, ◌++◌, List, ℕ, drop, arith}
+use Rattle.std.proofs.Common.{◌≡◌, drop, arith}
 use Rattle.jt_text.proofs.Lines.{put_in_front, utf8_in_front, room_before}
 use Rattle.jt_text.proofs.line.Line.put_copy.Goals as goal
 

@@ -1,4 +1,4 @@
-use Rattle.std.proofs.Common.{◌≡◌, ◌++◌, List, ℕ, drop, arith}
+use Rattle.std.proofs.Common.{◌≡◌, ◌++◌, drop, arith}
 use Rattle.jt_text.proofs.Lines.{utf8_in_front}
 use Rattle.jt_text.proofs.line.Line.put_str.Goals as goal
 
