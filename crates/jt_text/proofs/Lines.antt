@@ -1,15 +1,16 @@
 -- A text that is put together from its end, in one room.
-use Rattle.std.proofs.Common.{◌≡◌, ℕ, ◌+◌, ◌-◌, ◌*◌, ◌^◌, ◌<◌, ◌≤◌, length, take, drop, set, List, [], ◌∷◌, ◌++◌, refl, sym, ap, subst, ◌∙◌, arith, length-append, length-take-le, length-drop, length-set, slice_index, take_all}
-use Rattle.std.specs.Prelude.{◌/◌, ◌%◌}
+use Rattle.std.proofs.Common.{◌≡◌, ℕ, ◌+◌, ◌-◌, ◌*◌, ◌^◌, ◌<◌, ◌≤◌, length, take, drop, set, List, [], ◌∷◌, ◌++◌, refl, sym, ap, subst, ◌∙◌, arith, length-take-le, length-drop, length-set, slice_index, take_all, zero, suc, Bool, true, IsTrue, inl, inr, eqb, eq-zero-or-pos}
+use Rattle.std.specs.Prelude.{◌/◌, ◌%◌, ◌&&◌}
+use Rattle.std.proofs.lemmas.Bool.{and_parts, eqb-true}
 use Rattle.std.specs.Str.{IsUtf8}
 use Rattle.std.specs.Fmt.{decimal}
 use Rattle.std.proofs.Math.ListN.{drop_of_length-le}
 use Rattle.std.proofs.Math.Seq.{drop-append_seam, drop-length}
-use Rattle.std.proofs.lemmas.Fmt.{IsAscii-decimal, length-decimal-le}
+use Rattle.std.proofs.lemmas.Fmt.{IsAscii-decimal}
 use Rattle.std.proofs.lemmas.List.{set_comm, drop-set, drop_more}
 use Rattle.std.proofs.lemmas.Str.{IsUtf8-nil, IsUtf8-append, IsUtf8-from_ascii, IsUtf8-had}
 use Rattle.hex.specs.Hex.{encode_lower, encode_with, lower_digits}
-use Rattle.jt_text.proofs.HexPieces.{utf8_digits}
+use Rattle.jt_text.specs.declared.line.TheConstants.{PAIRS}
 use Rattle.jt_text.proofs.NamedValues.{passed}
 use borrow.Rule.Slice.PartMut.{put_mid, post_of}
 
@@ -50,6 +51,40 @@ pub octet_in_front : (octets : List ℕ) (start octet : ℕ) → 2 ≤ start →
     → drop (start - 2) (set (set octets (start - 2) (slice_index lower_digits (octet / 16))) (start - 2 + 1) (slice_index lower_digits (octet % 16))) ≡ encode_lower (octet ∷ []) ++ drop start octets
 unfolding encode_with
 octet_in_front octets start octet two within = two_in_front octets (start - 2) start (slice_index lower_digits (octet / 16)) (slice_index lower_digits (octet % 16)) (omega arith) within
+
+-- the table has the digits of the first octets
+abbrev is_pair : ℕ → Bool
+is_pair octet = eqb (slice_index PAIRS (octet * 2)) (slice_index lower_digits (octet / 16)) && eqb (slice_index PAIRS (octet * 2 + 1)) (slice_index lower_digits (octet % 16))
+
+abbrev are_pairs : ℕ → Bool
+are_pairs zero = true
+are_pairs (suc n) = is_pair n && are_pairs n
+
+below : (n octet : ℕ) → IsTrue (are_pairs n) → octet < n → (slice_index PAIRS (octet * 2) ≡ slice_index lower_digits (octet / 16)) × (slice_index PAIRS (octet * 2 + 1) ≡ slice_index lower_digits (octet % 16))
+below zero octet t h = absurd (omega arith)
+below (suc n) octet t h =
+    let parts : IsTrue (is_pair n) × IsTrue (are_pairs n) = and_parts (is_pair n) (are_pairs n) t in
+    elim (eq-zero-or-pos (n - octet)) [
+      | inl z ↦ let e : octet ≡ n = omega arith in let two = and_parts _ _ parts.0 in rw e (eqb-true _ _ two.0, eqb-true _ _ two.1)
+      | inr g ↦ below n octet parts.1 (omega arith)
+    ]
+
+pub pair_at : (octet : ℕ) → octet < 256 → (slice_index PAIRS (octet * 2) ≡ slice_index lower_digits (octet / 16)) × (slice_index PAIRS (octet * 2 + 1) ≡ slice_index lower_digits (octet % 16))
+pair_at octet h = below 256 octet refl h
+
+-- no octets are written yet
+pub none_written : (text behind : List ℕ) → behind ≡ drop (length text) text ++ behind
+none_written text behind = rw (drop-length text) refl
+
+-- the octet before those that are written
+pub one_written : (text room behind : List ℕ) (at left : ℕ) → 0 < at → at ≤ length room → 0 < left → left ≤ length text → drop at room ≡ drop left text ++ behind
+    → drop (at - 1) (set room (at - 1) (slice_index text (left - 1))) ≡ drop (left - 1) text ++ behind
+one_written text room behind at left some within more short so_far =
+    let octet : ℕ = slice_index text (left - 1) in
+    let back : at - 1 + 1 ≡ at = omega arith in
+    let back_text : left - 1 + 1 ≡ left = omega arith in
+    let cut : drop (left - 1) text ≡ octet ∷ drop left text = drop_more text (left - 1) 0 (omega arith) ∙ ap (λ (k : ℕ). octet ∷ drop k text) back_text in
+    drop-set room (at - 1) octet (omega arith) ∙ ap (λ (k : ℕ). octet ∷ drop k room) back ∙ ap (λ (xs : List ℕ). octet ∷ xs) so_far ∙ sym (ap (λ (xs : List ℕ). xs ++ behind) cut)
 
 -- no octets are put yet
 pub no_digits : (octets old : List ℕ) → old ≡ encode_lower (drop (length octets) octets) ++ old

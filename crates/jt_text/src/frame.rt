@@ -110,11 +110,14 @@ fn year(edition: Edition) -> &'static str
     }
 }
 
-fn bit15_text(bit15: bool) -> &'static str
-    ensures text { result.now ≡ bit15_text bit15 }
-    ensures short { length result.now ≤ 6 }
+fn put_bit15(line: &mut Line, bit15: bool)
+    requires { length line.old ≤ 400 }
+    ensures text { line.new ≡ bit15_text bit15 ++ line.old }
+    ensures room { length line.new ≤ length line.old + 6 }
 {
-    if bit15 { " bit15" } else { "" }
+    if bit15 {
+        line.put_str(" bit15");
+    }
 }
 
 #[tactic(auto, using(std::proofs::Common::append_assoc))]
@@ -164,7 +167,7 @@ fn put_header_end(line: &mut Line, header: &Header, body_len: u16)
 {
     line.put_named_number(" body=", body_len as u64);
     put_packet(line, header.packet);
-    line.put_str(bit15_text(header.bit15));
+    put_bit15(line, header.bit15);
     put_version(line, header);
 }
 
@@ -180,21 +183,23 @@ fn put_header_fields(line: &mut Line, header: &Header, body_len: u16)
 }
 
 #[tactic(auto, using(std::proofs::Common::append_assoc), unfolding(crate::specs::Frames::frame_start))]
+#[inline(always)]
 fn put_frame_start(line: &mut Line, place: u64, header: &Header, name: &str)
     requires line { length line.old ≤ 400 }
     requires name { length name.now ≤ 17 }
     ensures text { line.new ≡ frame_start place header.now name.now ++ line.old }
     ensures room { length line.new ≤ length line.old + 54 }
 {
-    line.put_str(name);
+    line.put_copy(name);
     line.put_str(" ");
     line.put_named_digits(" 0x", header.id.to_be_bytes().as_slice());
-    line.put_str(year(header.edition));
+    line.put_copy(year(header.edition));
     line.put_str(" ");
     line.put_number(place);
 }
 
 // What stands before the fields.
+#[inline(always)]
 fn put_front(line: &mut Line, place: u64, header: &Header, name: &str, body_len: u16)
     requires line { length line.old ≤ 230 }
     requires name { length name.now ≤ 17 }

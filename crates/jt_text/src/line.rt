@@ -1,8 +1,8 @@
 //! Text that is put together from its end.
 
-ghost use Rattle.std.specs.Prelude.{◌≡◌, ◌+◌, ◌*◌, ◌≤◌, ◌++◌, [], ◌∷◌, length, string_bytes, OnOk};
+ghost use Rattle.std.specs.Prelude.{◌≡◌, ◌+◌, ◌*◌, ◌/◌, ◌%◌, ◌≤◌, ◌++◌, [], length, drop, slice_index, string_bytes, OnOk};
 ghost use Rattle.std.specs.Fmt.{decimal};
-ghost use Rattle.hex.specs.Hex.{encode_lower};
+ghost use Rattle.hex.specs.Hex.{encode_lower, lower_digits};
 ghost use Rattle.jt_text.specs.Values.{byte_digits};
 
 use crate::values::push_text;
@@ -13,7 +13,36 @@ use std::marker::Model;
 // Octets of the room. The front part of a line is shorter.
 const ROOM: usize = 512;
 
-static DIGITS: [u8; 16] = *b"0123456789abcdef";
+// The digits of every octet, two for each.
+static PAIRS: [u8; 512] =
+    *b"000102030405060708090a0b0c0d0e0f101112131415161718191a1b1c1d1e1f202122232425262728292a2b2c2d2e2f303132333435363738393a3b3c3d3e3f404142434445464748494a4b4c4d4e4f505152535455565758595a5b5c5d5e5f606162636465666768696a6b6c6d6e6f707172737475767778797a7b7c7d7e7f808182838485868788898a8b8c8d8e8f909192939495969798999a9b9c9d9e9fa0a1a2a3a4a5a6a7a8a9aaabacadaeafb0b1b2b3b4b5b6b7b8b9babbbcbdbebfc0c1c2c3c4c5c6c7c8c9cacbcccdcecfd0d1d2d3d4d5d6d7d8d9dadbdcdddedfe0e1e2e3e4e5e6e7e8e9eaebecedeeeff0f1f2f3f4f5f6f7f8f9fafbfcfdfeff";
+
+// The two digits of an octet.
+#[inline(always)]
+fn digits(octet: u8) -> (u8, u8)
+    ensures { (result.0 ≡ slice_index lower_digits (octet / 16)) × (result.1 ≡ slice_index lower_digits (octet % 16)) }
+{
+    let from = octet as usize * 2;
+    (PAIRS[from], PAIRS[from + 1])
+}
+
+// Writes a text, its last octet first, so that it ends at `end`, and returns where it starts. At a text that is known when the
+// program is built this comes to a few stores.
+#[inline(always)]
+fn write_octets(text: &[u8], room: &mut [u8], end: usize) -> usize
+    requires { (length text.now ≤ end) × (end ≤ length room.old) }
+    ensures start { result + length text.now ≡ end }
+    ensures written { drop result room.new ≡ text.now ++ drop end room.old }
+{
+    let mut at = end;
+    let mut left = text.len();
+    while left > 0 {
+        at -= 1;
+        left -= 1;
+        room[at] = text[left];
+    }
+    at
+}
 
 /// Text that is put together from its end, in a room of 512 octets, so that it is pushed to a text at once. In clauses it is
 /// the list of its octets.
@@ -53,9 +82,19 @@ impl Line {
         self.start = ROOM;
     }
 
-    // A text in front.
+    // A short text in front, one that the program has.
     #[inline(always)]
     pub(crate) fn put_str(&mut self, text: &str)
+        requires { length text.now + length self.old ≤ 512 }
+        ensures text { self.new ≡ text.now ++ self.old }
+        ensures room { length self.new ≡ length text.now + length self.old }
+    {
+        self.start = write_octets(text.as_bytes(), &mut self.octets, self.start);
+    }
+
+    // Any text in front.
+    #[inline(always)]
+    pub(crate) fn put_copy(&mut self, text: &str)
         requires { length text.now + length self.old ≤ 512 }
         ensures text { self.new ≡ text.now ++ self.old }
         ensures room { length self.new ≡ length text.now + length self.old }
@@ -84,8 +123,9 @@ impl Line {
         ensures room { length self.new ≡ length self.old + 2 }
     {
         let start = self.start - 2;
-        self.octets[start] = DIGITS[(octet / 16) as usize];
-        self.octets[start + 1] = DIGITS[(octet % 16) as usize];
+        let (high, low) = digits(octet);
+        self.octets[start] = high;
+        self.octets[start + 1] = low;
         self.start = start;
     }
 

@@ -7,6 +7,7 @@ ghost use Rattle.jt_position.specs.declared.item.Item.TheVariants as items;
 ghost use Rattle.jt_position.specs.Views.{owned};
 ghost use Rattle.jt_text.specs.PositionFields.{batch_fields, batch_item_text, item_text, motion_text, place_text, position_fields, region_text};
 ghost use Rattle.jt_text.specs.Times.{time_text};
+ghost use Rattle.jt_text.specs.Values.{byte_digits};
 
 use crate::line::Line;
 use crate::times::names_moment;
@@ -78,12 +79,13 @@ fn push_raw(text: &mut String, id: u8, value: &[u8]) -> Result<(), AllocError>
     push_octets(text, ":", value)
 }
 
-fn push_one(text: &mut String, line: &mut Line, name: &str, number: u64) -> Result<(), AllocError>
-    requires { length name.now ≤ 16 }
-    ensures { OnOk result (string_bytes text.new ≡ string_bytes text.old ++ (name.now ++ decimal number)) }
+// An item of one number.
+fn push_one(text: &mut String, line: &mut Line, id: u8, number: u64) -> Result<(), AllocError>
+    ensures { OnOk result (string_bytes text.new ≡ string_bytes text.old ++ (codes " item=0x" ++ (byte_digits id ++ (codes ":" ++ decimal number)))) }
 {
     line.clear();
-    line.put_named_number(name, number);
+    line.put_named_number(":", number);
+    line.put_named_octet(" item=0x", id);
     line.push_to(text)
 }
 
@@ -150,15 +152,15 @@ fn push_travel(
     Ok(())
 }
 
-#[tactic(auto, unfolding(crate::specs::PositionFields::item_text, jt_position::specs::Views::owned))]
+#[tactic(auto, unfolding(crate::specs::PositionFields::item_text, jt_position::specs::Views::owned, hex::specs::Hex::encode_with))]
 fn push_item(text: &mut String, line: &mut Line, item: &ItemView<'_>) -> Result<(), AllocError>
     ensures { OnOk result (string_bytes text.new ≡ string_bytes text.old ++ item_text (owned item.now)) }
 {
     match item {
-        ItemView::Mileage(distance) => push_one(text, line, " item=0x01:", *distance as u64),
-        ItemView::Fuel(volume) => push_one(text, line, " item=0x02:", *volume as u64),
-        ItemView::RecorderSpeed(speed) => push_one(text, line, " item=0x03:", *speed as u64),
-        ItemView::EventId(event) => push_one(text, line, " item=0x04:", *event as u64),
+        ItemView::Mileage(distance) => push_one(text, line, 0x01, *distance as u64),
+        ItemView::Fuel(volume) => push_one(text, line, 0x02, *volume as u64),
+        ItemView::RecorderSpeed(speed) => push_one(text, line, 0x03, *speed as u64),
+        ItemView::EventId(event) => push_one(text, line, 0x04, *event as u64),
         ItemView::Overspeed { kind, region } => push_overspeed(text, line, *kind, *region),
         ItemView::RegionAlarm {
             kind,
@@ -170,11 +172,11 @@ fn push_item(text: &mut String, line: &mut Line, item: &ItemView<'_>) -> Result<
             seconds,
             result,
         } => push_travel(text, line, *segment, *seconds, *result),
-        ItemView::Signals(signals) => push_one(text, line, " item=0x25:", *signals as u64),
-        ItemView::Io(states) => push_one(text, line, " item=0x2a:", *states as u64),
-        ItemView::Analogue(quantities) => push_one(text, line, " item=0x2b:", *quantities as u64),
-        ItemView::Signal(strength) => push_one(text, line, " item=0x30:", *strength as u64),
-        ItemView::Satellites(count) => push_one(text, line, " item=0x31:", *count as u64),
+        ItemView::Signals(signals) => push_one(text, line, 0x25, *signals as u64),
+        ItemView::Io(states) => push_one(text, line, 0x2A, *states as u64),
+        ItemView::Analogue(quantities) => push_one(text, line, 0x2B, *quantities as u64),
+        ItemView::Signal(strength) => push_one(text, line, 0x30, *strength as u64),
+        ItemView::Satellites(count) => push_one(text, line, 0x31, *count as u64),
         ItemView::Raw { id, value } => push_raw(text, *id, value),
     }
 }

@@ -1,4 +1,4 @@
-use Rattle.std.proofs.Common.{◌≡◌, List, ℕ, take, drop, refl, arith, length-drop, take_all}
+use Rattle.std.proofs.Common.{◌≡◌, take, drop, refl, arith, length-drop, take_all}
 use Rattle.jt_text.proofs.frame.put_phone.Goals as goal
 
 pub returns-in-E2013-clause-text : goal.returns-in-E2013-clause-text

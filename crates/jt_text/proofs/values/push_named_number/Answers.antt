@@ -1,4 +1,4 @@
-use Rattle.std.proofs.Common.{◌≡◌, List, ℕ, ◌++◌, sym, subst, refl, arith, length-take-le, length-drop, ◌∙◌}
+use Rattle.std.proofs.Common.{◌≡◌, List, ℕ, ◌++◌, sym, subst, refl, arith, ◌∙◌}
 use Rattle.std.specs.Prelude.{OnOk, string_bytes}
 use Rattle.std.specs.Str.{IsUtf8}
 use Rattle.jt_text.proofs.NamedValues.{number_behind, utf8_number, short_number, room_for}

@@ -1,4 +1,4 @@
-use Rattle.std.proofs.Common.{◌≡◌, List, ℕ, Bool, ◌++◌, true, append_assoc, sym, ◌∙◌}
+use Rattle.std.proofs.Common.{◌≡◌, List, ℕ, ◌++◌, true, append_assoc, sym, ◌∙◌}
 use Rattle.std.specs.Prelude.{codes}
 use Rattle.jt_text.specs.Times.{digits_at, names_moment, time_text}
 use Rattle.jt_text.proofs.fields.position.put_time.Goals as goal

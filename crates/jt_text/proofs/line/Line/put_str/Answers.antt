@@ -1,12 +1,9 @@
-use Rattle.std.proofs.Common.{◌≡◌, ◌++◌, List, ℕ, drop, arith}
-use Rattle.jt_text.proofs.Lines.{put_in_front, utf8_in_front, room_before}
+use Rattle.std.proofs.Common.{◌≡◌, ◌++◌, drop, arith}
+use Rattle.jt_text.proofs.Lines.{utf8_in_front}
 use Rattle.jt_text.proofs.line.Line.put_str.Goals as goal
 
 pub invariant_of-self : goal.invariant_of-self
 invariant_of-self c =
     let at = c.self.inside in
-    let room = room_before at.start at.octets c.args.self.now c.self.told c.self.invariant.0 c.self.view_is in
-    let same : c.copy_from_slice.new.self ≡ c.args.text.now = rw c.as_bytes.ensures.value at c.copy_from_slice.ensures.after in (
-      omega arith,
-      utf8_in_front c.args.text.now (drop at.start at.octets) _ (rw same (put_in_front at.octets c.args.text.now _ at.start (omega (arith, room)) (omega arith))) c.utf8.text c.self.invariant.1,
-    )
+    let put : drop c.write_octets-self-inside.result c.write_octets-self-inside.new.room ≡ c.args.text.now ++ drop at.start at.octets = rw c.as_bytes.ensures.value at c.write_octets-self-inside.ensures.written in
+    (omega arith, utf8_in_front c.args.text.now (drop at.start at.octets) _ put c.utf8.text c.self.invariant.1)
