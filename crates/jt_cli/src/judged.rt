@@ -36,12 +36,7 @@ pub fn placed(place: u64, refusal: Refusal) -> Refusal
 
 // Whether the body behind this header is refused, in the frame that opens at this place.
 #[inline(always)]
-fn judge_body(
-    alloc: Global,
-    place: u64,
-    header: &Header,
-    body: &[u8],
-) -> Result<Judged, Memory>
+fn judge_body(alloc: Global, place: u64, header: &Header, body: &[u8]) -> Result<Judged, Memory>
     requires { length body.now < 2 ^ 10 }
     ensures { IfOk result (λ judgement. judgement ≡ judged (Some (entry_of (Frame place header.now body.now)))) }
 {

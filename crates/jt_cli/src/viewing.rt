@@ -10,16 +10,19 @@ ghost use Rattle.jt_cli.specs.Entry.{entry_of};
 ghost use Rattle.jt_cli.specs.Reporting.{ViewsEntry, ViewsTold};
 
 use crate::judged::{Judged, placed};
-use jt_codec::{Message, MessageView, view_message};
+use jt_codec::{MessageView, read_message, view_message};
 use jt_escape::Split;
 use jt_header::Header;
 use jt_stream::Stream;
-use jt_text::{Line, push_message_line, push_position_line, push_refusal_line};
+use jt_text::{
+    Line, push_heartbeat_line, push_message_line, push_position_line, push_refusal_line,
+};
 use jt_value::{CodecError, Memory, Refusal};
 use std::alloc::{AllocError, Global};
 
+// The line of a message that is read in place.
 #[inline(always)]
-fn push_message(
+fn push_view(
     text: &mut String,
     line: &mut Line,
     place: u64,
@@ -30,18 +33,14 @@ fn push_message(
     ensures { OnOk result (string_bytes text.new ≡ string_bytes text.old ++ view_line place header.now (viewed view.entry) body_len) }
 {
     match view {
-        MessageView::Heartbeat => {
-            push_message_line(text, line, place, header, &Message::Heartbeat, body_len)
-        }
+        MessageView::Heartbeat => push_heartbeat_line(text, line, place, header, body_len),
         MessageView::Position(view) => {
             push_position_line(text, line, place, header, view, body_len)
-        }
-        MessageView::Made(message) => {
-            push_message_line(text, line, place, header, &message, body_len)
         }
     }
 }
 
+#[inline(never)]
 fn view_refusal(text: &mut String, refusal: Refusal) -> Result<Judged, Memory>
     ensures { IfOk result (λ judgement. ViewsEntry (entries.Refused refusal) judgement (string_bytes text.old) (string_bytes text.new)) }
 {
@@ -49,7 +48,30 @@ fn view_refusal(text: &mut String, refusal: Refusal) -> Result<Judged, Memory>
     Ok(Judged::Refused(refusal))
 }
 
-// Puts the line of the frame that opens at this place, or of the refusal of its body.
+// Puts the line of the frame that opens at this place, or of the refusal of its body, with a message made of it.
+#[inline(never)]
+fn view_made(
+    alloc: Global,
+    place: u64,
+    header: &Header,
+    body: &[u8],
+    line: &mut Line,
+    text: &mut String,
+) -> Result<Judged, Memory>
+    requires { length body.now < 2 ^ 10 }
+    ensures { IfOk result (λ judgement. ViewsEntry (entry_of (Frame place header.now body.now)) judgement (string_bytes text.old) (string_bytes text.new)) }
+{
+    match read_message(alloc, header, body) {
+        Ok(message) => {
+            push_message_line(text, line, place, header, &message, body.len() as u16)?;
+            Ok(Judged::Frame)
+        }
+        Err(CodecError::Refused(refusal)) => view_refusal(text, placed(place, refusal)),
+        Err(CodecError::Memory) => Err(Memory),
+    }
+}
+
+// The same, read in place where that can be. A message takes room, so it is kept out of this function.
 #[inline(always)]
 fn view_body(
     alloc: Global,
@@ -62,13 +84,13 @@ fn view_body(
     requires { length body.now < 2 ^ 10 }
     ensures { IfOk result (λ judgement. ViewsEntry (entry_of (Frame place header.now body.now)) judgement (string_bytes text.old) (string_bytes text.new)) }
 {
-    match view_message(alloc, header, body) {
-        Ok(view) => {
-            push_message(text, line, place, header, view, body.len() as u16)?;
+    match view_message(header, body) {
+        Some(Ok(view)) => {
+            push_view(text, line, place, header, view, body.len() as u16)?;
             Ok(Judged::Frame)
         }
-        Err(CodecError::Refused(refusal)) => view_refusal(text, placed(place, refusal)),
-        Err(CodecError::Memory) => Err(Memory),
+        Some(Err(refusal)) => view_refusal(text, placed(place, refusal)),
+        None => view_made(alloc, place, header, body, line, text),
     }
 }
 

@@ -1,11 +1,10 @@
 //! The lines of frames.
 
-ghost use Rattle.std.specs.Prelude.{◌≡◌, ◌+◌, ◌≤◌, true, [], ◌++◌, length, string_bytes, codes, IfOk, OnOk};
+ghost use Rattle.std.specs.Prelude.{◌≡◌, ◌+◌, ◌≤◌, ◌++◌, length, string_bytes, codes, IfOk, OnOk};
 ghost use Rattle.std.specs.Fmt.{decimal};
 ghost use Rattle.hex.specs.Hex.{encode_lower};
 ghost use Rattle.jt_value.specs.Phone.{field_of};
 ghost use Rattle.jt_codec.specs.declared.message.Message.TheVariants as message;
-ghost use Rattle.jt_text.specs.Fields.{fields_of};
 ghost use Rattle.jt_text.specs.Frames.{bit15_text, frame_start, header_fields, packet_text, version_text, view_line, year};
 ghost use Rattle.jt_text.specs.Names.{deletion_name, id_name, name_of};
 
@@ -233,38 +232,45 @@ pub fn push_position_line(
     Ok(())
 }
 
-// Whether a message has no fields.
-fn is_bare(message: &Message) -> bool
-    ensures { result ≡ true → fields_of message.now ≡ [] }
-{
-    match message {
-        Message::Heartbeat | Message::Deregister | Message::QueryParams | Message::QueryPosition =>
-            true,
-        _ => false,
-    }
-}
-
-// The line of a message with no fields, with one push.
-#[tactic(auto, using(std::proofs::Common::append_assoc), unfolding(crate::specs::Frames::view_line))]
+// The line of a frame without fields, with one push.
+#[tactic(auto, using(std::proofs::Common::append_assoc))]
+#[inline(always)]
 fn push_bare_line(
     text: &mut String,
     line: &mut Line,
     place: u64,
     header: &Header,
-    message: &Message,
+    name: &str,
     body_len: u16,
 ) -> Result<(), AllocError>
-    requires { fields_of message.now ≡ [] }
-    ensures { OnOk result (string_bytes text.new ≡ string_bytes text.old ++ view_line place header.now message.now body_len) }
+    requires { length name.now ≤ 17 }
+    ensures { OnOk result (string_bytes text.new ≡ string_bytes text.old
+        ++ (frame_start place header.now name.now ++ (header_fields header.now body_len ++ codes "\n"))) }
 {
     line.clear();
     line.put_str("\n");
-    put_front(line, place, header, name(header, message), body_len);
+    put_front(line, place, header, name, body_len);
     line.push_to(text)
 }
 
+/// Puts the line of a heartbeat at the end of a text, `place` being that of its opening flag and `body_len` the octets of its
+/// body. `line` is room that is used again.
 #[tactic(auto, using(std::proofs::Common::append_assoc), unfolding(crate::specs::Frames::view_line))]
-fn push_full_line(
+pub fn push_heartbeat_line(
+    text: &mut String,
+    line: &mut Line,
+    place: u64,
+    header: &Header,
+    body_len: u16,
+) -> Result<(), AllocError>
+    ensures { OnOk result (string_bytes text.new ≡ string_bytes text.old ++ view_line place header.now message.Heartbeat body_len) }
+{
+    push_bare_line(text, line, place, header, "heartbeat", body_len)
+}
+
+/// Puts the line of a frame at the end of a text, as `push_view_line`. `line` is room that is used again.
+#[tactic(auto, using(std::proofs::Common::append_assoc), unfolding(crate::specs::Frames::view_line))]
+pub fn push_message_line(
     text: &mut String,
     line: &mut Line,
     place: u64,
@@ -280,23 +286,6 @@ fn push_full_line(
     push_fields(text, line, message)?;
     text.push_str("\n")?;
     Ok(())
-}
-
-/// Puts the line of a frame at the end of a text, as `push_view_line`. `line` is room that is used again.
-pub fn push_message_line(
-    text: &mut String,
-    line: &mut Line,
-    place: u64,
-    header: &Header,
-    message: &Message,
-    body_len: u16,
-) -> Result<(), AllocError>
-    ensures { OnOk result (string_bytes text.new ≡ string_bytes text.old ++ view_line place header.now message.now body_len) }
-{
-    if is_bare(message) {
-        return push_bare_line(text, line, place, header, message, body_len);
-    }
-    push_full_line(text, line, place, header, message, body_len)
 }
 
 /// Puts the line of a frame at the end of a text, `place` being that of its opening flag and `body_len` the octets of its

@@ -9,7 +9,9 @@ mod refusal;
 mod times;
 mod values;
 
-pub use frame::{push_message_line, push_position_line, push_view_line, view_line};
+pub use frame::{
+    push_heartbeat_line, push_message_line, push_position_line, push_view_line, view_line,
+};
 pub use laws::law_of_times;
 pub use line::Line;
 pub use refusal::{push_refusal_line, refusal_line};
