@@ -1,13 +1,13 @@
 -- A frame whose content stays where it stands leads to where it leads octet by octet.
-use Rattle.std.proofs.Common.{◌≡◌, ℕ, zero, suc, ◌+◌, ◌-◌, ◌<◌, ◌≤◌, eqb, false, List, [], ◌∷◌, ◌++◌, length, take, drop, get_or, refl, sym, ap, subst, ◌∙◌, arith, add-one, take_all, length-append, length-take-le, length-drop}
+use Rattle.std.proofs.Common.{◌≡◌, ℕ, suc, ◌+◌, ◌-◌, ◌<◌, ◌≤◌, eqb, false, List, [], ◌∷◌, ◌++◌, length, take, drop, get_or, refl, sym, ap, subst, ◌∙◌, arith, length-append, length-take-le, length-drop}
 use Rattle.std.proofs.Math.Seq.{take-append_seam}
 use Rattle.std.proofs.lemmas.Bool.{ne_eqb}
-use Rattle.std.proofs.lemmas.List.{append-nil, take_more}
+use Rattle.std.proofs.lemmas.List.{take_more}
 use Rattle.std.specs.Prelude.{slice_range}
 use Rattle.jt_escape.specs.declared.splitter.Mode.TheVariants as modes
 use Rattle.jt_escape.specs.declared.splitter.Split.{Split}
 use Rattle.jt_escape.specs.declared.splitter.Split.TheVariants as split
-use Rattle.jt_escape.specs.Span.{Event, Whole, IsContent}
+use Rattle.jt_escape.specs.Span.{Whole, IsContent}
 use Rattle.jt_escape.specs.Scan.{State, after, events_of, opening, keeping_all, lending, lasting, IsPlain, IsLike, Runs}
 use Rattle.jt_escape.specs.Splitter.{told, told_in, lent}
 use Rattle.jt_escape.proofs.Scanning.{at}

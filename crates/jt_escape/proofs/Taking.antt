@@ -1,17 +1,16 @@
 -- What a splitter's step does, and the end of the streams that it stands for.
-use Rattle.std.proofs.Common.{◌≡◌, ℕ, ◌+◌, eqb, ◌<◌, length, Option, List, [], ◌∷◌, ◌++◌, refl, sym, ap, subst, ◌∙◌, arith, inl, inr}
+use Rattle.std.proofs.Common.{◌≡◌, ℕ, ◌+◌, eqb, ◌<◌, length, Option, List, [], ◌∷◌, refl, sym, ap, subst, ◌∙◌, arith, inl, inr}
 use Rattle.std.proofs.lemmas.Bool.{cases_Bool, cases_eq, ne_eqb}
-use Rattle.std.proofs.lemmas.List.{append-nil}
 use Rattle.jt_value.specs.declared.refusal.Refusal.{Refusal}
 use Rattle.jt_escape.specs.declared.splitter.Mode.{Mode}
 use Rattle.jt_escape.specs.declared.splitter.Mode.TheVariants as modes
 use Rattle.jt_escape.specs.declared.splitter.Split.{Split}
 use Rattle.jt_escape.specs.declared.splitter.Split.TheVariants as split
-use Rattle.jt_escape.specs.Span.{Event, Whole, Events, Ends}
-use Rattle.jt_escape.specs.Scan.{end_of_stream, State, start, after, after_in, events_of, events_in, run, scan, end_in}
-use Rattle.jt_escape.specs.Splitter.{StandsFor, Takes, told}
+use Rattle.jt_escape.specs.Span.{Whole, Ends}
+use Rattle.jt_escape.specs.Scan.{end_of_stream, State, start, after, after_in, events_of, events_in, run, end_in}
+use Rattle.jt_escape.specs.Splitter.{StandsFor, told}
 use Rattle.jt_escape.proofs.Lasting.{end_like}
-use Rattle.jt_escape.proofs.Reading.{scan-append, run-append, events_held, events_only, ended, whole_is}
+use Rattle.jt_escape.proofs.Reading.{ended, whole_is}
 
 -- the end of a stream by the state that stands for it
 pub end_now : (state : State) (stream : List ℕ) (end : Option Refusal) → end ≡ end_in state.mode state.place → StandsFor state stream → Ends stream end

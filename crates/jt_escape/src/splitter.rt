@@ -93,7 +93,8 @@ fn plain_len(octets: &[u8]) -> usize
     memchr2(FLAG, ESCAPE, octets).unwrap_or(octets.len())
 }
 
-// How many octets stand between two flags, where the piece begins with a frame that is whole and has no escape. None, else.
+// How many octets the content has, where the piece begins with a whole frame that has no escape. The search goes no further
+// than the longest content.
 #[inline(always)]
 fn plain_frame(piece: &[u8]) -> Option<usize>
     ensures length { IfSome result (λ count. (0 < count) × (count ≤ 1045) × (count + 2 ≤ length piece.now)) }
@@ -477,6 +478,7 @@ impl Splitter {
         ensures content { result.1 ≡ Split.Content → IsContent (lent self.new (take result.0 piece.now)) }
     {
         let answer = self.take_all(piece);
+        // The place of a content has no more room, which callers could not know.
         prove!(self.content.len() <= CONTENT_LIMIT);
         answer
     }

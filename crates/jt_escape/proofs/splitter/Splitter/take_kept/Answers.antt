@@ -1,4 +1,4 @@
-use Rattle.std.proofs.Common.{sym, ap, subst, ◌≤◌, List, length, take, arith}
+use Rattle.std.proofs.Common.{sym, ap, subst, List, length, take, arith}
 use Rattle.jt_escape.specs.Span.{Event}
 use Rattle.jt_escape.specs.Scan.{State, Runs}
 use Rattle.jt_escape.proofs.Lending.{told_kept, is_kept}
