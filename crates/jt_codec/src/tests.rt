@@ -2,6 +2,7 @@ use super::*;
 use arrayvec::ArrayVec;
 use jt_escape::{Split, Splitter};
 use jt_header::{Header, Packet};
+use jt_position::ItemView;
 use jt_value::{CodecError, Edition, Octets, Phone, Refusal, Why};
 use std::test::Fail;
 
@@ -232,6 +233,35 @@ fn header(id: u16, serial: u16, packet: Option<Packet>) -> Header {
         serial,
         packet,
     }
+}
+
+#[test]
+fn views(rt: HostRuntime) {
+    let heartbeat = header(0x0002, 0, None);
+    assert!(rt;
+        matches!(
+            &view_message(&heartbeat, &[]),
+            Some(Ok(MessageView::Heartbeat))
+        )
+    );
+    let trailing = Refusal {
+        at: 0,
+        inside: 12,
+        why: Why::Trailing,
+    };
+    assert!(rt;
+        matches!(&view_message(&heartbeat, &[7]), Some(Err(refusal)) if *refusal == trailing)
+    );
+    match view_message(&header(0x0200, 0, None), &POSITION) {
+        Some(Ok(MessageView::Position(view))) => {
+            assert_eq!(rt; view.fixed.lat, 20_000_000);
+            let mut items = view.items;
+            assert_eq!(rt; items.next(), Some(ItemView::Mileage(10)));
+            assert_eq!(rt; items.next(), None);
+        }
+        _ => panic!(rt; "a position"),
+    }
+    assert!(rt; view_message(&header(0x0003, 0, None), &[]).is_none());
 }
 
 #[test]
