@@ -4,7 +4,7 @@ use Rattle.std.specs.Prelude.{option_to_list, IfOk}
 use Rattle.jt_value.specs.declared.memory.Memory.{Memory}
 use Rattle.jt_value.specs.declared.refusal.Refusal.{Refusal}
 use Rattle.jt_escape.specs.Scan.{State}
-use Rattle.jt_escape.specs.Splitter.{told_in}
+use Rattle.jt_escape.specs.Splitter.{told_of}
 use Rattle.jt_escape.specs.declared.splitter.Split.{Split}
 use Rattle.jt_escape.specs.declared.splitter.Split.TheVariants as answer
 use Rattle.jt_stream.specs.Item.{Item, AreItemsOf}
@@ -19,20 +19,20 @@ told_none : (state : State) (taken : List ℕ) → IsTold answer.More state take
 told_none state taken = record { items = []; each = tt; entry_is = refl }
 
 -- one item is told
-told_item : (split : Split) (state : State) (taken : List ℕ) (one : Item) → AreItemsOf (told_in split state taken) (one ∷ []) → IsTold split state taken (Some (entry_of one))
+told_item : (split : Split) (state : State) (taken : List ℕ) (one : Item) → AreItemsOf (told_of split state taken) (one ∷ []) → IsTold split state taken (Some (entry_of one))
 told_item split state taken one each = record { items = one ∷ []; each = each; entry_is = refl }
 
 pub judges_none : (state : State) (taken : List ℕ) → JudgesTold answer.More state taken judgement.Nothing
 judges_none state taken = record { entry = None; told = told_none state taken; judgement_is = refl }
 
-pub judges_item : (split : Split) (state : State) (taken : List ℕ) (one : Item) (judgement : Judged) → AreItemsOf (told_in split state taken) (one ∷ [])
+pub judges_item : (split : Split) (state : State) (taken : List ℕ) (one : Item) (judgement : Judged) → AreItemsOf (told_of split state taken) (one ∷ [])
     → judgement ≡ judged (Some (entry_of one)) → JudgesTold split state taken judgement
 judges_item split state taken one judgement each is = record { entry = Some (entry_of one); told = told_item split state taken one each; judgement_is = is }
 
 pub views_none : (state : State) (taken text : List ℕ) → ViewsTold answer.More state taken judgement.Nothing text text
 views_none state taken text = record { entry = None; told = told_none state taken; judgement_is = refl; text_is = sym (append-nil text) }
 
-pub views_item : (split : Split) (state : State) (taken : List ℕ) (one : Item) (judgement : Judged) (text text_now : List ℕ) → AreItemsOf (told_in split state taken) (one ∷ [])
+pub views_item : (split : Split) (state : State) (taken : List ℕ) (one : Item) (judgement : Judged) (text text_now : List ℕ) → AreItemsOf (told_of split state taken) (one ∷ [])
     → ViewsEntry (entry_of one) judgement text text_now → ViewsTold split state taken judgement text text_now
 views_item split state taken one judgement text text_now each views = record {
   entry = Some (entry_of one);
@@ -42,12 +42,12 @@ views_item split state taken one judgement text text_now each views = record {
 }
 
 -- unless memory was wanted
-pub judges_body : (split : Split) (state : State) (taken : List ℕ) (one : Item) (result : Result Judged Memory) → AreItemsOf (told_in split state taken) (one ∷ [])
+pub judges_body : (split : Split) (state : State) (taken : List ℕ) (one : Item) (result : Result Judged Memory) → AreItemsOf (told_of split state taken) (one ∷ [])
     → IfOk result (λ judgement. judgement ≡ judged (Some (entry_of one))) → IfOk result (JudgesTold split state taken)
 judges_body split state taken one (Ok judgement) each is = judges_item split state taken one judgement each is
 judges_body split state taken one (Err e) each is = tt
 
-pub views_body : (split : Split) (state : State) (taken : List ℕ) (one : Item) (result : Result Judged Memory) (text text_now : List ℕ) → AreItemsOf (told_in split state taken) (one ∷ [])
+pub views_body : (split : Split) (state : State) (taken : List ℕ) (one : Item) (result : Result Judged Memory) (text text_now : List ℕ) → AreItemsOf (told_of split state taken) (one ∷ [])
     → IfOk result (λ judgement. ViewsEntry (entry_of one) judgement text text_now) → IfOk result (λ judgement. ViewsTold split state taken judgement text text_now)
 views_body split state taken one (Ok judgement) text text_now each views = views_item split state taken one judgement text text_now each views
 views_body split state taken one (Err e) text text_now each views = tt

@@ -3,7 +3,7 @@ use Rattle.std.specs.Prelude.{◌≡◌, ℕ, ◌+◌, List, ◌++◌, length, B
 use Rattle.jt_value.specs.declared.refusal.Refusal.{Refusal}
 use Rattle.jt_escape.specs.Splitter as splitter
 use Rattle.jt_escape.specs.Scan.{State}
-use Rattle.jt_escape.specs.Splitter.{told_in}
+use Rattle.jt_escape.specs.Splitter.{told_of}
 use Rattle.jt_escape.specs.declared.splitter.Split.{Split}
 use Rattle.jt_stream.specs.Item.{Item, Items, AreItemsOf, all_items}
 use Rattle.jt_stream.specs.Stream.{Held}
@@ -42,32 +42,32 @@ pub record Brings (old new : Tally) (octets : List ℕ) (entry : Option Entry) :
   pub counts : (before : List ℕ) → Counts old before → Counts new (before ++ octets)
   pub entries : (before : List ℕ) → Counts old before → entries_of (before ++ octets) ≡ entries_of before ++ option_to_list entry
 
--- what a check asks of an entry
+-- an entry, as far as counting asks
 abbrev pub judged : Option Entry → Judged
 judged None = judgement.Nothing
 judged (Some (Frame place header message body_len)) = judgement.Frame
 judged (Some (Refused refusal)) = judgement.Refused refusal
 
--- what a splitter answers to these octets is this entry or none
+-- what a splitter answered to these octets tells this entry or none
 pub record IsTold (answer : Split) (state : State) (taken : List ℕ) (entry : Option Entry) : Type 0 where
   pub items : List Item
-  pub each : AreItemsOf (told_in answer state taken) items
+  pub each : AreItemsOf (told_of answer state taken) items
   pub entry_is : option_to_list entry ≡ map entry_of items
 
--- it is this, as far as a check asks
+-- the judgement is that of the entry that the splitter told of these octets
 pub record JudgesTold (answer : Split) (state : State) (taken : List ℕ) (judgement : Judged) : Type 0 where
   pub entry : Option Entry
   pub told : IsTold answer state taken entry
   pub judgement_is : judgement ≡ judged entry
 
--- it is this, and its line was printed
+-- the same, and the text grew by that entry's line
 pub record ViewsTold (answer : Split) (state : State) (taken : List ℕ) (judgement : Judged) (text text_now : List ℕ) : Type 0 where
   pub entry : Option Entry
   pub told : IsTold answer state taken entry
   pub judgement_is : judgement ≡ judged entry
   pub text_is : text_now ≡ text ++ lines (option_to_list entry)
 
--- the line of the entry was printed, which is this, as far as a check asks
+-- the text grew by the entry's line, and the judgement is the entry's
 pub record ViewsEntry (entry : Entry) (judgement : Judged) (text text_now : List ℕ) : Type 0 where
   pub judgement_is : judgement ≡ judged (Some entry)
   pub text_is : text_now ≡ text ++ line_of entry

@@ -1,37 +1,27 @@
-//! What a check asks of an entry.
+//! What counting asks of an entry, and all that a check asks.
 
 ghost use Rattle.std.specs.Prelude.{◌≡◌, ◌<◌, ◌≤◌, ◌^◌, Some, length, IfOk};
 ghost use Rattle.jt_escape.specs.Splitter.{lent};
-ghost use Rattle.jt_stream.specs.Item.{Frame, placed};
+ghost use Rattle.jt_stream.specs.Item.{Frame};
 ghost use Rattle.jt_cli.specs.Entry.{entry_of};
 ghost use Rattle.jt_cli.specs.Reporting.{JudgesTold, judged};
 
 use jt_codec::judge_message;
 use jt_escape::Split;
 use jt_header::Header;
-use jt_stream::Stream;
+use jt_stream::{Stream, placed};
 use jt_value::{Memory, Refusal};
 use std::alloc::Global;
 
-/// Whether an entry is a refusal.
+/// What an entry is.
 #[derive(Clone, Copy, Debug, PartialEq, Eq)]
 pub enum Judged {
     /// There is no entry.
     Nothing,
     /// It is a frame.
     Frame,
+    /// It is this refusal.
     Refused(Refusal),
-}
-
-/// What is refused in the content of the frame that opens at this place.
-pub fn placed(place: u64, refusal: Refusal) -> Refusal
-    ensures { result ≡ placed place refusal }
-{
-    Refusal {
-        at: place,
-        inside: refusal.inside,
-        why: refusal.why,
-    }
 }
 
 // Whether the body behind this header is refused, in the frame that opens at this place.
@@ -58,7 +48,8 @@ fn judge_frame(alloc: Global, stream: &Stream, taken: &[u8]) -> Result<Judged, M
     }
 }
 
-/// Whether what the stream just took is refused: `taken` are the octets, and `split` is the answer.
+/// The entry, as far as a check asks, of what the last `take_in_place` of the stream told: `taken` are the octets that it took,
+/// and `split` is its answer.
 #[inline(always)]
 pub fn judge_told(
     alloc: Global,

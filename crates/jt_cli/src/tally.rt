@@ -1,6 +1,6 @@
 //! The entries of a stream that comes in pieces, counted.
 
-ghost use Rattle.std.specs.Prelude.{◌≡◌, ◌<◌, ◌≤◌, ◌+◌, ◌^◌, [], ◌∷◌, List, ℕ, Option, length, take, string_bytes, IfOk, option_to_list};
+ghost use Rattle.std.specs.Prelude.{◌≡◌, ◌<◌, ◌≤◌, ◌+◌, ◌^◌, [], List, ℕ, Option, length, take, string_bytes, IfOk, option_to_list};
 ghost use Rattle.jt_escape.specs.Scan.{end_of_stream};
 ghost use Rattle.jt_cli.specs.Entry.{Entry, first_refusal};
 ghost use Rattle.jt_cli.specs.Reporting.{Counts, Views, Checks, IsCounted, judged};
@@ -46,8 +46,8 @@ impl Tally {
         }
     }
 
-    /// Takes the stream's next octets up to the first that brings an entry, or all, and puts the entry's line at the end of a
-    /// text: how many octets were taken. `line` is room that is used again.
+    /// Takes the stream's next octets up to the first that brings an entry, or all, and puts the entry's line at the end of
+    /// a text: how many octets were taken. `line` is room that is used again.
     #[inline(always)]
     pub fn view(
         &mut self,

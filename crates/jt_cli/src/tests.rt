@@ -271,7 +271,21 @@ fn hexadecimal_inputs_and_checks(rt: HostRuntime) -> Result<(), Fail> {
         b"\x7e\x00\x02\x00\x00\x01\x39\x12\x34\x56\x78\x00\x00\x32\x7e\x7e\x00\x02\x00\x00\x01\x39\x12\x34\x56\x78\x00\x00\x32\x7e".as_slice();
     let mismatch =
         b"\x7e\x00\x02\x00\x00\x01\x39\x12\x34\x56\x78\x00\x00\x33\x7e\x7e\x00\x02\x00\x00\x01\x39\x12\x34\x56\x78\x00\x00\x32\x7e".as_slice();
+    let short_position =
+        b"7e 0200001b 013912345678 0005 000000000000000000000000000000000000000000000000000000 2c 7e".as_slice();
     for (words, octets, status, written) in [
+        (
+            ["view", "--hex"].as_slice(),
+            short_position,
+            Status::Refused,
+            "0+34 refused Truncated\nframes=0 refused=1\n",
+        ),
+        (
+            ["check", "--hex"].as_slice(),
+            short_position,
+            Status::Refused,
+            "0+34 refused Truncated\n",
+        ),
         (
             ["view", "--hex"].as_slice(),
             b"7e 7".as_slice(),

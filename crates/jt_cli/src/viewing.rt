@@ -9,11 +9,11 @@ ghost use Rattle.jt_cli.specs.Entry as entries;
 ghost use Rattle.jt_cli.specs.Entry.{entry_of};
 ghost use Rattle.jt_cli.specs.Reporting.{ViewsEntry, ViewsTold};
 
-use crate::judged::{Judged, placed};
+use crate::judged::Judged;
 use jt_codec::{MessageView, read_message, view_message};
 use jt_escape::Split;
 use jt_header::Header;
-use jt_stream::Stream;
+use jt_stream::{Stream, placed};
 use jt_text::{
     Line, push_heartbeat_line, push_message_line, push_position_line, push_refusal_line,
 };
@@ -112,8 +112,9 @@ fn view_frame(
     }
 }
 
-/// Puts the line of what the stream just took, if it tells something: `taken` are the octets, and `split` is the answer. `line`
-/// is room that is used again.
+/// Puts the line of the entry that the last `take_in_place` of the stream told, if it told one, at the end of a text: `taken`
+/// are the octets that it took, and `split` is its answer. The answer is the entry, as far as counting asks. `line` is room
+/// that is used again: what it held is dropped, and what it holds afterwards is not said.
 #[inline(always)]
 pub fn view_told(
     alloc: Global,

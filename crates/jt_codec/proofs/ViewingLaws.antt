@@ -1,5 +1,5 @@
 -- A message that is read in place is read as its row says.
-use Rattle.std.proofs.Common.{◌≡◌, ℕ, ◌≤◌, false, List, length, Option, Some, None, Ok, Err, refl}
+use Rattle.std.proofs.Common.{◌≡◌, ℕ, ◌≤◌, false, List, length, Option, Ok, refl, arith}
 use Rattle.std.specs.Prelude.{is_some}
 use Rattle.jt_value.specs.declared.phone.Edition.{Edition}
 use Rattle.jt_value.specs.declared.phone.Edition.TheVariants.{E2013, E2019}
@@ -14,6 +14,7 @@ use Rattle.jt_codec.specs.Bodies.{body}
 use Rattle.jt_codec.specs.Kinds.{heartbeat_of, position_of}
 use Rattle.jt_codec.specs.Parsing.{message_read}
 use Rattle.jt_codec.specs.declared.message.Message.TheVariants as message
+use Rattle.jt_codec.proofs.BodyLaws.{body_law}
 use Rattle.jt_codec.proofs.FrameLaws.{read_at}
 
 heartbeat_fills : (edition : Edition) (s : List ℕ) → Fills empty s 0 tt → Fills (body edition 0x0002) s 0 message.Heartbeat
@@ -48,3 +49,7 @@ heartbeat_refused edition id v r is refused = rw is (heartbeat_refuses edition v
 
 pub position_refused : (edition : Edition) (id : ℕ) (v : List ℕ) (r : Refusal) → id ≡ 0x0200 → position.Refuses v 0 r → (body edition id).Refuses v 0 r
 position_refused edition id v r is refused = rw is (position_refuses edition v r refused)
+
+-- a reason names a place in the body, or its end
+pub refused_inside : (edition : Edition) (id : ℕ) (s : List ℕ) (refusal : Refusal) → (body edition id).Refuses s 0 refusal → refusal.inside ≤ length s
+refused_inside edition id s refusal refused = ((body_law edition id).placed s 0 refusal (omega arith) refused).1

@@ -1,7 +1,6 @@
 pub mod Answer
 pub mod Bodies
 pub mod Frames
-pub mod Judging
 pub mod Kinds
 pub mod Law
 pub mod Layouts

@@ -31,6 +31,18 @@ pub(crate) fn in_content(start: usize, refusal: Refusal) -> Refusal
     }
 }
 
+// Where the body begins in a content without packet fields.
+#[inline(always)]
+pub(crate) fn start_of_body(edition: Edition) -> usize
+    ensures value { result ≡ header_len edition false }
+    ensures small { result ≤ 17 }
+{
+    match edition {
+        Edition::E2013 => 12,
+        Edition::E2019 => 17,
+    }
+}
+
 // The message of a body that begins at this place of its content. A packet is kept as a part.
 fn message_at(
     alloc: Global,
@@ -60,11 +72,7 @@ pub fn read_message(alloc: Global, header: &Header, body: &[u8]) -> Result<Messa
     ensures { IsUnlessMemory result
         (message_read header.now.packet header.now.edition header.now.id body.now) }
 {
-    let start = match header.edition {
-        Edition::E2013 => 12,
-        Edition::E2019 => 17,
-    };
-    message_at(alloc, header, start, body)
+    message_at(alloc, header, start_of_body(header.edition), body)
 }
 
 // What `parse_frame` answers, as a function of the content.

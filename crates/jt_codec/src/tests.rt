@@ -261,7 +261,39 @@ fn views(rt: HostRuntime) {
         }
         _ => panic!(rt; "a position"),
     }
+    let truncated = Refusal {
+        at: 0,
+        inside: 34,
+        why: Why::Truncated,
+    };
+    let refused = view_message(&header(0x0200, 0, None), &POSITION[..27]);
+    assert!(rt; matches!(&refused, Some(Err(refusal)) if *refusal == truncated));
     assert!(rt; view_message(&header(0x0003, 0, None), &[]).is_none());
+}
+
+#[test]
+fn judgements(rt: HostRuntime) -> Result<(), Fail> {
+    let response = header(0x8001, 0, None);
+    let truncated = |inside| Refusal {
+        at: 0,
+        inside,
+        why: Why::Truncated,
+    };
+    let position = header(0x0200, 0, None);
+    assert_eq!(rt; judge_message(rt.alloc(), &position, &POSITION)?, None);
+    assert_eq!(rt;
+        judge_message(rt.alloc(), &position, &POSITION[..27])?,
+        Some(truncated(34))
+    );
+    assert_eq!(rt;
+        judge_message(rt.alloc(), &response, &[0, 7, 0, 2, 0])?,
+        None
+    );
+    assert_eq!(rt;
+        judge_message(rt.alloc(), &response, &[0, 7, 0, 2])?,
+        Some(truncated(16))
+    );
+    Ok(())
 }
 
 #[test]

@@ -7,12 +7,12 @@ ghost use Rattle.jt_layout.specs.Reading.{Finds};
 ghost use Rattle.jt_codec.specs.Parsing.{message_read};
 ghost use Rattle.jt_codec.specs.Viewing.{is_viewed, viewed};
 
-use crate::frame::in_content;
+use crate::frame::{in_content, start_of_body};
 use crate::message::{HEARTBEAT, POSITION};
 use jt_header::Header;
 use jt_layout::Reader;
 use jt_position::{PositionView, view_position};
-use jt_value::{Edition, Refusal};
+use jt_value::Refusal;
 
 /// A message that is read in place: one of those that terminals send most.
 #[derive(Drop)]
@@ -21,18 +21,6 @@ pub enum MessageView<'a> {
     Heartbeat,
     /// A position, whose items stand in the body.
     Position(PositionView<'a>),
-}
-
-// Where the body begins in a content without packet fields.
-#[inline(always)]
-fn start_of_body(edition: Edition) -> usize
-    ensures value { result ≡ header_len edition false }
-    ensures small { result ≤ 17 }
-{
-    match edition {
-        Edition::E2013 => 12,
-        Edition::E2019 => 17,
-    }
 }
 
 #[inline(always)]
@@ -84,7 +72,7 @@ fn view_of_position<'a>(header: &Header, body: &'a [u8]) -> Result<MessageView<'
 
 /// The message of the body behind this header, of at most 1,023 octets, read in place, or the first reason against the body,
 /// with its offset in the content and `at` 0: what `read_message` answers. It is there for heartbeats and positions that are
-/// no packets. None says that the header is of another message. No memory is taken.
+/// no packets, and None says that the header is of a packet or of another message. No memory is taken.
 #[inline(always)]
 pub fn view_message<'a>(header: &Header, body: &'a [u8]) -> Option<Result<MessageView<'a>, Refusal>>
     requires { length body.now < 2 ^ 10 }

@@ -8,8 +8,8 @@ use Rattle.jt_escape.specs.declared.splitter.Mode.TheVariants as modes
 use Rattle.jt_escape.specs.declared.splitter.Split.{Split}
 use Rattle.jt_escape.specs.declared.splitter.Split.TheVariants as split
 use Rattle.jt_escape.specs.Span.{Whole, IsContent}
-use Rattle.jt_escape.specs.Scan.{State, after, events_of, opening, keeping_all, lending, lasting, IsPlain, IsLike, Runs}
-use Rattle.jt_escape.specs.Splitter.{told, told_in, lent}
+use Rattle.jt_escape.specs.Scan.{State, after, events_of, opening, keeping_all, lending, lasting, IsPlain, IsAlike, Runs}
+use Rattle.jt_escape.specs.Splitter.{told, told_of, lent}
 use Rattle.jt_escape.proofs.Scanning.{at}
 use Rattle.jt_escape.proofs.Runs.{Runs-one, Runs-then, Runs-like, keeps_all_plain, opens_frame}
 
@@ -20,7 +20,7 @@ lent_kept state taken some =
     let more : eqb (length state.content) 0 ≡ false = ne_eqb _ _ (λ e. omega (arith, e)) in
     rw more refl
 
-pub told_kept : (answer : Split) (state : State) (taken : List ℕ) → (answer ≡ split.Content → 0 < length state.content) → told_in answer state taken ≡ told answer state
+pub told_kept : (answer : Split) (state : State) (taken : List ℕ) → (answer ≡ split.Content → 0 < length state.content) → told_of answer state taken ≡ told answer state
 told_kept split.More state taken some = refl
 told_kept split.Content state taken some = ap (λ (content : List ℕ). Whole state.opened content ∷ []) (lent_kept state taken (some refl))
 told_kept (split.Refused refusal) state taken some = refl
@@ -32,7 +32,7 @@ is_kept state taken some short = subst IsContent (sym (lent_kept state taken som
 
 -- a flag after a content closes the frame
 closes : (content : List ℕ) (place opened q : ℕ) → 0 < length content → q ≡ place + 1
-    → IsLike (at modes.Outside [] q opened) (after (at modes.Inside content place opened) 0x7E) × (Whole opened content ∷ [] ≡ events_of (at modes.Inside content place opened) 0x7E)
+    → IsAlike (at modes.Outside [] q opened) (after (at modes.Inside content place opened) 0x7E) × (Whole opened content ∷ [] ≡ events_of (at modes.Inside content place opened) 0x7E)
 unfolding after events_of lasting
 closes content place opened q some e =
     let more : eqb (length content) 0 ≡ false = ne_eqb _ _ (λ e. omega (arith, e)) in (

@@ -8,7 +8,7 @@ use Rattle.std.proofs.lemmas.List.{append-nil, take-append-le, take-append-drop,
 use Rattle.jt_escape.specs.declared.splitter.Mode.{Mode}
 use Rattle.jt_escape.specs.declared.splitter.Mode.TheVariants as modes
 use Rattle.jt_escape.specs.Span.{Event, HasNoFlag, Events}
-use Rattle.jt_escape.specs.Scan.{State, start, after, events_of, run, scan, IsPlain, keeping_all, passing_all, opening, lasting, IsLike, Runs}
+use Rattle.jt_escape.specs.Scan.{State, start, after, events_of, run, scan, IsPlain, keeping_all, passing_all, opening, lasting, IsAlike, Runs}
 use Rattle.jt_escape.specs.Splitter.{Takes, IsSilent}
 use Rattle.jt_escape.proofs.Scanning.{at}
 use Rattle.jt_escape.proofs.Reading.{scan-append, run-append, events_held, events_only}
@@ -44,7 +44,7 @@ Runs-one old new octet events e f =
     record { reached = ap lasting e; read = f ∙ sym (append-nil (events_of old octet)); quiet = λ count lt. quiet_one old octet count lt }
 
 -- a state that is like the one that is led to
-pub Runs-like : (a b c : State) (octets : List ℕ) (events : List Event) → Runs a b octets events → IsLike c b → Runs a c octets events
+pub Runs-like : (a b c : State) (octets : List ℕ) (events : List Event) → Runs a b octets events → IsAlike c b → Runs a c octets events
 Runs-like a b c octets events runs like = record { reached = like ∙ runs.reached; read = runs.read; quiet = runs.quiet }
 
 quiet_then : (a b : State) (x y : List ℕ) (count : ℕ) → Runs a b x [] → ((count : ℕ) → count < length y → scan b (take count y) ≡ [])

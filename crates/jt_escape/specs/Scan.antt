@@ -110,6 +110,7 @@ passing_all state octets =
 abbrev pub lending : State → ℕ → State
 lending state count = record { mode = Outside; content = []; place = state.place + (count + 2); opened = state.place }
 
+-- what no later octet sees is put to [] and 0
 abbrev pub lasting_in : Mode → State → State
 lasting_in Outside state = record { mode = Outside; content = []; place = state.place; opened = 0 }
 lasting_in Straying state = record { mode = Straying; content = []; place = state.place; opened = 0 }
@@ -122,11 +123,11 @@ unfoldable pub lasting : State → State
 lasting state = lasting_in state.mode state
 
 -- Later octets see the same of both: the mode, the place and, where a frame is open, its content and its opening flag.
-abbrev pub IsLike : State → State → Type 0
-IsLike a b = lasting a ≡ lasting b
+abbrev pub IsAlike : State → State → Type 0
+IsAlike a b = lasting a ≡ lasting b
 
 -- the octets lead from the old state to one like the new one and have these events, and none before the last octet
 pub record Runs (old new : State) (octets : List ℕ) (events : List Event) : Type 0 where
-  pub reached : IsLike new (run old octets)
+  pub reached : IsAlike new (run old octets)
   pub read : events ≡ scan old octets
   pub quiet : (count : ℕ) → count < length octets → scan old (take count octets) ≡ []

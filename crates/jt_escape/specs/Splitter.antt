@@ -3,12 +3,12 @@ use Rattle.std.specs.Prelude.{ℕ, ◌-◌, List, [], ◌∷◌, ◌++◌, lengt
 use Rattle.jt_escape.specs.declared.splitter.Split.{Split}
 use Rattle.jt_escape.specs.declared.splitter.Split.TheVariants as split
 use Rattle.jt_escape.specs.Span.{Event, Whole, Refused, Events}
-use Rattle.jt_escape.specs.Scan.{State, start, run, IsLike}
+use Rattle.jt_escape.specs.Scan.{State, start, run, IsAlike}
 
--- The octets of this stream were taken. Nothing that is promised of the answers rests on this definition: it holds of
--- a new splitter and the empty stream, and each call carries it on.
+-- The octets of this stream were taken, up to what no later octet sees. Nothing that is promised of the answers rests on
+-- this definition: it holds of a new splitter and the empty stream, and each call carries it on.
 pub record StandsFor (state : State) (stream : List ℕ) : Type 0 where
-  pub taken : IsLike state (run start stream)
+  pub taken : IsAlike state (run start stream)
 
 -- These octets were taken: whatever stream the splitter stood for, it now stands for that stream and then the octets,
 -- and to the events of that stream these were added.
@@ -34,7 +34,7 @@ abbrev pub lent : State → List ℕ → List ℕ
 lent state taken = if length state.content == 0 then slice_range taken 1 (length taken - 1) else state.content
 
 -- the events that an answer tells of these octets and of the splitter that took them
-abbrev pub told_in : Split → State → List ℕ → List Event
-told_in split.More state taken = []
-told_in split.Content state taken = Whole state.opened (lent state taken) ∷ []
-told_in (split.Refused refusal) state taken = Refused refusal ∷ []
+abbrev pub told_of : Split → State → List ℕ → List Event
+told_of split.More state taken = []
+told_of split.Content state taken = Whole state.opened (lent state taken) ∷ []
+told_of (split.Refused refusal) state taken = Refused refusal ∷ []

@@ -40,6 +40,7 @@ fn check_row(lanes: u8x16, octets: &[u8]) -> u8x16
     lanes ^ u8x16::from_slice(octets)
 }
 
+// The XOR of all lanes.
 #[inline(always)]
 fn check_lanes(lanes: u8x16) -> u8
     ensures { result ≡ fold bit_xor 0 lanes }

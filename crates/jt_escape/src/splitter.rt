@@ -5,7 +5,7 @@ ghost use Rattle.jt_value.specs.declared.refusal.Refusal.{Refusal};
 ghost use Rattle.jt_escape.specs.declared.splitter.Mode.TheVariants.{Outside, Straying, Inside, Escaping, Skipping};
 ghost use Rattle.jt_escape.specs.Span.{Ends, HasNoFlag, IsContent, refusal_at};
 ghost use Rattle.jt_escape.specs.Scan.{State, opening, passing, passing_all, keeping, keeping_all, lending, after_in, after, events_in, events_of, end_in, IsPlain, Runs};
-ghost use Rattle.jt_escape.specs.Splitter.{StandsFor, Takes, IsSilent, told, lent, told_in};
+ghost use Rattle.jt_escape.specs.Splitter.{StandsFor, Takes, IsSilent, told, lent, told_of};
 
 use crate::framing::{CONTENT_LIMIT, ESCAPE, ESCAPE_CODE, FLAG, FLAG_CODE};
 use arrayvec::ArrayVec;
@@ -33,7 +33,7 @@ pub enum Mode {
 pub enum Split {
     /// Nothing yet.
     More,
-    /// A content, which `content` and `opened` give.
+    /// A content, which `content` gives, and `content_in` after `take_in_place`. `opened` gives its place.
     Content,
     /// A refusal, at its place in the stream and with `inside` 0: `Stray`, `EmptyFrame`, `BadEscape` or `TooLong`.
     Refused(Refusal),
@@ -454,7 +454,7 @@ impl Splitter {
         ensures within { IfSome result (λ taken. (0 < taken) × (taken ≤ length piece.now)) }
         ensures place { IfSome result (λ taken. self.new.place ≡ self.old.place + taken) }
         ensures runs { IfSome result (λ taken. Runs self.old self.new (take taken piece.now)
-            (told_in Split.Content self.new (take taken piece.now))) }
+            (told_of Split.Content self.new (take taken piece.now))) }
         ensures content { IfSome result (λ taken. IsContent (lent self.new (take taken piece.now))) }
         ensures none { IfNone result (self.new ≡ self.old) }
     {
@@ -473,7 +473,7 @@ impl Splitter {
         ensures some { 0 < length piece.now → 0 < result.0 }
         ensures place { self.new.place ≡ self.old.place + result.0 }
         ensures runs { Runs self.old self.new (take result.0 piece.now)
-            (told_in result.1 self.new (take result.0 piece.now)) }
+            (told_of result.1 self.new (take result.0 piece.now)) }
         ensures more { result.1 ≡ Split.More → result.0 ≡ length piece.now }
         ensures content { result.1 ≡ Split.Content → IsContent (lent self.new (take result.0 piece.now)) }
     {
@@ -483,9 +483,9 @@ impl Splitter {
         answer
     }
 
-    /// Takes the stream's next octets as `take` does. The content of a frame that stands whole and without escapes in the
-    /// piece is left there, and `content_in` gives it from there. The octets taken so far and the piece are together fewer
-    /// than 2^63.
+    /// Takes the stream's next octets as `take` does, and `content_in` then gives the content. That of a frame with which the
+    /// piece begins, outside all frames, whole and without escapes, stays in the piece and is not copied. The octets taken so
+    /// far and the piece are together fewer than 2^63.
     #[inline(always)]
     pub fn take_in_place(&mut self, piece: &[u8]) -> (usize, Split)
         requires { self.old.place + length piece.now < 2 ^ 63 }
@@ -493,7 +493,7 @@ impl Splitter {
         ensures some { 0 < length piece.now → 0 < result.0 }
         ensures place { self.new.place ≡ self.old.place + result.0 }
         ensures events { Takes self.old self.new (take result.0 piece.now)
-            (told_in result.1 self.new (take result.0 piece.now)) }
+            (told_of result.1 self.new (take result.0 piece.now)) }
         ensures more { result.1 ≡ Split.More → result.0 ≡ length piece.now }
         // No octet past the first that completes something is taken.
         ensures first { (count : ℕ) → count < result.0 → IsSilent self.old (take count piece.now) }
@@ -528,7 +528,7 @@ impl Splitter {
         self.step(octet)
     }
 
-    /// The last whole content, from the call that completed it until the next octet is taken.
+    /// The last whole content that `push` or `take` completed, until the next call that takes octets.
     pub fn content(&self) -> &[u8]
         ensures octets { result.now ≡ self.now.content }
         ensures length { length result.now ≤ 1045 }
@@ -536,7 +536,7 @@ impl Splitter {
         self.content.as_slice()
     }
 
-    /// The place of that content's opening flag.
+    /// The place of the opening flag of the last whole content, until the next call that takes octets.
     pub fn opened(&self) -> u64
         ensures { result ≡ self.now.opened }
     {

@@ -7,7 +7,7 @@ use Rattle.jt_stream.specs.declared.stream.StreamItem.{StreamItem}
 use Rattle.jt_stream.specs.declared.stream.StreamItem.TheVariants as answer
 use Rattle.jt_stream.specs.Item.{Item, Frame, Refused, Items}
 
--- what the splitter holds, and whether the last take answered a frame
+-- what the splitter holds, and whether the last call that took octets answered a frame that was judged
 pub record Held : Type 0 where
   pub splitter : State
   pub found : Bool

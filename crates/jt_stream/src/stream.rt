@@ -4,7 +4,7 @@ ghost use Rattle.std.specs.Prelude.{◌≡◌, ◌<◌, ◌≤◌, ◌+◌, ◌^
 ghost use Rattle.std.specs.Option.{ForSome};
 ghost use Rattle.std.specs.Result.{ForOk};
 ghost use Rattle.jt_escape.specs.Span.{Ends, Whole};
-ghost use Rattle.jt_escape.specs.Splitter.{StandsFor, lent, told_in};
+ghost use Rattle.jt_escape.specs.Splitter.{StandsFor, lent, told_of};
 ghost use Rattle.jt_header.specs.Content.{Content};
 ghost use Rattle.jt_header.specs.Reason.{Reads};
 ghost use Rattle.jt_stream.specs.Item.{Item, Frame, Refused, placed, AreItemsOf};
@@ -58,8 +58,8 @@ impl Model for Stream {
         ForSome stream.message (λ message. IsMessage message.header message.start stream.splitter.content) };
 }
 
-// A refusal of a content, in the frame that opens at this place.
-fn in_frame(opened: u64, refusal: Refusal) -> Refusal
+/// What is refused in the content of the frame that opens at this place, as it is refused in the stream.
+pub fn placed(opened: u64, refusal: Refusal) -> Refusal
     ensures { result ≡ placed opened refusal }
 {
     Refusal {
@@ -81,7 +81,7 @@ fn judge(splitter: &Splitter) -> Result<Message, Refusal>
             header,
             start: content.len() - 1 - body.len(),
         }),
-        Err(refusal) => Err(in_frame(splitter.opened(), refusal)),
+        Err(refusal) => Err(placed(splitter.opened(), refusal)),
     }
 }
 
@@ -143,8 +143,8 @@ impl Stream {
         }
     }
 
-    /// The frame that the last `take` answered, until the next one: the place of its opening flag, its header and its body.
-    /// None where the last `take` answered no frame.
+    /// The frame that the last `take` answered, until the next call that takes octets: the place of its opening flag, its
+    /// header and its body. None where that call answered no frame.
     pub fn frame(&self) -> Option<(u64, Header, &[u8])>
         ensures some { IsSome result ↔ IsTrue self.now.found }
         ensures place { IfSome result (λ frame. frame.0 ≡ self.now.splitter.opened) }
@@ -158,9 +158,9 @@ impl Stream {
         Some((self.splitter.opened(), message.header, body))
     }
 
-    /// Takes the stream's next octets as `take` does, and judges no content: where the answer is `Content`, `frame_in` gives its
-    /// frame or the refusal. Answers how many octets were taken, and what they complete. The octets taken so far and the piece
-    /// are together fewer than 2^63.
+    /// Takes the stream's next octets as `take` does, and judges no content: where the answer is `Content`, `frame_in` gives
+    /// its frame or the refusal. Answers how many octets were taken, and what they complete. The octets taken so far and the
+    /// piece are together fewer than 2^63.
     #[inline(always)]
     pub fn take_in_place(&mut self, piece: &[u8]) -> (usize, Split)
         requires { self.old.splitter.place + length piece.now < 2 ^ 63 }
@@ -169,7 +169,7 @@ impl Stream {
         ensures place { self.new.splitter.place ≡ self.old.splitter.place + result.0 }
         // The items of a content are those of `frame_in`.
         ensures items { (items : List Item) →
-            AreItemsOf (told_in result.1 self.new.splitter (take result.0 piece.now)) items →
+            AreItemsOf (told_of result.1 self.new.splitter (take result.0 piece.now)) items →
             Gains self.old.splitter self.new.splitter (take result.0 piece.now) items }
         ensures more { result.1 ≡ Split.More → result.0 ≡ length piece.now }
         // No octet past the first that completes an item is taken.
@@ -193,6 +193,7 @@ impl Stream {
         ensures refused { IfErr result (λ refusal. AreItemsOf
             (Whole self.now.splitter.opened (lent self.now.splitter taken.now) ∷ [])
             (Refused refusal ∷ [])) }
+        // So the place, the header and the body are these.
         ensures place { IfOk result (λ frame. frame.0 ≡ self.now.splitter.opened) }
         ensures message { IfOk result (λ frame. Content frame.1 frame.2.now (lent self.now.splitter taken.now)) }
         ensures fields { IfOk result (λ frame. Reads (lent self.now.splitter taken.now) frame.1 frame.2.now) }
@@ -200,7 +201,7 @@ impl Stream {
         let opened = self.splitter.opened();
         match read_header(self.splitter.content_in(taken)) {
             Ok((header, body)) => Ok((opened, header, body)),
-            Err(refusal) => Err(in_frame(opened, refusal)),
+            Err(refusal) => Err(placed(opened, refusal)),
         }
     }
 

@@ -45,7 +45,8 @@ fn write_octets(text: &[u8], room: &mut [u8], end: usize) -> usize
 }
 
 /// Text that is put together from its end, in a room of 512 octets, so that it is pushed to a text at once. In clauses it is
-/// the list of its octets.
+/// the list of its octets. A call of this crate that is handed a line drops what it held, and does not say what it holds
+/// afterwards: it is handed on to save making it anew.
 #[derive(Drop)]
 pub struct Line {
     octets: [u8; ROOM],

@@ -305,20 +305,22 @@ fn lines_in_one_room(rt: HostRuntime) -> Result<(), Fail> {
     let mut line = Line::new();
     let mut text = String::new(alloc);
     let body =
-        b"\0\0\0\0\0\0\0\x03\x01\x31\x2d\0\x06\xbc\x3e\x40\0\0\0\0\0\0\0\0\0\0\0\0\x01\x03\0\0\x0a";
+        b"\0\0\0\0\0\0\0\x03\x01\x31\x2d\0\x06\xbc\x3e\x40\0\0\0\0\0\0\x24\x03\x05\x12\x34\x56\x01\x04\0\0\0\x0a\x30\x01\x19\x01\x03\0\0\x0a";
     let view = view_position(body).expect(&rt, "a position");
-    push_position_line(&mut text, &mut line, 0, &header(0x0200, None), view, 33)?;
+    push_position_line(&mut text, &mut line, 0, &header(0x0200, None), view, 42)?;
+    push_heartbeat_line(&mut text, &mut line, 57, &header(0x0002, None), 0)?;
+    let deregister = Message::Deregister;
     push_message_line(
         &mut text,
         &mut line,
-        48,
-        &header(0x0002, None),
-        &Message::Heartbeat,
+        72,
+        &header(0x0003, None),
+        &deregister,
         0,
     )?;
     assert_eq!(rt;
         text.as_str(),
-        "0 2013 0x0200 position phone=013912345678 serial=3 body=33 alarm=0x00000000 status=0x00000003 lat=20000000 lon=113000000 altitude=0 speed=0 direction=0 time=- item=0x01:00000a\n48 2013 0x0002 heartbeat phone=013912345678 serial=3 body=0\n"
+        "0 2013 0x0200 position phone=013912345678 serial=3 body=42 alarm=0x00000000 status=0x00000003 lat=20000000 lon=113000000 altitude=0 speed=0 direction=0 time=2024-03-05T12:34:56+08:00 item=0x01:10 item=0x30:25 item=0x01:00000a\n57 2013 0x0002 heartbeat phone=013912345678 serial=3 body=0\n72 2013 0x0003 deregister phone=013912345678 serial=3 body=0\n"
     );
     Ok(())
 }

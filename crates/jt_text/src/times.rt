@@ -1,6 +1,6 @@
 //! The test of a position's time.
 
-ghost use Rattle.std.specs.Prelude.{◌≡◌, ◌+◌, ◌/◌, ◌%◌, ◌&&◌, nat_le, pos};
+ghost use Rattle.std.specs.Prelude.{◌≡◌, ◌/◌, ◌%◌, ◌&&◌, nat_le, pos};
 ghost use Rattle.jiff.specs.Words.{days_in_month};
 ghost use Rattle.jt_position.specs.Moments.{decimal_of};
 ghost use Rattle.jt_text.specs.Times.{are_decimal, is_date, is_time, names_moment};

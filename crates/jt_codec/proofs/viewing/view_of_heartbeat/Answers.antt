@@ -1,14 +1,13 @@
 use Rattle.std.proofs.Common.{ap, Err, sym, ◌∙◌, arith}
 use Rattle.jt_value.specs.declared.refusal.Refusal.{Refusal}
 use Rattle.jt_codec.proofs.FrameLaws.{refused_at}
-use Rattle.jt_codec.proofs.JudgingLaws.{judged_inside}
-use Rattle.jt_codec.proofs.ViewingLaws.{heartbeat_read, heartbeat_refused}
+use Rattle.jt_codec.proofs.ViewingLaws.{heartbeat_read, heartbeat_refused, refused_inside}
 use Rattle.jt_codec.proofs.viewing.view_of_heartbeat.Goals as goal
 
 pub in_content-requires : goal.in_content-requires
 in_content-requires c =
     let h = c.args.header.now in
-    omega (arith, judged_inside h.edition h.id c.args.body.now c.in-Err.refusal (heartbeat_refused h.edition h.id c.args.body.now c.in-Err.refusal c.requires.id c.in-Err.ensures))
+    omega (arith, refused_inside h.edition h.id c.args.body.now c.in-Err.refusal (heartbeat_refused h.edition h.id c.args.body.now c.in-Err.refusal c.requires.id c.in-Err.ensures))
 
 pub returns-in-Ok : goal.returns-in-Ok
 returns-in-Ok c =
