@@ -106,8 +106,16 @@ fn pieces(rt: HostRuntime) {
 fn check_octets(rt: HostRuntime) {
     assert_eq!(rt; check(&[]), 0);
     assert_eq!(rt; check(&HEARTBEAT[1..13]), 0x32);
-    let numbers = *b"\x01\x02\x03\x04\x05\x06\x07\x08\x09\x0A\x0B\x0C\x0D\x0E\x0F\x10\x11\x12\x13\x14\x15\x16\x17\x18\x19\x1A\x1B\x1C\x1D\x1E\x1F\x20\x21\x22\x23";
-    for (count, all) in [(15, 0x00), (16, 0x10), (17, 0x01), (32, 0x20), (33, 0x01), (35, 0x00)] {
+    let numbers =
+        *b"\x01\x02\x03\x04\x05\x06\x07\x08\x09\x0A\x0B\x0C\x0D\x0E\x0F\x10\x11\x12\x13\x14\x15\x16\x17\x18\x19\x1A\x1B\x1C\x1D\x1E\x1F\x20\x21\x22\x23";
+    for (count, all) in [
+        (15, 0x00),
+        (16, 0x10),
+        (17, 0x01),
+        (32, 0x20),
+        (33, 0x01),
+        (35, 0x00),
+    ] {
         assert!(rt; count <= 35);
         assert_eq!(rt; check(&numbers[..count]), all);
     }
