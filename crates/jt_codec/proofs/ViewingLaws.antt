@@ -4,7 +4,6 @@ use Rattle.std.specs.Prelude.{is_some}
 use Rattle.jt_value.specs.declared.phone.Edition.{Edition}
 use Rattle.jt_value.specs.declared.phone.Edition.TheVariants.{E2013, E2019}
 use Rattle.jt_value.specs.declared.refusal.Refusal.{Refusal}
-use Rattle.jt_header.specs.Content.{header_len}
 use Rattle.jt_header.specs.declared.header.Packet.{Packet}
 use Rattle.jt_layout.specs.Layout.{Fills, empty}
 use Rattle.jt_layout.proofs.Answering.{answers_case}

@@ -1,8 +1,9 @@
 //! Bodies judged.
 
-ghost use Rattle.std.specs.Prelude.{◌≡◌, ◌<◌, ◌^◌, length, IfOk};
+ghost use Rattle.std.specs.Prelude.{◌≡◌, ◌<◌, ◌^◌, length, IfOk, IsOk, IsTrue};
 ghost use Rattle.std.specs.Result.{result_err};
 ghost use Rattle.jt_codec.specs.Parsing.{message_read};
+ghost use Rattle.jt_codec.specs.Viewing.{is_viewed};
 
 use crate::frame::read_message;
 use crate::viewing::view_message;
@@ -30,8 +31,9 @@ fn judge_made(alloc: Global, header: &Header, body: &[u8]) -> Result<Option<Refu
 #[inline(always)]
 pub fn judge_message(alloc: Global, header: &Header, body: &[u8]) -> Result<Option<Refusal>, Memory>
     requires { length body.now < 2 ^ 10 }
-    ensures { IfOk result (λ refusal. refusal
+    ensures refusal { IfOk result (λ refusal. refusal
         ≡ result_err (message_read header.now.packet header.now.edition header.now.id body.now)) }
+    ensures in_place { IsTrue (is_viewed header.now.packet header.now.id) → IsOk result }
 {
     match view_message(header, body) {
         Some(Ok(_)) => Ok(None),
