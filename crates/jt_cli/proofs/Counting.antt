@@ -1,15 +1,10 @@
 -- Entries of a stream, counted as they come.
-use Rattle.std.proofs.Common.{◌≡◌, ℕ, ◌+◌, List, [], ◌∷◌, ◌++◌, Option, Some, None, Result, Ok, Err, length, map, refl, sym, ap, subst, ◌∙◌, arith, length-append}
+use Rattle.std.proofs.Common.{◌≡◌, ℕ, ◌+◌, List, [], ◌∷◌, ◌++◌, Option, length, map, sym, ap, subst, ◌∙◌, arith, length-append}
 use Rattle.std.proofs.lemmas.List.{map-append}
 use Rattle.std.specs.Prelude.{option_to_list}
-use Rattle.jt_value.specs.declared.refusal.Refusal.{Refusal}
-use Rattle.std.specs.Result.{result_err}
-use Rattle.jt_codec.specs.declared.message.Message.{Message}
-use Rattle.jt_escape.specs.Scan.{State}
-use Rattle.jt_header.specs.declared.header.Header.{Header}
-use Rattle.jt_stream.specs.Item.{Item, Items, all_items, placed}
+use Rattle.jt_stream.specs.Item.{Item, Items, all_items}
 use Rattle.jt_stream.specs.Stream.{Gains}
-use Rattle.jt_cli.specs.Entry.{Entry, Frame, Refused, entry_of, entries_of, frame_entry, frames, refusals}
+use Rattle.jt_cli.specs.Entry.{Entry, Frame, Refused, entry_of, entries_of, frames, refusals}
 use Rattle.jt_cli.specs.Reporting.{Tally, Counts, Brings, IsCounted}
 
 pub frames-append : (xs ys : List Entry) → frames (xs ++ ys) ≡ frames xs + frames ys

@@ -1,17 +1,15 @@
 -- What a splitter tells of the octets that it took, as an entry.
 use Rattle.std.proofs.Common.{◌≡◌, ℕ, List, [], ◌∷◌, ◌++◌, Some, None, Result, Ok, Err, refl, ap, ◌∙◌, sym, append-nil}
-use Rattle.std.specs.Prelude.{option_to_list, IfOk}
+use Rattle.std.specs.Prelude.{IfOk}
 use Rattle.jt_value.specs.declared.memory.Memory.{Memory}
-use Rattle.jt_value.specs.declared.refusal.Refusal.{Refusal}
 use Rattle.jt_escape.specs.Scan.{State}
 use Rattle.jt_escape.specs.Splitter.{told_of}
 use Rattle.jt_escape.specs.declared.splitter.Split.{Split}
 use Rattle.jt_escape.specs.declared.splitter.Split.TheVariants as answer
 use Rattle.jt_stream.specs.Item.{Item, AreItemsOf}
-use Rattle.jt_stream.specs.Item as item
 use Rattle.jt_cli.specs.declared.judged.Judged.{Judged}
 use Rattle.jt_cli.specs.declared.judged.Judged.TheVariants as judgement
-use Rattle.jt_cli.specs.Entry.{Entry, Refused, entry_of, line_of}
+use Rattle.jt_cli.specs.Entry.{entry_of, line_of}
 use Rattle.jt_cli.specs.Reporting.{IsTold, JudgesTold, ViewsEntry, ViewsTold, judged}
 
 -- nothing is told
