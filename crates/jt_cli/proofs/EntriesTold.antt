@@ -137,12 +137,6 @@ checking_more old now next octets at count text text_now entry so_far few place 
   text_is = so_far.text_is;
 }
 
-pub viewing_done : (old now : Tally) (octets : List ℕ) (at : ℕ) (text text_now : List ℕ)
-    → ViewingOn old now octets at text text_now → length octets ≤ at → TellsOn View old now octets text text_now
-viewing_done old now octets at text text_now so_far end =
-    let all : take at octets ≡ octets = take_all at octets end in
-    subst (λ (xs : List ℕ). TellsOn View old now xs text text_now) all so_far.tells
-
 pub checking_done : (old now : Tally) (octets : List ℕ) (at : ℕ) (text text_now : List ℕ)
     → CheckingOn old now octets at text text_now → length octets ≤ at → TellsOn Check old now octets text text_now
 checking_done old now octets at text text_now so_far end =

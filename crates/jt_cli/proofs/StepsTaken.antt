@@ -1,7 +1,6 @@
 -- What a step of a run wrote.
 use Rattle.std.proofs.Common.{◌≡◌, ◌≤◌, ℕ, ◌+◌, List, [], ◌++◌, Option, Some, None, length, refl, sym, ap, subst, ◌∙◌, arith, inl, inr, append_assoc, append-nil, length-append}
 use Rattle.std.proofs.KnownBytes.{Appends-nil}
-use Rattle.std.specs.Io.KnownBytes.{Appends}
 use Rattle.jt_outside.specs.Sink.{AppendsPrefix}
 use Rattle.jt_cli.specs.Reply.{Reply}
 use Rattle.jt_cli.specs.declared.reporter.Reporter.{Reporter}
@@ -92,20 +91,6 @@ stepped items octets most old new piece text written now None result same fits a
     stepped_on items octets most old new piece text written now result same (fits refl) advances writes
 stepped items octets most old new piece text written now (Some status) result same fits advances writes =
     stepped_last most old new piece text written now status result advances writes
-
--- the input ended here and all was written
-pub finished : (most : ℕ) (old : Reporter) (text text_now : List ℕ) (written now : Option (List ℕ)) (status : Status)
-    → text ≡ [] → Ends old text text_now status → Appends written now text_now → Finishes most old written now status
-finished most old text text_now written now status none ends writes =
-    let added : text_now ≡ ends.added = ends.text_is ∙ ap (λ (xs : List ℕ). xs ++ ends.added) none in
-    inl (
-    record {
-      added = text_now;
-      writes = writes;
-      answer = λ seen stands fits.
-          rw (append-nil seen, added) (ends.answer seen stands most fits);
-    }
-    )
 
 -- the input ended here and the sink failed
 pub finished_part : (most : ℕ) (old : Reporter) (text text_now : List ℕ) (written now : Option (List ℕ)) (status : Status)

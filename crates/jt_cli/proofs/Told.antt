@@ -1,34 +1,22 @@
 -- What a splitter tells of the octets that it took, as an entry.
-use Rattle.std.proofs.Common.{◌≡◌, ℕ, List, [], ◌∷◌, ◌++◌, Some, None, Result, Ok, Err, refl, ap, ◌∙◌, sym, append-nil}
+use Rattle.std.proofs.Common.{◌≡◌, ℕ, List, [], ◌∷◌, ◌++◌, Some, Result, Ok, Err, refl, ap, ◌∙◌, sym, append-nil}
 use Rattle.std.specs.Prelude.{IfOk}
 use Rattle.jt_value.specs.declared.memory.Memory.{Memory}
 use Rattle.jt_escape.specs.Scan.{State}
 use Rattle.jt_escape.specs.Splitter.{told_of}
 use Rattle.jt_escape.specs.declared.splitter.Split.{Split}
-use Rattle.jt_escape.specs.declared.splitter.Split.TheVariants as answer
 use Rattle.jt_stream.specs.Item.{Item, AreItemsOf}
 use Rattle.jt_cli.specs.declared.judged.Judged.{Judged}
-use Rattle.jt_cli.specs.declared.judged.Judged.TheVariants as judgement
 use Rattle.jt_cli.specs.Entry.{entry_of, line_of}
 use Rattle.jt_cli.specs.Reporting.{IsTold, JudgesTold, ViewsEntry, ViewsTold, judged}
-
--- nothing is told
-told_none : (state : State) (taken : List ℕ) → IsTold answer.More state taken None
-told_none state taken = record { items = []; each = tt; entry_is = refl }
 
 -- one item is told
 told_item : (split : Split) (state : State) (taken : List ℕ) (one : Item) → AreItemsOf (told_of split state taken) (one ∷ []) → IsTold split state taken (Some (entry_of one))
 told_item split state taken one each = record { items = one ∷ []; each = each; entry_is = refl }
 
-pub judges_none : (state : State) (taken : List ℕ) → JudgesTold answer.More state taken judgement.Nothing
-judges_none state taken = record { entry = None; told = told_none state taken; judgement_is = refl }
-
 pub judges_item : (split : Split) (state : State) (taken : List ℕ) (one : Item) (judgement : Judged) → AreItemsOf (told_of split state taken) (one ∷ [])
     → judgement ≡ judged (Some (entry_of one)) → JudgesTold split state taken judgement
 judges_item split state taken one judgement each is = record { entry = Some (entry_of one); told = told_item split state taken one each; judgement_is = is }
-
-pub views_none : (state : State) (taken text : List ℕ) → ViewsTold answer.More state taken judgement.Nothing text text
-views_none state taken text = record { entry = None; told = told_none state taken; judgement_is = refl; text_is = sym (append-nil text) }
 
 pub views_item : (split : Split) (state : State) (taken : List ℕ) (one : Item) (judgement : Judged) (text text_now : List ℕ) → AreItemsOf (told_of split state taken) (one ∷ [])
     → ViewsEntry (entry_of one) judgement text text_now → ViewsTold split state taken judgement text text_now

@@ -1,16 +1,15 @@
 //! The lines of refusals.
 
-ghost use Rattle.std.specs.Prelude.{◌≡◌, ◌++◌, string_bytes, IfOk, OnOk};
+ghost use Rattle.std.specs.Prelude.{◌≡◌, ◌+◌, ◌≤◌, ◌++◌, length, string_bytes, IfOk, OnOk};
 ghost use Rattle.jt_text.specs.Refusals.{refusal_line, why_name, why_values};
-ghost use Rattle.jt_value.specs.declared.refusal.Why.TheVariants as why;
 
-use crate::values::{push_digits, push_number};
+use crate::line::Line;
 use jt_value::{Memory, Octets, Refusal, Why};
 use std::alloc::{AllocError, Global};
-use std::fmt::Write;
 
 fn why_name(why: Why) -> &'static str
-    ensures { result.now ≡ why_name why }
+    ensures name { result.now ≡ why_name why }
+    ensures short { length result.now ≤ 15 }
 {
     match why {
         Why::Stray => "Stray",
@@ -30,45 +29,46 @@ fn why_name(why: Why) -> &'static str
     }
 }
 
-// The check octet that was computed and the one that was found.
+// The values that a reason compares, if it does.
 #[tactic(auto, using(std::proofs::Common::append_assoc))]
-fn push_check_octets(text: &mut String, computed: u8, found: u8) -> Result<(), AllocError>
-    ensures { OnOk result (string_bytes text.new ≡ string_bytes text.old ++ why_values (why.CheckMismatch computed found)) }
-{
-    push_digits(text, " computed=", &[computed])?;
-    push_digits(text, " found=", &[found])
-}
-
-// The length that the header has and the one that the body has.
-#[tactic(auto, using(std::proofs::Common::append_assoc))]
-fn push_lengths(text: &mut String, declared: u16, actual: u16) -> Result<(), AllocError>
-    ensures { OnOk result (string_bytes text.new ≡ string_bytes text.old ++ why_values (why.LengthMismatch declared actual)) }
-{
-    push_number(text, " declared=", declared as u64)?;
-    push_number(text, " actual=", actual as u64)
-}
-
-fn push_why_values(text: &mut String, why: Why) -> Result<(), AllocError>
-    ensures { OnOk result (string_bytes text.new ≡ string_bytes text.old ++ why_values why) }
+fn put_why_values(line: &mut Line, why: Why)
+    requires { length line.old ≤ 400 }
+    ensures text { line.new ≡ why_values why ++ line.old }
+    ensures room { length line.new ≤ length line.old + 60 }
 {
     match why {
-        Why::CheckMismatch { computed, found } => push_check_octets(text, computed, found),
-        Why::LengthMismatch { declared, actual } => push_lengths(text, declared, actual),
-        _ => Ok(()),
+        Why::CheckMismatch { computed, found } => {
+            line.put_named_octet(" found=", found);
+            line.put_named_octet(" computed=", computed);
+        }
+        Why::LengthMismatch { declared, actual } => {
+            line.put_named_number(" actual=", actual as u64);
+            line.put_named_number(" declared=", declared as u64);
+        }
+        _ => {}
     }
+}
+
+#[tactic(auto, using(std::proofs::Common::append_assoc), unfolding(crate::specs::Refusals::refusal_line))]
+fn put_refusal(line: &mut Line, refusal: &Refusal)
+    requires { length line.old ≤ 200 }
+    ensures { line.new ≡ refusal_line refusal.now ++ line.old }
+{
+    line.put_str("\n");
+    put_why_values(line, refusal.why);
+    line.put_copy(why_name(refusal.why));
+    line.put_str(" refused ");
+    line.put_named_number("+", refusal.inside);
+    line.put_number(refusal.at);
 }
 
 /// Puts the line of a refusal at the end of a text: its place, its offset and its reason.
 pub fn push_refusal_line(text: &mut String, refusal: &Refusal) -> Result<(), AllocError>
     ensures { OnOk result (string_bytes text.new ≡ string_bytes text.old ++ refusal_line refusal.now) }
 {
-    let at = refusal.at;
-    let inside = refusal.inside;
-    let why = why_name(refusal.why);
-    write!(text, "{at}+{inside} refused {why}")?;
-    push_why_values(text, refusal.why)?;
-    text.push_str("\n")?;
-    Ok(())
+    let mut line = Line::new();
+    put_refusal(&mut line, refusal);
+    line.push_to(text)
 }
 
 /// The line of a refusal, as a text of its own.
