@@ -3,7 +3,7 @@ use Rattle.std.proofs.Common.{◌≡◌, ℕ, ◌+◌, List, [], ◌∷◌, ◌+
 use Rattle.std.proofs.lemmas.List.{map-append}
 use Rattle.std.specs.Prelude.{option_to_list}
 use Rattle.jt_stream.specs.Item.{Item, Items, all_items}
-use Rattle.jt_stream.specs.Stream.{Gains}
+use Rattle.jt_stream.specs.Stream.{GainsInPlace}
 use Rattle.jt_cli.specs.Entry.{Entry, Frame, Refused, entry_of, entries_of, frames, refusals}
 use Rattle.jt_cli.specs.Reporting.{Tally, Counts, Brings, IsCounted}
 
@@ -31,18 +31,18 @@ entries_of-more before octets gained more = ap (map entry_of) more ∙ map-appen
 -- octets that gained items were taken, and the entry of these was counted
 pub brings : ((stream : List ℕ) (list : List Item) → Items stream list → list ≡ all_items stream)
     → (old mid new : Tally) (octets : List ℕ) (gained : List Item) (entry : Option Entry)
-    → Gains old.stream.splitter mid.stream.splitter octets gained → option_to_list entry ≡ map entry_of gained
+    → GainsInPlace old.stream.splitter mid.stream.splitter octets gained → option_to_list entry ≡ map entry_of gained
     → mid.stream.splitter.place ≡ old.stream.splitter.place + length octets
     → mid.frames ≡ old.frames → mid.refused ≡ old.refused → IsCounted mid new entry → Brings old new octets entry
 brings only old mid new octets gained entry gains is place frames_kept refused_kept counted =
     let items_more : (before : List ℕ) → Counts old before → all_items (before ++ octets) ≡ all_items before ++ gained =
-    λ before counts. all_items-more only before octets gained (gains.items before (all_items before) counts.stands counts.items) in
+    λ before counts. all_items-more only before octets gained (gains.items before (all_items before) counts.continues counts.items) in
     let entries_more : (before : List ℕ) → Counts old before → entries_of (before ++ octets) ≡ entries_of before ++ option_to_list entry =
     λ before counts. entries_of-more before octets gained (items_more before counts) ∙ ap (λ (xs : List Entry). entries_of before ++ xs) (sym is) in
     record {
       counts = λ before counts. record {
-        stands = rw counted.stream (gains.stands before counts.stands);
-        items = subst (λ (list : List Item). Items (before ++ octets) list) (sym (items_more before counts)) (gains.items before (all_items before) counts.stands counts.items);
+        continues = rw counted.stream (gains.stands before counts.continues);
+        items = subst (λ (list : List Item). Items (before ++ octets) list) (sym (items_more before counts)) (gains.items before (all_items before) counts.continues counts.items);
         place = rw counted.stream (omega (arith, place, counts.place, length-append before octets));
         frames =
             let e = entries_more before counts in

@@ -3,7 +3,7 @@ use Rattle.std.specs.Prelude.{◌≡◌, ℕ, ◌+◌, List, ◌++◌, length, B
 use Rattle.jt_value.specs.declared.refusal.Refusal.{Refusal}
 use Rattle.jt_escape.specs.Splitter as splitter
 use Rattle.jt_escape.specs.Scan.{State}
-use Rattle.jt_escape.specs.Splitter.{told_of}
+use Rattle.jt_escape.specs.Splitter.{told_in_place}
 use Rattle.jt_escape.specs.declared.splitter.Split.{Split}
 use Rattle.jt_stream.specs.Item.{Item, Items, AreItemsOf, all_items}
 use Rattle.jt_stream.specs.Stream.{Held}
@@ -25,7 +25,7 @@ pub record Tally : Type 0 where
 
 -- these octets were taken, and their entries counted
 pub record Counts (tally : Tally) (octets : List ℕ) : Type 0 where
-  pub stands : splitter.StandsFor tally.stream.splitter octets
+  pub continues : splitter.Continues tally.stream.splitter octets
   pub items : Items octets (all_items octets)
   pub place : tally.stream.splitter.place ≡ length octets
   pub frames : tally.frames ≡ frames (entries_of octets)
@@ -51,7 +51,7 @@ judged (Some (Refused refusal)) = judgement.Refused refusal
 -- what a splitter answered to these octets tells this entry or none
 pub record IsTold (answer : Split) (state : State) (taken : List ℕ) (entry : Option Entry) : Type 0 where
   pub items : List Item
-  pub each : AreItemsOf (told_of answer state taken) items
+  pub each : AreItemsOf (told_in_place answer state taken) items
   pub entry_is : option_to_list entry ≡ map entry_of items
 
 -- the judgement is that of the entry that the splitter told of these octets

@@ -69,7 +69,8 @@ impl Tally {
         Ok(count)
     }
 
-    /// The same where nothing is printed, and only a refusal is asked for: how many octets were taken, and the refusal, if the entry is one.
+    /// The same where nothing is printed, and only a refusal is asked for: how many octets were taken, and the refusal, if
+    /// the entry is one.
     #[inline(always)]
     pub fn judge(&mut self, alloc: Global, piece: &[u8]) -> Result<(usize, Option<Refusal>), Memory>
         requires some { 0 < length piece.now }

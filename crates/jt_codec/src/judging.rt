@@ -1,6 +1,6 @@
 //! Bodies judged.
 
-ghost use Rattle.std.specs.Prelude.{◌≡◌, ◌<◌, ◌^◌, length, IfOk, IsOk, IsTrue};
+ghost use Rattle.std.specs.Prelude.{◌≡◌, ◌⊎◌, ◌<◌, ◌^◌, length, IfOk, IsOk, IsSome, IsTrue};
 ghost use Rattle.std.specs.Result.{result_err};
 ghost use Rattle.jt_codec.specs.Parsing.{message_read};
 ghost use Rattle.jt_codec.specs.Viewing.{is_viewed};
@@ -26,18 +26,20 @@ fn judge_made(alloc: Global, header: &Header, body: &[u8]) -> Result<Option<Refu
 }
 
 /// The first reason against the body behind this header, of at most 1,023 octets, with its offset in the content and `at`
-/// 0, or None where `read_message` has a message of it. Heartbeats and positions that are no packets are judged in place and
-/// take no memory; of every other body a message is made and dropped.
+/// 0, or None where `read_message` has a message of it. Heartbeats, positions and packets are judged in place and take no
+/// memory; of every other body a message is made and dropped.
 #[inline(always)]
 pub fn judge_message(alloc: Global, header: &Header, body: &[u8]) -> Result<Option<Refusal>, Memory>
     requires { length body.now < 2 ^ 10 }
     ensures refusal { IfOk result (λ refusal. refusal
         ≡ result_err (message_read header.now.packet header.now.edition header.now.id body.now)) }
-    ensures in_place { IsTrue (is_viewed header.now.packet header.now.id) → IsOk result }
+    ensures no_memory { IsTrue (is_viewed header.now.packet header.now.id) ⊎ IsSome header.now.packet → IsOk result }
 {
     match view_message(header, body) {
         Some(Ok(_)) => Ok(None),
         Some(Err(refusal)) => Ok(Some(refusal)),
+        // A part of a message is not read.
+        None if header.packet.is_some() => Ok(None),
         None => judge_made(alloc, header, body),
     }
 }

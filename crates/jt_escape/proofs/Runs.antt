@@ -8,8 +8,8 @@ use Rattle.std.proofs.lemmas.List.{append-nil, take-append-le, take-append-drop,
 use Rattle.jt_escape.specs.declared.splitter.Mode.{Mode}
 use Rattle.jt_escape.specs.declared.splitter.Mode.TheVariants as modes
 use Rattle.jt_escape.specs.Span.{Event, HasNoFlag, Events}
-use Rattle.jt_escape.specs.Scan.{State, start, after, events_of, run, scan, IsPlain, keeping_all, passing_all, opening, lasting, IsAlike, Runs}
-use Rattle.jt_escape.specs.Splitter.{Takes, IsSilent}
+use Rattle.jt_escape.specs.Scan.{State, start, after, events_of, run, scan, IsPlain, keeping_all, passing_all, opening, lasting, Runs, RunsInPlace}
+use Rattle.jt_escape.specs.Splitter.{Takes, TakesInPlace, IsSilent, IsSilentInPlace}
 use Rattle.jt_escape.proofs.Scanning.{at}
 use Rattle.jt_escape.proofs.Reading.{scan-append, run-append, events_held, events_only}
 use Rattle.jt_escape.proofs.Lasting.{run_like, scan_like}
@@ -28,7 +28,7 @@ quiet_front state octets count none =
     (sym (scan-append (take count octets) (drop count octets) state) ∙ apart)
 
 pub Runs-quiet : (old new : State) (octets : List ℕ) → new ≡ run old octets → scan old octets ≡ [] → Runs old new octets []
-Runs-quiet old new octets e none = record { reached = ap lasting e; read = sym none; quiet = λ count lt. quiet_front old octets count none }
+Runs-quiet old new octets e none = record { reached = e; read = sym none; quiet = λ count lt. quiet_front old octets count none }
 
 -- no octets
 pub Runs-none : (state : State) → Runs state state [] []
@@ -41,11 +41,11 @@ quiet_one state octet (suc count) lt = absurd (omega (arith, lt))
 -- one octet
 pub Runs-one : (old new : State) (octet : ℕ) (events : List Event) → new ≡ after old octet → events ≡ events_of old octet → Runs old new (octet ∷ []) events
 Runs-one old new octet events e f =
-    record { reached = ap lasting e; read = f ∙ sym (append-nil (events_of old octet)); quiet = λ count lt. quiet_one old octet count lt }
+    record { reached = e; read = f ∙ sym (append-nil (events_of old octet)); quiet = λ count lt. quiet_one old octet count lt }
 
--- a state that is like the one that is led to
-pub Runs-like : (a b c : State) (octets : List ℕ) (events : List Event) → Runs a b octets events → IsAlike c b → Runs a c octets events
-Runs-like a b c octets events runs like = record { reached = like ∙ runs.reached; read = runs.read; quiet = runs.quiet }
+-- a state is alike itself
+pub Runs-kept : (old new : State) (octets : List ℕ) (events : List Event) → Runs old new octets events → RunsInPlace old new octets events
+Runs-kept old new octets events runs = record { kept = new; runs = runs; alike = refl }
 
 quiet_then : (a b : State) (x y : List ℕ) (count : ℕ) → Runs a b x [] → ((count : ℕ) → count < length y → scan b (take count y) ≡ [])
     → count < length (x ++ y) → scan a (take count (x ++ y)) ≡ []
@@ -56,7 +56,7 @@ quiet_then a b x y count first second lt =
           let more : ℕ = count - length x in
           let total : length x + more ≡ count = omega (arith, past) in
           ap (λ (n : ℕ). scan a (take n (x ++ y))) (sym total) ∙ ap (scan a) (take-append-add x y more) ∙ scan-append x (take more y) a
-          ∙ ap (λ (xs : List Event). xs ++ scan (run a x) (take more y)) (sym first.read) ∙ sym (scan_like (take more y) b (run a x) first.reached)
+          ∙ ap (λ (xs : List Event). xs ++ scan (run a x) (take more y)) (sym first.read) ∙ ap (λ (s : State). scan s (take more y)) (sym first.reached)
           ∙ second more (omega (arith, lt, past, length-append x y))
     ]
 
@@ -64,8 +64,8 @@ quiet_then a b x y count first second lt =
 pub Runs-then : (a b c : State) (x y : List ℕ) (g : List Event) → Runs a b x [] → Runs b c y g → Runs a c (x ++ y) g
 Runs-then a b c x y g first second =
     record {
-      reached = second.reached ∙ run_like y b (run a x) first.reached ∙ sym (ap lasting (run-append x y a));
-      read = second.read ∙ scan_like y b (run a x) first.reached ∙ ap (λ (xs : List Event). xs ++ scan (run a x) y) first.read ∙ sym (scan-append x y a);
+      reached = second.reached ∙ ap (λ (s : State). run s y) first.reached ∙ sym (run-append x y a);
+      read = second.read ∙ ap (λ (s : State). scan s y) first.reached ∙ ap (λ (xs : List Event). xs ++ scan (run a x) y) first.read ∙ sym (scan-append x y a);
       quiet = λ count lt. quiet_then a b x y count first second.quiet lt;
     }
 
@@ -89,33 +89,58 @@ pub Runs-first : (a b c : State) (piece : List ℕ) (n : ℕ) (g : List Event) �
 Runs-first a b c piece n g some reached quiet second = Runs-onward a b c piece 1 n g (Runs-next a a b piece 0 [] some (Runs-none a) reached (sym quiet)) second
 
 -- a flag outside opens a frame
-pub opens_frame : (old : State) (octet : ℕ) → old.mode ≡ modes.Outside → octet ≡ 0x7E → (after old octet ≡ opening old) × (events_of old octet ≡ [])
+pub opens_frame : (old : State) (octet : ℕ) → (old.mode ≡ modes.Outside) ⊎ (old.mode ≡ modes.Straying) → octet ≡ 0x7E
+    → (after old octet ≡ opening old) × (events_of old octet ≡ [])
 unfolding after events_of
-opens_frame old octet is flag = (rw (is, flag) refl, rw (is, flag) refl)
+opens_frame old octet (inl is) flag = (rw (is, flag) refl, rw (is, flag) refl)
+opens_frame old octet (inr is) flag = (rw (is, flag) refl, rw is refl)
 
 -- ---- what a run is to the streams
+
+-- what is scanned behind a stream is what its events gain
+gains_scanned : (stream octets : List ℕ) (before events : List Event) → scan (run start stream) octets ≡ events → Events stream before → Events (stream ++ octets) (before ++ events)
+gains_scanned stream octets before events same held =
+    let whole : scan start (stream ++ octets) ≡ before ++ events =
+    scan-append stream octets start ∙ ap (λ (xs : List Event). scan start stream ++ xs) same ∙ ap (λ (xs : List Event). xs ++ events) (sym (events_only stream before held)) in
+    subst (Events (stream ++ octets)) whole (events_held (stream ++ octets))
 
 pub takes_run : (old new : State) (octets : List ℕ) (events : List Event) → Runs old new octets events → Takes old new octets events
 takes_run old new octets events runs =
     record {
-      stands = λ stream h. record { taken = runs.reached ∙ run_like octets old (run start stream) h.taken ∙ sym (ap lasting (run-append stream octets start)) };
-      events = λ stream before h x.
-          let same : scan (run start stream) octets ≡ events = sym (scan_like octets old (run start stream) h.taken) ∙ sym runs.read in
-          let whole : scan start (stream ++ octets) ≡ before ++ events =
-          scan-append stream octets start ∙ ap (λ (xs : List Event). scan start stream ++ xs) same ∙ ap (λ (xs : List Event). xs ++ events) (sym (events_only stream before x)) in
-          subst (Events (stream ++ octets)) whole (events_held (stream ++ octets));
+      stands = λ stream h. record { taken = runs.reached ∙ ap (λ (state : State). run state octets) h.taken ∙ sym (run-append stream octets start) };
+      events = λ stream before h held. gains_scanned stream octets before events (ap (λ (state : State). scan state octets) (sym h.taken) ∙ sym runs.read) held;
     }
 
-silent : (old : State) (octets : List ℕ) → scan old octets ≡ [] → IsSilent old octets
-silent old octets none = λ stream before h x.
-    subst (Events (stream ++ octets)) (append-nil before) ((takes_run old (run old octets) octets [] (Runs-quiet old (run old octets) octets refl none)).events stream before h x)
+pub takes_in_place : (old new : State) (octets : List ℕ) (events : List Event) → RunsInPlace old new octets events → TakesInPlace old new octets events
+takes_in_place old new octets events in_place =
+    let runs = in_place.runs in
+    record {
+      stands = λ stream h. record {
+        taken = in_place.alike ∙ ap lasting runs.reached ∙ run_like octets old (run start stream) h.taken ∙ sym (ap lasting (run-append stream octets start));
+      };
+      events = λ stream before h held. gains_scanned stream octets before events (sym (scan_like octets old (run start stream) h.taken) ∙ sym runs.read) held;
+    }
 
--- no front of the octets that were taken brings an event
+-- the octets of a run before its last bring no event
+quiet_before : (old new : State) (piece : List ℕ) (count : ℕ) (events : List Event) → Runs old new (take count piece) events → count ≤ length piece
+    → (fewer : ℕ) → fewer < count → scan old (take fewer piece) ≡ []
+quiet_before old new piece count events runs within fewer below =
+    ap (scan old) (sym (take-take fewer count piece (omega (arith, below)))) ∙ runs.quiet fewer (omega (arith, below, length-take-le count piece within))
+
+-- and so no front of the octets that were taken
 pub silent_before : (old new : State) (piece : List ℕ) (count : ℕ) (events : List Event) → Runs old new (take count piece) events → count ≤ length piece
     → (fewer : ℕ) → fewer < count → IsSilent old (take fewer piece)
-silent_before old new piece count events runs within fewer below =
-    let same : take fewer (take count piece) ≡ take fewer piece = take-take fewer count piece (omega (arith, below)) in
-    silent old (take fewer piece) (ap (scan old) (sym same) ∙ runs.quiet fewer (omega (arith, below, length-take-le count piece within)))
+silent_before old new piece count events runs within fewer below = λ stream before h held.
+    let none : scan old (take fewer piece) ≡ [] = quiet_before old new piece count events runs within fewer below in
+    subst (Events (stream ++ take fewer piece)) (append-nil before)
+    (gains_scanned stream (take fewer piece) before [] (ap (λ (state : State). scan state (take fewer piece)) (sym h.taken) ∙ none) held)
+
+pub silent_in_place : (old new : State) (piece : List ℕ) (count : ℕ) (events : List Event) → RunsInPlace old new (take count piece) events → count ≤ length piece
+    → (fewer : ℕ) → fewer < count → IsSilentInPlace old (take fewer piece)
+silent_in_place old new piece count events in_place within fewer below = λ stream before h held.
+    let none : scan old (take fewer piece) ≡ [] = quiet_before old in_place.kept piece count events in_place.runs within fewer below in
+    subst (Events (stream ++ take fewer piece)) (append-nil before)
+    (gains_scanned stream (take fewer piece) before [] (sym (scan_like (take fewer piece) old (run start stream) h.taken) ∙ none) held)
 
 -- ---- runs of octets that are kept, or passed over
 

@@ -8,14 +8,18 @@ use Rattle.jt_escape.specs.declared.splitter.Split.{Split}
 use Rattle.jt_escape.specs.declared.splitter.Split.TheVariants as split
 use Rattle.jt_escape.specs.Span.{Whole, Ends}
 use Rattle.jt_escape.specs.Scan.{end_of_stream, State, start, after, after_in, events_of, events_in, run, end_in}
-use Rattle.jt_escape.specs.Splitter.{StandsFor, told}
+use Rattle.jt_escape.specs.Splitter.{StandsFor, Continues, told}
 use Rattle.jt_escape.proofs.Lasting.{end_like}
 use Rattle.jt_escape.proofs.Reading.{ended, whole_is}
 
--- the end of a stream by the state that stands for it
+-- the end of a stream by the state that stands for it, or continues it
 pub end_now : (state : State) (stream : List ℕ) (end : Option Refusal) → end ≡ end_in state.mode state.place → StandsFor state stream → Ends stream end
 unfolding end_of_stream
-end_now state stream end e h = subst (Ends stream) (sym (e ∙ end_like state (run start stream) h.taken)) (ended stream)
+end_now state stream end e h = subst (Ends stream) (ap (λ (x : State). end_in x.mode x.place) (sym h.taken) ∙ sym e) (ended stream)
+
+pub end_in_place : (state : State) (stream : List ℕ) (end : Option Refusal) → end ≡ end_in state.mode state.place → Continues state stream → Ends stream end
+unfolding end_of_stream
+end_in_place state stream end e h = subst (Ends stream) (sym (e ∙ end_like state (run start stream) h.taken)) (ended stream)
 
 -- each step is one octet
 place_in : (mode : Mode) (state : State) (octet : ℕ) → (after_in mode state octet).place ≡ state.place + 1

@@ -110,24 +110,30 @@ passing_all state octets =
 abbrev pub lending : State → ℕ → State
 lending state count = record { mode = Outside; content = []; place = state.place + (count + 2); opened = state.place }
 
--- what no later octet sees is put to [] and 0
-abbrev pub lasting_in : Mode → State → State
-lasting_in Outside state = record { mode = Outside; content = []; place = state.place; opened = 0 }
-lasting_in Straying state = record { mode = Straying; content = []; place = state.place; opened = 0 }
-lasting_in Inside state = record state { mode = Inside }
-lasting_in Escaping state = record state { mode = Escaping }
-lasting_in Skipping state = record { mode = Skipping; content = []; place = state.place; opened = 0 }
+-- the content on which answers to later octets depend: the one that is being gathered, if there is one
+abbrev pub gathered : Mode → List ℕ → List ℕ
+gathered Outside content = []
+gathered Straying content = []
+gathered Inside content = content
+gathered Escaping content = content
+gathered Skipping content = []
 
--- What later octets see of a state: outside a frame neither the last content nor its opening flag.
+-- all of a state on which answers to later octets depend
 unfoldable pub lasting : State → State
-lasting state = lasting_in state.mode state
+lasting state = record state { content = gathered state.mode state.content }
 
--- Later octets see the same of both: the mode, the place and, where a frame is open, its content and its opening flag.
-abbrev pub IsAlike : State → State → Type 0
-IsAlike a b = lasting a ≡ lasting b
+-- Answers to later octets are the same in both: they differ at most in a content that is no longer being gathered.
+abbrev pub AreAlike : State → State → Type 0
+AreAlike a b = lasting a ≡ lasting b
 
--- the octets lead from the old state to one like the new one and have these events, and none before the last octet
+-- the octets lead from the old state to the new one and have these events, and none before the last octet
 pub record Runs (old new : State) (octets : List ℕ) (events : List Event) : Type 0 where
-  pub reached : IsAlike new (run old octets)
+  pub reached : new ≡ run old octets
   pub read : events ≡ scan old octets
   pub quiet : (count : ℕ) → count < length octets → scan old (take count octets) ≡ []
+
+-- the same, to a state that is alike the new one
+pub record RunsInPlace (old new : State) (octets : List ℕ) (events : List Event) : Type 0 where
+  pub kept : State
+  pub runs : Runs old kept octets events
+  pub alike : AreAlike new kept

@@ -4,8 +4,8 @@ ghost use Rattle.std.specs.Prelude.{◌≡◌, ◌⊎◌, ◌<◌, ◌≤◌, �
 ghost use Rattle.jt_value.specs.declared.refusal.Refusal.{Refusal};
 ghost use Rattle.jt_escape.specs.declared.splitter.Mode.TheVariants.{Outside, Straying, Inside, Escaping, Skipping};
 ghost use Rattle.jt_escape.specs.Span.{Ends, HasNoFlag, IsContent, refusal_at};
-ghost use Rattle.jt_escape.specs.Scan.{State, opening, passing, passing_all, keeping, keeping_all, lending, after_in, after, events_in, events_of, end_in, IsPlain, Runs};
-ghost use Rattle.jt_escape.specs.Splitter.{StandsFor, Takes, IsSilent, told, lent, told_of};
+ghost use Rattle.jt_escape.specs.Scan.{State, opening, passing, passing_all, keeping, keeping_all, lending, after_in, after, events_in, events_of, end_in, IsPlain, Runs, RunsInPlace};
+ghost use Rattle.jt_escape.specs.Splitter.{StandsFor, Continues, Takes, TakesInPlace, IsSilent, IsSilentInPlace, told, lent, told_in_place};
 
 use crate::framing::{CONTENT_LIMIT, ESCAPE, ESCAPE_CODE, FLAG, FLAG_CODE};
 use arrayvec::ArrayVec;
@@ -115,6 +115,7 @@ impl Splitter {
     /// A splitter at the beginning of a stream.
     pub fn new() -> Splitter
         ensures stream { StandsFor result [] }
+        ensures in_place { Continues result [] }
         ensures place { result.place ≡ 0 }
     {
         Splitter {
@@ -423,9 +424,12 @@ impl Splitter {
         ensures some { 0 < length piece.now → 0 < result.0 }
         ensures place { self.new.place ≡ self.old.place + result.0 }
         ensures events { Takes self.old self.new (take result.0 piece.now) (told result.1 self.new) }
+        // The same also holds after `take_in_place`.
+        ensures in_place { TakesInPlace self.old self.new (take result.0 piece.now) (told result.1 self.new) }
         ensures more { result.1 ≡ Split.More → result.0 ≡ length piece.now }
         // No octet past the first that completes something is taken.
         ensures first { (count : ℕ) → count < result.0 → IsSilent self.old (take count piece.now) }
+        ensures first_in_place { (count : ℕ) → count < result.0 → IsSilentInPlace self.old (take count piece.now) }
         ensures content { result.1 ≡ Split.Content → 0 < length self.new.content }
     {
         self.take_all(piece)
@@ -435,9 +439,9 @@ impl Splitter {
     #[inline(always)]
     fn lend(&mut self, count: usize)
         requires place { self.old.place + (count + 2) < 2 ^ 63 }
-        requires mode { self.old.mode ≡ Outside }
         ensures { self.new ≡ lending self.old count }
     {
+        self.mode = Mode::Outside;
         let place = self.place;
         self.opened = place;
         self.place = place + count as u64 + 2;
@@ -453,12 +457,12 @@ impl Splitter {
         requires { self.old.place + length piece.now < 2 ^ 63 }
         ensures within { IfSome result (λ taken. (0 < taken) × (taken ≤ length piece.now)) }
         ensures place { IfSome result (λ taken. self.new.place ≡ self.old.place + taken) }
-        ensures runs { IfSome result (λ taken. Runs self.old self.new (take taken piece.now)
-            (told_of Split.Content self.new (take taken piece.now))) }
+        ensures runs { IfSome result (λ taken. RunsInPlace self.old self.new (take taken piece.now)
+            (told_in_place Split.Content self.new (take taken piece.now))) }
         ensures content { IfSome result (λ taken. IsContent (lent self.new (take taken piece.now))) }
         ensures none { IfNone result (self.new ≡ self.old) }
     {
-        if self.mode != Mode::Outside {
+        if !matches!(self.mode, Mode::Outside | Mode::Straying) {
             return None;
         }
         let count = plain_frame(piece)?;
@@ -472,8 +476,8 @@ impl Splitter {
         ensures within { result.0 ≤ length piece.now }
         ensures some { 0 < length piece.now → 0 < result.0 }
         ensures place { self.new.place ≡ self.old.place + result.0 }
-        ensures runs { Runs self.old self.new (take result.0 piece.now)
-            (told_of result.1 self.new (take result.0 piece.now)) }
+        ensures runs { RunsInPlace self.old self.new (take result.0 piece.now)
+            (told_in_place result.1 self.new (take result.0 piece.now)) }
         ensures more { result.1 ≡ Split.More → result.0 ≡ length piece.now }
         ensures content { result.1 ≡ Split.Content → IsContent (lent self.new (take result.0 piece.now)) }
     {
@@ -483,20 +487,20 @@ impl Splitter {
         answer
     }
 
-    /// Takes the stream's next octets as `take` does, and `content_in` then gives the content. That of a frame with which the
-    /// piece begins, outside all frames, whole and without escapes, stays in the piece and is not copied. The octets taken so
-    /// far and the piece are together fewer than 2^63.
+    /// Takes the stream's next octets as `take` does, and `content_in` then gives the content. Where the piece begins, outside
+    /// all frames, with a frame that is whole and without escapes, its content stays in the piece and is not copied. The
+    /// octets taken so far and the piece are together fewer than 2^63.
     #[inline(always)]
     pub fn take_in_place(&mut self, piece: &[u8]) -> (usize, Split)
         requires { self.old.place + length piece.now < 2 ^ 63 }
         ensures taken { result.0 ≤ length piece.now }
         ensures some { 0 < length piece.now → 0 < result.0 }
         ensures place { self.new.place ≡ self.old.place + result.0 }
-        ensures events { Takes self.old self.new (take result.0 piece.now)
-            (told_of result.1 self.new (take result.0 piece.now)) }
+        ensures events { TakesInPlace self.old self.new (take result.0 piece.now)
+            (told_in_place result.1 self.new (take result.0 piece.now)) }
         ensures more { result.1 ≡ Split.More → result.0 ≡ length piece.now }
         // No octet past the first that completes something is taken.
-        ensures first { (count : ℕ) → count < result.0 → IsSilent self.old (take count piece.now) }
+        ensures first { (count : ℕ) → count < result.0 → IsSilentInPlace self.old (take count piece.now) }
         ensures content { result.1 ≡ Split.Content → IsContent (lent self.new (take result.0 piece.now)) }
     {
         match self.take_plain(piece) {
@@ -523,6 +527,8 @@ impl Splitter {
         requires { self.old.place < 2 ^ 63 }
         ensures place { self.new.place ≡ self.old.place + 1 }
         ensures events { Takes self.old self.new (octet ∷ []) (told result self.new) }
+        // The same also holds after `take_in_place`.
+        ensures in_place { TakesInPlace self.old self.new (octet ∷ []) (told result self.new) }
         ensures content { result ≡ Split.Content → 0 < length self.new.content }
     {
         self.step(octet)
@@ -558,7 +564,9 @@ impl Splitter {
 
     /// Judges the stream's end: `Truncated` at the stream's length where it ends inside a frame.
     pub fn finish(&self) -> Option<Refusal>
-        ensures { (stream : List ℕ) → StandsFor self.now stream → Ends stream result }
+        ensures end { (stream : List ℕ) → StandsFor self.now stream → Ends stream result }
+        // The same also holds after `take_in_place`.
+        ensures in_place { (stream : List ℕ) → Continues self.now stream → Ends stream result }
     {
         self.end()
     }

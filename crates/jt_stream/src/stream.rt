@@ -1,15 +1,15 @@
 //! Messages and refusals of a stream that comes in pieces.
 
-ghost use Rattle.std.specs.Prelude.{◌≡◌, ◌<◌, ◌≤◌, ◌+◌, ◌^◌, [], ◌∷◌, ◌↔◌, List, ℕ, false, length, take, Some, None, IsTrue, IsSome, IfSome, IfOk, IfErr};
+ghost use Rattle.std.specs.Prelude.{◌≡◌, ◌<◌, ◌≤◌, ◌+◌, ◌^◌, [], ◌∷◌, ◌++◌, ◌↔◌, List, ℕ, false, length, take, Some, None, IsTrue, IsSome, IfSome, IfOk, IfErr};
 ghost use Rattle.std.specs.Option.{ForSome};
 ghost use Rattle.std.specs.Result.{ForOk};
 ghost use Rattle.jt_escape.specs.Span.{Ends, Whole};
-ghost use Rattle.jt_escape.specs.Splitter.{StandsFor, lent, told_of};
+ghost use Rattle.jt_escape.specs.Splitter.{StandsFor, Continues, lent, told_in_place};
 ghost use Rattle.jt_header.specs.Content.{Content};
 ghost use Rattle.jt_header.specs.Reason.{Reads};
 ghost use Rattle.jt_stream.specs.Item.{Item, Frame, Refused, placed, AreItemsOf};
 ghost use Rattle.jt_stream.specs.Message.{IsMessage, completed};
-ghost use Rattle.jt_stream.specs.Stream.{Gains, IsSilent, told};
+ghost use Rattle.jt_stream.specs.Stream.{Gains, GainsInPlace, IsSilent, IsSilentInPlace, told};
 
 use jt_escape::{Split, Splitter};
 use jt_header::{Header, read_header};
@@ -92,8 +92,10 @@ fn take(splitter: &mut Splitter, piece: &[u8]) -> (usize, Option<Result<Message,
     ensures some { 0 < length piece.now → 0 < result.0 }
     ensures place { splitter.new.place ≡ splitter.old.place + result.0 }
     ensures items { Gains splitter.old splitter.new (take result.0 piece.now) (completed result.1 splitter.new) }
+    ensures in_place { GainsInPlace splitter.old splitter.new (take result.0 piece.now) (completed result.1 splitter.new) }
     ensures more { result.1 ≡ None → result.0 ≡ length piece.now }
     ensures first { (count : ℕ) → count < result.0 → IsSilent splitter.old (take count piece.now) }
+    ensures first_in_place { (count : ℕ) → count < result.0 → IsSilentInPlace splitter.old (take count piece.now) }
     ensures message { ForSome result.1 (λ judged. ForOk judged
         (λ message. IsMessage message.header message.start splitter.new.content)) }
 {
@@ -109,6 +111,7 @@ impl Stream {
     /// The beginning of a stream.
     pub fn new() -> Stream
         ensures stream { StandsFor result.splitter [] }
+        ensures in_place { Continues result.splitter [] }
         ensures place { result.splitter.place ≡ 0 }
         ensures found { result.found ≡ false }
     {
@@ -126,9 +129,13 @@ impl Stream {
         ensures some { 0 < length piece.now → 0 < result.0 }
         ensures place { self.new.splitter.place ≡ self.old.splitter.place + result.0 }
         ensures items { Gains self.old.splitter self.new.splitter (take result.0 piece.now) (told result.1 self.new.splitter) }
+        // The same also holds after `take_in_place`.
+        ensures in_place { GainsInPlace self.old.splitter self.new.splitter (take result.0 piece.now)
+            (told result.1 self.new.splitter) }
         ensures more { result.1 ≡ StreamItem.More → result.0 ≡ length piece.now }
         // No octet past the first that completes an item is taken.
         ensures first { (count : ℕ) → count < result.0 → IsSilent self.old.splitter (take count piece.now) }
+        ensures first_in_place { (count : ℕ) → count < result.0 → IsSilentInPlace self.old.splitter (take count piece.now) }
         ensures found { IsTrue self.new.found ↔ (result.1 ≡ StreamItem.Frame) }
     {
         let (taken, judged) = take(&mut self.splitter, piece);
@@ -143,8 +150,8 @@ impl Stream {
         }
     }
 
-    /// The frame that the last `take` answered, until the next call that takes octets: the place of its opening flag, its
-    /// header and its body. None where that call answered no frame.
+    /// The frame that the last call that takes octets answered: the place of its opening flag, its header and its body. None
+    /// where that call was no `take`, or answered no frame.
     pub fn frame(&self) -> Option<(u64, Header, &[u8])>
         ensures some { IsSome result ↔ IsTrue self.now.found }
         ensures place { IfSome result (λ frame. frame.0 ≡ self.now.splitter.opened) }
@@ -167,13 +174,15 @@ impl Stream {
         ensures taken { result.0 ≤ length piece.now }
         ensures some { 0 < length piece.now → 0 < result.0 }
         ensures place { self.new.splitter.place ≡ self.old.splitter.place + result.0 }
+        ensures continues { (stream : List ℕ) → Continues self.old.splitter stream →
+            Continues self.new.splitter (stream ++ take result.0 piece.now) }
         // The items of a content are those of `frame_in`.
         ensures items { (items : List Item) →
-            AreItemsOf (told_of result.1 self.new.splitter (take result.0 piece.now)) items →
-            Gains self.old.splitter self.new.splitter (take result.0 piece.now) items }
+            AreItemsOf (told_in_place result.1 self.new.splitter (take result.0 piece.now)) items →
+            GainsInPlace self.old.splitter self.new.splitter (take result.0 piece.now) items }
         ensures more { result.1 ≡ Split.More → result.0 ≡ length piece.now }
         // No octet past the first that completes an item is taken.
-        ensures first { (count : ℕ) → count < result.0 → IsSilent self.old.splitter (take count piece.now) }
+        ensures first { (count : ℕ) → count < result.0 → IsSilentInPlace self.old.splitter (take count piece.now) }
         ensures content { result.1 ≡ Split.Content → length (lent self.new.splitter (take result.0 piece.now)) ≤ 1045 }
         ensures found { self.new.found ≡ false }
     {
@@ -207,7 +216,9 @@ impl Stream {
 
     /// Judges the stream's end: `Truncated` at the stream's length where it ends inside a frame.
     pub fn finish(&self) -> Option<Refusal>
-        ensures { (stream : List ℕ) → StandsFor self.now.splitter stream → Ends stream result }
+        ensures end { (stream : List ℕ) → StandsFor self.now.splitter stream → Ends stream result }
+        // The same also holds after `take_in_place`.
+        ensures in_place { (stream : List ℕ) → Continues self.now.splitter stream → Ends stream result }
     {
         self.splitter.finish()
     }

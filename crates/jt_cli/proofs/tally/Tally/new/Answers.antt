@@ -7,7 +7,7 @@ use Rattle.jt_cli.proofs.tally.Tally.new.Goals as goal
 pub returns : goal.returns
 unfolding all_items entries_of
 returns c = record {
-  stands = c.new.ensures.stream;
+  continues = c.new.ensures.in_place;
   items = c.law_all_items.ensures.held [] AreOctets-nil;
   place = c.new.ensures.place;
   frames = refl;
