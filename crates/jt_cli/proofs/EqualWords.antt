@@ -4,11 +4,11 @@ use Rattle.std.specs.Bool.{Decides}
 use Rattle.std.specs.List.{list_all, zip}
 use Rattle.std.specs.Str.{bytes_eq}
 use Rattle.std.proofs.lemmas.Slice.Eq.{bytes_eq-Decides}
-use Rattle.jt_cli.specs.declared.command.Encoding.{Encoding}
-use Rattle.jt_cli.specs.declared.command.Encoding.TheVariants.{Octets, Hex}
-use Rattle.jt_cli.specs.declared.command.Report.{Report}
-use Rattle.jt_cli.specs.declared.command.Report.TheVariants.{View, Check}
-use Rattle.jt_cli.specs.declared.command.Command.{Command}
+use Rattle.jt_view.specs.declared.command.Encoding.{Encoding}
+use Rattle.jt_view.specs.declared.command.Encoding.TheVariants.{Octets, Hex}
+use Rattle.jt_view.specs.declared.command.Report.{Report}
+use Rattle.jt_view.specs.declared.command.Report.TheVariants.{View, Check}
+use Rattle.jt_view.specs.declared.command.Command.{Command}
 use Rattle.jt_cli.specs.Words.{report_word, encoding_words, words_of}
 
 both_heads : (b c : Bool) (x y : List ℕ) (xs ys : List (List ℕ)) → Decides b (x ≡ y) → Decides c (xs ≡ ys) → Decides (b && c) (x ∷ xs ≡ y ∷ ys)

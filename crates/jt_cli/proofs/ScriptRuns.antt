@@ -7,11 +7,11 @@ use Rattle.jt_world.specs.Claim.{Kept}
 use Rattle.jt_world.specs.Rehearsal.{Rehearsal, rehearsal, rehearsal_text, world_of}
 use Rattle.jt_world.specs.Rehearsing.{Rehearses, ending}
 use Rattle.jt_world.specs.Rehearsing as rehearsing
-use Rattle.jt_cli.specs.Answer.{Answers, IsFault, IsSettled, Runs}
+use Rattle.jt_view.specs.Answer.{Answers, IsFault, IsSettled, Runs}
 use Rattle.jt_cli.specs.Script.{script_status, script_reply, RunsScript}
-use Rattle.jt_cli.specs.Reply.{Reply}
-use Rattle.jt_cli.specs.declared.status.Status.{Status}
-use Rattle.jt_cli.specs.declared.status.Status.TheVariants as status
+use Rattle.jt_view.specs.Reply.{Reply}
+use Rattle.jt_view.specs.declared.status.Status.{Status}
+use Rattle.jt_view.specs.declared.status.Status.TheVariants as status
 
 -- the statuses of the ways in which a rehearsal ends
 pub record IsStatusOf (result : Rehearsed) (status : Status) : Type 0 where

@@ -1,9 +1,9 @@
 -- The words of tasks.
 use Rattle.std.proofs.Common.{◌≡◌, ℕ, List, [], ◌∷◌, codes, refl, sym, ap, ◌∙◌, arith}
-use Rattle.jt_cli.specs.declared.command.Report.{Report}
-use Rattle.jt_cli.specs.declared.command.Report.TheVariants.{View, Check}
-use Rattle.jt_cli.specs.declared.command.Task.{Task}
-use Rattle.jt_cli.specs.declared.command.Task.TheVariants.{Tell, Rehearse}
+use Rattle.jt_view.specs.declared.command.Report.{Report}
+use Rattle.jt_view.specs.declared.command.Report.TheVariants.{View, Check}
+use Rattle.jt_cli.specs.declared.task.Task.{Task}
+use Rattle.jt_cli.specs.declared.task.Task.TheVariants.{Tell, Rehearse}
 use Rattle.jt_cli.specs.Words.{report_word, words_of, words_of_task}
 
 abbrev first_letter : List (List ℕ) → ℕ

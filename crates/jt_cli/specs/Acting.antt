@@ -4,14 +4,15 @@ use Rattle.std.specs.Io.KnownBytes.{Appends}
 use Rattle.jt_world.specs.Claim.{Kept}
 use Rattle.jt_world.specs.Rehearsal.{world_of}
 use Rattle.jt_world.specs.Rehearsing as rehearsing
-use Rattle.jt_cli.specs.Answer.{usage, Answers, IsFault, Runs, ReadsNoFurther, PrintsTaken}
-use Rattle.jt_cli.specs.Report.{answer_of}
+use Rattle.jt_view.specs.Answer.{Answers, IsFault, Runs, ReadsNoFurther, PrintsTaken}
+use Rattle.jt_cli.specs.Usage.{usage}
+use Rattle.jt_view.specs.Report.{answer_of}
 use Rattle.jt_cli.specs.Script.{script_reply, RunsScript}
-use Rattle.jt_cli.specs.declared.command.Command.{Command}
-use Rattle.jt_cli.specs.declared.command.Task.{Task}
-use Rattle.jt_cli.specs.declared.command.Task.TheVariants.{Tell, Rehearse}
-use Rattle.jt_cli.specs.declared.status.Status.{Status}
-use Rattle.jt_cli.specs.declared.status.Status.TheVariants.{ReadFault}
+use Rattle.jt_view.specs.declared.command.Command.{Command}
+use Rattle.jt_cli.specs.declared.task.Task.{Task}
+use Rattle.jt_cli.specs.declared.task.Task.TheVariants.{Tell, Rehearse}
+use Rattle.jt_view.specs.declared.status.Status.{Status}
+use Rattle.jt_view.specs.declared.status.Status.TheVariants.{ReadFault}
 
 -- a command tells of the source's octets
 pub record TellsOf (command : Command) (left left_now old now : Option (List ℕ)) (status : Status) : Type 0 where

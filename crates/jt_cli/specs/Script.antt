@@ -2,10 +2,10 @@
 use Rattle.std.specs.Prelude.{◌⊎◌, ℕ, List, Option, Some, None}
 use Rattle.jt_world.specs.Claim.{Kept}
 use Rattle.jt_world.specs.Rehearsal.{rehearsal, rehearsal_text, world_of}
-use Rattle.jt_cli.specs.Answer.{IsFault, Runs}
-use Rattle.jt_cli.specs.Reply.{Reply}
-use Rattle.jt_cli.specs.declared.status.Status.{Status}
-use Rattle.jt_cli.specs.declared.status.Status.TheVariants.{Done, Refused}
+use Rattle.jt_view.specs.Answer.{IsFault, Runs}
+use Rattle.jt_view.specs.Reply.{Reply}
+use Rattle.jt_view.specs.declared.status.Status.{Status}
+use Rattle.jt_view.specs.declared.status.Status.TheVariants.{Done, Refused}
 
 -- a script with a bad line is refused
 abbrev pub script_status : Option ℕ → Status

@@ -1,12 +1,12 @@
 -- The words of each command, which stand after the program's name. To be believed.
 use Rattle.std.specs.Prelude.{ℕ, List, [], ◌∷◌, codes}
-use Rattle.jt_cli.specs.declared.command.Command.{Command}
-use Rattle.jt_cli.specs.declared.command.Encoding.{Encoding}
-use Rattle.jt_cli.specs.declared.command.Encoding.TheVariants.{Octets, Hex}
-use Rattle.jt_cli.specs.declared.command.Task.{Task}
-use Rattle.jt_cli.specs.declared.command.Task.TheVariants.{Tell, Rehearse}
-use Rattle.jt_cli.specs.declared.command.Report.{Report}
-use Rattle.jt_cli.specs.declared.command.Report.TheVariants.{View, Check}
+use Rattle.jt_view.specs.declared.command.Command.{Command}
+use Rattle.jt_view.specs.declared.command.Encoding.{Encoding}
+use Rattle.jt_view.specs.declared.command.Encoding.TheVariants.{Octets, Hex}
+use Rattle.jt_cli.specs.declared.task.Task.{Task}
+use Rattle.jt_cli.specs.declared.task.Task.TheVariants.{Tell, Rehearse}
+use Rattle.jt_view.specs.declared.command.Report.{Report}
+use Rattle.jt_view.specs.declared.command.Report.TheVariants.{View, Check}
 
 -- what to tell of the input
 unfoldable pub report_word : Report → List ℕ

@@ -1,28 +1,17 @@
 //! The command line: what each list of words does to the source and the sink.
 #![tactic(auto)]
 
-mod closing;
-mod command;
-mod hex_laws;
-mod hex_reader;
-mod judged;
-mod lines;
 mod playing;
-mod reporter;
-mod running;
-mod status;
-mod tally;
-mod telling;
+mod task;
 mod top;
-mod viewing;
+mod usage;
 
-pub use closing::Closing;
-pub use command::{Command, Encoding, Report, Task};
-pub use hex_laws::{law_octets_of_front, law_wrong_stays};
 pub use jt_text::{refusal_line, view_line};
+pub use jt_view::{
+    Closing, Command, Encoding, Report, Status, law_octets_of_front, law_wrong_stays, report,
+};
 pub use playing::play;
-pub use running::report;
-pub use status::Status;
+pub use task::Task;
 pub use top::{Ended, Outside, run};
 
 #[cfg(test)]

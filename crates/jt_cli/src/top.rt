@@ -3,23 +3,23 @@
 ghost use Rattle.std.specs.Prelude.{◌≡◌, ◌≢◌, ◌⊎◌, ◌^◌, ℕ, List, None, map, string_bytes, IfSome};
 ghost use Rattle.std.specs.Io.KnownBytes.{IsAtEnd, Appends};
 ghost use Rattle.jt_outside.specs.Count.{Rose};
-ghost use Rattle.jt_cli.specs.Answer.{usage, Answers, IsFault, Runs, ReadsNoFurther, PrintsTaken};
-ghost use Rattle.jt_cli.specs.Report.{answer_of};
+ghost use Rattle.jt_view.specs.Answer.{Answers, IsFault, Runs, ReadsNoFurther, PrintsTaken};
+ghost use Rattle.jt_cli.specs.Usage.{usage};
+ghost use Rattle.jt_view.specs.Report.{answer_of};
 ghost use Rattle.jt_cli.specs.Acting.{Acts};
 ghost use Rattle.jt_cli.specs.Script.{script_reply, RunsScript};
 ghost use Rattle.jt_cli.specs.Words.{words_of, words_of_task};
-ghost use Rattle.jt_cli.specs.declared.command.Task.{Task};
+ghost use Rattle.jt_cli.specs.declared.task.Task.{Task};
 ghost use Rattle.jt_world.specs.Claim.{Kept};
 ghost use Rattle.jt_world.specs.Rehearsal.{world_of};
 ghost use Rattle.jt_world.specs.Rehearsing as rehearsing;
-ghost use Rattle.jt_cli.specs.declared.command.Command.{Command};
+ghost use Rattle.jt_view.specs.declared.command.Command.{Command};
 
-use crate::command::Task;
-use crate::lines::push_usage_line;
 use crate::playing::play;
-use crate::running::report;
-use crate::status::Status;
+use crate::task::Task;
+use crate::usage::push_usage_line;
 use jt_outside::{Sink, Source, write_all};
+use jt_view::{Status, report};
 use std::alloc::Global;
 
 /// What the program is run over.
@@ -40,7 +40,7 @@ pub struct Ended<S, K> {
 const MOST: u64 = 1 << 40;
 
 // The answer for words that are no command.
-#[tactic(auto, unfolding(crate::specs::Answer::usage))]
+#[tactic(auto, unfolding(crate::specs::Usage::usage))]
 fn refuse<K: Sink>(alloc: Global, sink: &mut K) -> Status
     ensures answer { Answers result usage (K.written sink.old) (K.written sink.new) }
     ensures status { (result ≡ Status.Usage) ⊎ IsFault result }

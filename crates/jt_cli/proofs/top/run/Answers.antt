@@ -1,6 +1,6 @@
 use Rattle.std.proofs.Common.{ap, ◌∙◌, map, string_bytes}
 use Rattle.jt_cli.specs.Words.{words_of_task}
-use Rattle.jt_cli.specs.declared.command.Task.TheVariants.{Tell, Rehearse}
+use Rattle.jt_cli.specs.declared.task.Task.TheVariants.{Tell, Rehearse}
 use Rattle.jt_cli.proofs.ScriptRuns.{told_whole}
 use Rattle.jt_cli.proofs.top.run.Goals as goal
 

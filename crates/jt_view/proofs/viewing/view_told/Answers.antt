@@ -1,0 +1,10 @@
+use Rattle.std.proofs.Common.{refl}
+use Rattle.jt_escape.specs.declared.splitter.Split.TheVariants as split
+use Rattle.jt_stream.specs.Item.{Refused}
+use Rattle.jt_view.proofs.Told.{views_body}
+use Rattle.jt_view.proofs.viewing.view_told.Goals as goal
+
+pub returns-in-Refused : goal.returns-in-Refused
+returns-in-Refused c =
+    rw c.in-Refused.is
+    (views_body (split.Refused c.in-Refused.refusal) c.args.stream.now.splitter c.args.taken.now (Refused c.in-Refused.refusal) c.view_refusal.result _ _ (refl, tt) c.view_refusal.ensures)

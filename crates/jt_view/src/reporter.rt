@@ -1,0 +1,173 @@
+//! The report of an input that comes in pieces.
+
+ghost use Rattle.std.specs.Prelude.{◌≡◌, ◌⊎◌, IfSome, ◌<◌, ◌≤◌, ◌+◌, ◌^◌, ℕ, List, [], None, length, string_bytes, IfOk};
+ghost use Rattle.jt_view.specs.Report.{closing_of};
+ghost use Rattle.jt_view.specs.Taking.{Stands, Takes, Ends, EndsTooLong};
+
+use crate::closing::Closing;
+use crate::command::{Command, Encoding};
+use crate::hex_laws::{law_octets_of_front, law_wrong_stays};
+use crate::hex_reader::HexReader;
+use crate::status::Status;
+use crate::tally::Tally;
+use crate::telling::{close, tell};
+use jt_stream::law_all_items;
+use jt_value::Memory;
+use std::alloc::Global;
+
+/// What is kept of an input between its pieces.
+#[derive(Drop)]
+pub struct Reporter {
+    command: Command,
+    reader: HexReader,
+    // The octets of the last piece, where they are written as digits.
+    octets: Vec<u8>,
+    tally: Tally,
+    // How many octets of the input were taken.
+    taken: u64,
+}
+
+impl Reporter {
+    /// The beginning of an input.
+    pub fn new(alloc: Global, command: Command) -> Reporter
+        ensures command { result.command ≡ command }
+        ensures stands { Stands result [] }
+        ensures place { result.tally.stream.splitter.place ≤ result.taken }
+    {
+        Reporter {
+            command,
+            reader: HexReader::new(),
+            octets: Vec::new(alloc),
+            tally: Tally::new(),
+            taken: 0,
+        }
+    }
+
+    /// How many octets of the input were taken.
+    pub fn taken(&self) -> u64
+        ensures { result ≡ self.now.taken }
+    {
+        self.taken
+    }
+
+    fn take_octets(
+        &mut self,
+        alloc: Global,
+        piece: &[u8],
+        text: &mut String,
+    ) -> Result<Option<Status>, Memory>
+        requires command { self.old.command.encoding ≡ Encoding.Octets }
+        requires taken { self.old.taken + length piece.now < 2 ^ 63 }
+        requires place { self.old.tally.stream.splitter.place ≤ self.old.taken }
+        ensures command { self.new.command ≡ self.old.command }
+        ensures taken { IfOk result (λ settled. settled ≡ None → self.new.taken ≡ self.old.taken + length piece.now) }
+        ensures place { IfOk result (λ settled. settled ≡ None → self.new.tally.stream.splitter.place ≤ self.new.taken) }
+        ensures place_of_any { IfOk result (λ _. self.new.tally.stream.splitter.place < 2 ^ 63) }
+        ensures refused { IfOk result (λ settled. IfSome settled (λ status. status ≡ Status.Refused)) }
+        ensures takes { IfOk result (λ settled. Takes settled self.old self.new piece.now (string_bytes text.old) (string_bytes text.new)) }
+    {
+        law_all_items();
+        law_octets_of_front();
+        self.taken += piece.len() as u64;
+        if tell(alloc, self.command.report, &mut self.tally, piece, text)? {
+            Ok(Some(Status::Refused))
+        } else {
+            Ok(None)
+        }
+    }
+
+    fn take_digits(
+        &mut self,
+        alloc: Global,
+        piece: &[u8],
+        text: &mut String,
+    ) -> Result<Option<Status>, Memory>
+        requires command { self.old.command.encoding ≡ Encoding.Hex }
+        requires taken { self.old.taken + length piece.now < 2 ^ 63 }
+        requires place { self.old.tally.stream.splitter.place ≤ self.old.taken }
+        ensures command { self.new.command ≡ self.old.command }
+        ensures taken { IfOk result (λ settled. settled ≡ None → self.new.taken ≡ self.old.taken + length piece.now) }
+        ensures place { IfOk result (λ settled. settled ≡ None → self.new.tally.stream.splitter.place ≤ self.new.taken) }
+        ensures place_of_any { IfOk result (λ _. self.new.tally.stream.splitter.place < 2 ^ 63) }
+        ensures refused { IfOk result (λ settled. IfSome settled (λ status. status ≡ Status.Refused)) }
+        ensures takes { IfOk result (λ settled. Takes settled self.old self.new piece.now (string_bytes text.old) (string_bytes text.new)) }
+    {
+        law_all_items();
+        law_octets_of_front();
+        law_wrong_stays();
+        self.octets.clear();
+        let wrong = self.reader.read(piece, &mut self.octets)?;
+        if tell(
+            alloc,
+            self.command.report,
+            &mut self.tally,
+            self.octets.as_slice(),
+            text,
+        )? {
+            return Ok(Some(Status::Refused));
+        }
+        match wrong {
+            Some(index) => {
+                let closing = Closing::HexRefused(self.taken + index as u64);
+                let status = close(self.command.report, closing, &self.tally, text)?;
+                Ok(Some(status))
+            }
+            None => {
+                self.taken += piece.len() as u64;
+                Ok(None)
+            }
+        }
+    }
+
+    /// Takes the input's next octets, and puts what is printed of them. A status says that the report is settled, whatever
+    /// follows, and wholly printed.
+    pub fn take(
+        &mut self,
+        alloc: Global,
+        piece: &[u8],
+        text: &mut String,
+    ) -> Result<Option<Status>, Memory>
+        requires taken { self.old.taken + length piece.now < 2 ^ 63 }
+        requires place { self.old.tally.stream.splitter.place ≤ self.old.taken }
+        ensures command { self.new.command ≡ self.old.command }
+        ensures taken { IfOk result (λ settled. settled ≡ None → self.new.taken ≡ self.old.taken + length piece.now) }
+        ensures place { IfOk result (λ settled. settled ≡ None → self.new.tally.stream.splitter.place ≤ self.new.taken) }
+        ensures place_of_any { IfOk result (λ _. self.new.tally.stream.splitter.place < 2 ^ 63) }
+        ensures refused { IfOk result (λ settled. IfSome settled (λ status. status ≡ Status.Refused)) }
+        ensures takes { IfOk result (λ settled. Takes settled self.old self.new piece.now (string_bytes text.old) (string_bytes text.new)) }
+    {
+        match self.command.encoding {
+            Encoding::Octets => self.take_octets(alloc, piece, text),
+            Encoding::Hex => self.take_digits(alloc, piece, text),
+        }
+    }
+
+    /// Puts what closes the report of an input that ends here, and answers its status.
+    pub fn end(&self, text: &mut String) -> Result<Status, Memory>
+        requires place { self.now.tally.stream.splitter.place < 2 ^ 63 }
+        ensures ends { IfOk result (λ status. Ends self.now (string_bytes text.old) (string_bytes text.new) status) }
+        ensures status { IfOk result (λ status. (status ≡ Status.Done) ⊎ (status ≡ Status.Refused)) }
+    {
+        close(self.command.report, self.closing(), &self.tally, text)
+    }
+
+    // How an input that ends here closes.
+    fn closing(&self) -> Closing
+        ensures { (seen : List ℕ) → Stands self.now seen → (most : ℕ) → length seen ≤ most
+            → closing_of self.now.command.encoding most seen ≡ result }
+    {
+        match self.command.encoding {
+            Encoding::Hex if self.reader.is_waiting() => Closing::HexRefused(self.taken),
+            Encoding::Hex | Encoding::Octets => Closing::Whole,
+        }
+    }
+
+    /// Puts what closes the report of an input that goes on, though no more of it may be read, and answers its status.
+    pub fn end_too_long(&self, text: &mut String) -> Result<Status, Memory>
+        requires place { self.now.tally.stream.splitter.place < 2 ^ 63 }
+        ensures ends { IfOk result (λ status. EndsTooLong self.now (string_bytes text.old) (string_bytes text.new) status) }
+        ensures refused { IfOk result (λ status. status ≡ Status.Refused) }
+    {
+        close(self.command.report, Closing::TooLong, &self.tally, text)
+    }
+}

@@ -1,0 +1,135 @@
+//! The lines of what a stream tells, each put at the end of a text.
+
+ghost use Rattle.std.specs.Prelude.{◌≡◌, ◌<◌, ◌≤◌, ◌^◌, ◌++◌, length, string_bytes, IfOk, OnOk};
+ghost use Rattle.jt_codec.specs.Viewing.{viewed};
+ghost use Rattle.jt_escape.specs.Splitter.{lent};
+ghost use Rattle.jt_stream.specs.Item.{Frame};
+ghost use Rattle.jt_text.specs.Frames.{view_line};
+ghost use Rattle.jt_view.specs.Entry as entries;
+ghost use Rattle.jt_view.specs.Entry.{entry_of};
+ghost use Rattle.jt_view.specs.Reporting.{ViewsEntry, ViewsTold};
+
+use crate::judged::Judged;
+use jt_codec::{MessageView, read_message, view_message};
+use jt_escape::Split;
+use jt_header::Header;
+use jt_stream::{Stream, placed};
+use jt_text::{
+    Line, push_heartbeat_line, push_message_line, push_position_line, push_refusal_line,
+};
+use jt_value::{CodecError, Memory, Refusal};
+use std::alloc::{AllocError, Global};
+
+// The line of a message that is read in place.
+#[inline(always)]
+fn push_view(
+    text: &mut String,
+    line: &mut Line,
+    place: u64,
+    header: &Header,
+    view: MessageView<'_>,
+    body_len: u16,
+) -> Result<(), AllocError>
+    ensures { OnOk result (string_bytes text.new ≡ string_bytes text.old ++ view_line place header.now (viewed view.entry) body_len) }
+{
+    match view {
+        MessageView::Heartbeat => push_heartbeat_line(text, line, place, header, body_len),
+        MessageView::Position(view) => {
+            push_position_line(text, line, place, header, view, body_len)
+        }
+    }
+}
+
+#[inline(never)]
+fn view_refusal(text: &mut String, refusal: Refusal) -> Result<Judged, Memory>
+    ensures { IfOk result (λ judgement. ViewsEntry (entries.Refused refusal) judgement (string_bytes text.old) (string_bytes text.new)) }
+{
+    push_refusal_line(text, &refusal)?;
+    Ok(Judged::Refused(refusal))
+}
+
+// Puts the line of the frame that opens at this place, or of the refusal of its body, with a message made of it.
+#[inline(never)]
+fn view_made(
+    alloc: Global,
+    place: u64,
+    header: &Header,
+    body: &[u8],
+    line: &mut Line,
+    text: &mut String,
+) -> Result<Judged, Memory>
+    requires { length body.now < 2 ^ 10 }
+    ensures { IfOk result (λ judgement. ViewsEntry (entry_of (Frame place header.now body.now)) judgement (string_bytes text.old) (string_bytes text.new)) }
+{
+    match read_message(alloc, header, body) {
+        Ok(message) => {
+            push_message_line(text, line, place, header, &message, body.len() as u16)?;
+            Ok(Judged::Frame)
+        }
+        Err(CodecError::Refused(refusal)) => view_refusal(text, placed(place, refusal)),
+        Err(CodecError::Memory) => Err(Memory),
+    }
+}
+
+// The same, read in place where that can be. A message takes room, so it is kept out of this function.
+#[inline(always)]
+fn view_body(
+    alloc: Global,
+    place: u64,
+    header: &Header,
+    body: &[u8],
+    line: &mut Line,
+    text: &mut String,
+) -> Result<Judged, Memory>
+    requires { length body.now < 2 ^ 10 }
+    ensures { IfOk result (λ judgement. ViewsEntry (entry_of (Frame place header.now body.now)) judgement (string_bytes text.old) (string_bytes text.new)) }
+{
+    match view_message(header, body) {
+        Some(Ok(view)) => {
+            push_view(text, line, place, header, view, body.len() as u16)?;
+            Ok(Judged::Frame)
+        }
+        Some(Err(refusal)) => view_refusal(text, placed(place, refusal)),
+        None => view_made(alloc, place, header, body, line, text),
+    }
+}
+
+// Puts the line of the frame that the stream just took, or of its refusal.
+#[inline(always)]
+fn view_frame(
+    alloc: Global,
+    stream: &Stream,
+    taken: &[u8],
+    line: &mut Line,
+    text: &mut String,
+) -> Result<Judged, Memory>
+    requires { length (lent stream.now.splitter taken.now) ≤ 1045 }
+    ensures { IfOk result (λ judgement. ViewsTold Split.Content stream.now.splitter taken.now judgement (string_bytes text.old) (string_bytes text.new)) }
+{
+    match stream.frame_in(taken) {
+        Ok((place, header, body)) => view_body(alloc, place, &header, body, line, text),
+        Err(refusal) => view_refusal(text, refusal),
+    }
+}
+
+/// Puts the line of the entry that the last `take_in_place` of the stream told, if it told one, at the end of a text: `taken`
+/// are the octets that it took, and `split` is its answer. The answer is the entry, as far as counting asks. `line` is room
+/// that is used again: what it held is dropped, and what it holds afterwards is not said.
+#[inline(always)]
+pub fn view_told(
+    alloc: Global,
+    stream: &Stream,
+    taken: &[u8],
+    split: Split,
+    line: &mut Line,
+    text: &mut String,
+) -> Result<Judged, Memory>
+    requires { split ≡ Split.Content → length (lent stream.now.splitter taken.now) ≤ 1045 }
+    ensures { IfOk result (λ judgement. ViewsTold split stream.now.splitter taken.now judgement (string_bytes text.old) (string_bytes text.new)) }
+{
+    match split {
+        Split::Content => view_frame(alloc, stream, taken, line, text),
+        Split::Refused(refusal) => view_refusal(text, refusal),
+        Split::More => Ok(Judged::Nothing),
+    }
+}
