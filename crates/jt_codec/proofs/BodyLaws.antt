@@ -15,13 +15,13 @@ use Rattle.jt_params.proofs.ParamLaws.{params_law, params_reply_law, query_some_
 use Rattle.jt_position.specs.declared.position.Position.{Position}
 use Rattle.jt_position.specs.declared.batch.Batch.{Batch}
 use Rattle.jt_position.proofs.ItemLaws.{position_law, batch_law}
-use Rattle.jt_regions.specs.declared.change.RegionKind.TheVariants as kind
-use Rattle.jt_regions.specs.declared.circle.Circle.{Circle}
-use Rattle.jt_regions.specs.declared.deletion.Deletion.{Deletion}
-use Rattle.jt_regions.specs.declared.polygon.Polygon.{Polygon}
-use Rattle.jt_regions.specs.declared.rectangle.Rectangle.{Rectangle}
-use Rattle.jt_regions.specs.declared.route.Route.{Route}
-use Rattle.jt_regions.proofs.RegionLaws.{circles_law, rectangles_law, polygon_law, route_law, deletion_law}
+use Rattle.jt_region_bodies.specs.declared.circle.Circle.{Circle}
+use Rattle.jt_region_bodies.specs.declared.deletion.Deletion.{Deletion}
+use Rattle.jt_region_bodies.specs.declared.polygon.Polygon.{Polygon}
+use Rattle.jt_region_bodies.specs.declared.rectangle.Rectangle.{Rectangle}
+use Rattle.jt_region_bodies.specs.declared.route.Route.{Route}
+use Rattle.jt_region_bodies.proofs.RegionLaws.{circles_law, rectangles_law, polygon_law, route_law, deletion_law}
+use Rattle.jt_region_bodies.specs.declared.kind.RegionKind.TheVariants as kind
 use Rattle.jt_register.specs.declared.register.Register.{Register}
 use Rattle.jt_register.specs.declared.reply.RegisterReply.{RegisterReply}
 use Rattle.jt_register.specs.declared.auth.Auth.{Auth}

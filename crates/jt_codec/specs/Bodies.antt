@@ -8,9 +8,9 @@ use Rattle.jt_layout.specs.Answer.{IsPlaced}
 use Rattle.jt_layout.specs.Layout.{Body, Fills, empty, rest, if_body, body_case}
 use Rattle.jt_params.specs.Params.{params, params_reply, query_some}
 use Rattle.jt_position.specs.Positions.{position, batch}
-use Rattle.jt_regions.specs.Regions.{circles, rectangles, polygon, route, deletion}
-use Rattle.jt_regions.specs.declared.change.RegionKind.{RegionKind}
-use Rattle.jt_regions.specs.declared.change.RegionKind.TheVariants as kind
+use Rattle.jt_region_bodies.specs.Regions.{circles, rectangles, polygon, route, deletion}
+use Rattle.jt_region_bodies.specs.declared.kind.RegionKind.{RegionKind}
+use Rattle.jt_region_bodies.specs.declared.kind.RegionKind.TheVariants as kind
 use Rattle.jt_register.specs.Registration.{register_2013, register_reply, auth_2013}
 use Rattle.jt_codec.specs.Kinds.{terminal_ack_of, platform_ack_of, heartbeat_of, deregister_of, register_of, register_reply_of, auth_of, set_params_of, query_params_of, query_some_of, params_of, position_of, position_reply_of, query_position_of, track_of, batch_of, text_of, control_of, opaque_of, circles_of, rectangles_of, polygon_of, route_of, delete_circles_of, delete_rectangles_of, delete_polygons_of, delete_routes_of}
 use Rattle.jt_codec.specs.Layouts.{ack, position_reply, track, octet_and_text}

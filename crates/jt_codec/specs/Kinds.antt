@@ -3,12 +3,12 @@ use Rattle.std.specs.Prelude.{ℕ, ◌==◌, if◌then◌else◌, List, Option, 
 use Rattle.jt_params.specs.declared.param.Param.{Param}
 use Rattle.jt_position.specs.declared.position.Position.{Position}
 use Rattle.jt_position.specs.declared.batch.Batch.{Batch}
-use Rattle.jt_regions.specs.declared.change.RegionKind.TheVariants as kind
-use Rattle.jt_regions.specs.declared.circle.Circle.{Circle}
-use Rattle.jt_regions.specs.declared.deletion.Deletion.{Deletion}
-use Rattle.jt_regions.specs.declared.polygon.Polygon.{Polygon}
-use Rattle.jt_regions.specs.declared.rectangle.Rectangle.{Rectangle}
-use Rattle.jt_regions.specs.declared.route.Route.{Route}
+use Rattle.jt_region_bodies.specs.declared.circle.Circle.{Circle}
+use Rattle.jt_region_bodies.specs.declared.deletion.Deletion.{Deletion}
+use Rattle.jt_region_bodies.specs.declared.polygon.Polygon.{Polygon}
+use Rattle.jt_region_bodies.specs.declared.rectangle.Rectangle.{Rectangle}
+use Rattle.jt_region_bodies.specs.declared.route.Route.{Route}
+use Rattle.jt_region_bodies.specs.declared.kind.RegionKind.TheVariants as kind
 use Rattle.jt_register.specs.declared.register.Register.{Register}
 use Rattle.jt_register.specs.declared.reply.RegisterReply.{RegisterReply}
 use Rattle.jt_register.specs.declared.auth.Auth.{Auth}

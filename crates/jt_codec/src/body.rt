@@ -27,7 +27,7 @@ use jt_params::{
     write_query_some,
 };
 use jt_position::{Position, read_batch, read_position, write_batch, write_position};
-use jt_regions::{
+use jt_region_bodies::{
     Circle, Deletion, Rectangle, RegionKind, read_circles, read_deletion, read_polygon,
     read_rectangles, read_route, write_circles, write_polygon, write_rectangles, write_route,
 };

@@ -11,7 +11,7 @@ use crate::regions::{
 use jt_layout::octets_fit;
 use jt_params::{Param, params_fit, params_reply_fits, query_some_fits};
 use jt_position::{Batch, Position};
-use jt_regions::{Circle, Polygon, Rectangle, RegionKind, Route};
+use jt_region_bodies::{Circle, Polygon, Rectangle, RegionKind, Route};
 use jt_register::{Auth, Register, RegisterReply};
 use jt_value::{Edition, Octets, Seq};
 

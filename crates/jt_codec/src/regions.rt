@@ -6,7 +6,7 @@ ghost use Rattle.jt_codec.specs.Bodies.{Fits, body_octets};
 ghost use Rattle.jt_codec.specs.declared.message.Message.TheVariants as message;
 
 use crate::message::{DELETE_CIRCLES, DELETE_POLYGONS, DELETE_RECTANGLES, DELETE_ROUTES};
-use jt_regions::{Circle, Polygon, Rectangle, RegionKind, Route, ids_fit, write_ids};
+use jt_region_bodies::{Circle, Polygon, Rectangle, RegionKind, Route, ids_fit, write_ids};
 use jt_value::{Edition, Memory, Octets, Seq};
 use std::alloc::Global;
 
@@ -28,7 +28,7 @@ pub fn circles_fit(edition: Edition, setting: u8, list: &Seq<Circle>) -> bool
     ensures { IsTrue result ↔ Fits edition (message.Circles setting list.now) }
 {
     match edition {
-        Edition::E2013 => jt_regions::circles_fit(setting, list),
+        Edition::E2013 => jt_region_bodies::circles_fit(setting, list),
         Edition::E2019 => false,
     }
 }
@@ -39,7 +39,7 @@ pub fn rectangles_fit(edition: Edition, setting: u8, list: &Seq<Rectangle>) -> b
     ensures { IsTrue result ↔ Fits edition (message.Rectangles setting list.now) }
 {
     match edition {
-        Edition::E2013 => jt_regions::rectangles_fit(setting, list),
+        Edition::E2013 => jt_region_bodies::rectangles_fit(setting, list),
         Edition::E2019 => false,
     }
 }

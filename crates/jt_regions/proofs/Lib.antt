@@ -1,2 +1,1 @@
-pub mod RegionLaws
 pub mod Filling

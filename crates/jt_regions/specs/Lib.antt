@@ -1,4 +1,4 @@
-pub mod Regions
 pub mod Entries
 pub mod Steps
 pub mod Tables
+pub use Rattle.jt_region_bodies.specs.Regions

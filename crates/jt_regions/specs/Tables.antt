@@ -3,12 +3,12 @@ use Rattle.std.specs.Prelude.{◌≡◌, ℕ, ◌≤◌, List, [], ◌∷◌, le
 use Rattle.std.specs.List.Sorted.{IsStrictlySortedBy}
 use Rattle.std.specs.Map.{keys_of}
 use Rattle.std.specs.Ordering.{nat_cmp}
-use Rattle.jt_regions.specs.declared.circle.Circle.{Circle}
-use Rattle.jt_regions.specs.declared.rectangle.Rectangle.{Rectangle}
-use Rattle.jt_regions.specs.declared.polygon.Polygon.{Polygon}
-use Rattle.jt_regions.specs.declared.route.Route.{Route}
-use Rattle.jt_regions.specs.declared.change.RegionKind.{RegionKind}
-use Rattle.jt_regions.specs.declared.change.RegionKind.TheVariants as kind
+use Rattle.jt_region_bodies.specs.declared.circle.Circle.{Circle}
+use Rattle.jt_region_bodies.specs.declared.rectangle.Rectangle.{Rectangle}
+use Rattle.jt_region_bodies.specs.declared.polygon.Polygon.{Polygon}
+use Rattle.jt_region_bodies.specs.declared.route.Route.{Route}
+use Rattle.jt_region_bodies.specs.declared.kind.RegionKind.{RegionKind}
+use Rattle.jt_region_bodies.specs.declared.kind.RegionKind.TheVariants as kind
 use Rattle.jt_regions.specs.declared.change.RegionChange.{RegionChange}
 use Rattle.jt_regions.specs.declared.change.RegionChange.TheVariants as change
 use Rattle.jt_regions.specs.declared.error.RegionError.{RegionError}

@@ -1,19 +1,7 @@
 //! Changes of a terminal's regions.
 
-use crate::circle::Circle;
-use crate::polygon::Polygon;
-use crate::rectangle::Rectangle;
-use crate::route::Route;
+use jt_region_bodies::{Circle, Polygon, Rectangle, RegionKind, Route};
 use jt_value::Seq;
-
-/// The kinds of regions.
-#[derive(Clone, Copy, Debug, PartialEq, Eq)]
-pub enum RegionKind {
-    Circle,
-    Rectangle,
-    Polygon,
-    Route,
-}
 
 /// What a platform asks of a terminal's regions.
 #[derive(Drop)]

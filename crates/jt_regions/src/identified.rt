@@ -2,10 +2,7 @@
 
 ghost use Rattle.std.specs.Prelude.{◌≡◌, ℕ};
 
-use crate::circle::Circle;
-use crate::polygon::Polygon;
-use crate::rectangle::Rectangle;
-use crate::route::Route;
+use jt_region_bodies::{Circle, Polygon, Rectangle, Route};
 
 /// A region with an id of its own among those of its kind.
 pub trait Identified: Clone + Drop {

@@ -4,13 +4,10 @@ ghost use Rattle.std.specs.Prelude.{◌≡◌, ◌≤◌, [], IfSome, OnErr, opt
 ghost use Rattle.jt_regions.specs.Entries.{under};
 ghost use Rattle.jt_regions.specs.Tables.{count_of, AreOrdered, Applies, AtMost, Deleted, OthersStay};
 
-use crate::change::{RegionChange, RegionKind};
-use crate::circle::Circle;
+use crate::change::RegionChange;
 use crate::error::RegionError;
-use crate::polygon::Polygon;
-use crate::rectangle::Rectangle;
-use crate::route::Route;
 use crate::table::Table;
+use jt_region_bodies::{Circle, Polygon, Rectangle, RegionKind, Route};
 use std::alloc::Global;
 use std::marker::Model;
 

@@ -1,8 +1,8 @@
 -- The names of messages: this project's texts. To be believed.
 use Rattle.std.specs.Prelude.{ℕ, ◌==◌, if◌then◌else◌, List, codes}
 use Rattle.jt_header.specs.declared.header.Header.{Header}
-use Rattle.jt_regions.specs.declared.change.RegionKind.{RegionKind}
-use Rattle.jt_regions.specs.declared.change.RegionKind.TheVariants as kind
+use Rattle.jt_region_bodies.specs.declared.kind.RegionKind.{RegionKind}
+use Rattle.jt_region_bodies.specs.declared.kind.RegionKind.TheVariants as kind
 use Rattle.jt_codec.specs.declared.message.Message.{Message}
 use Rattle.jt_codec.specs.declared.message.Message.TheVariants as message
 

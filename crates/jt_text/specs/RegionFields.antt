@@ -3,13 +3,13 @@ use Rattle.std.specs.Prelude.{ℕ, List, ◌++◌, length, take, drop, Option, S
 use Rattle.std.specs.List.{flat_map}
 use Rattle.std.specs.Fmt.{decimal}
 use Rattle.hex.specs.Hex.{encode_lower}
-use Rattle.jt_regions.specs.declared.limit.Limit.{Limit}
-use Rattle.jt_regions.specs.declared.circle.Circle.{Circle}
-use Rattle.jt_regions.specs.declared.rectangle.Rectangle.{Rectangle}
-use Rattle.jt_regions.specs.declared.polygon.Vertex.{Vertex}
-use Rattle.jt_regions.specs.declared.polygon.Polygon.{Polygon}
-use Rattle.jt_regions.specs.declared.route.RoutePoint.{RoutePoint}
-use Rattle.jt_regions.specs.declared.route.Route.{Route}
+use Rattle.jt_region_bodies.specs.declared.limit.Limit.{Limit}
+use Rattle.jt_region_bodies.specs.declared.circle.Circle.{Circle}
+use Rattle.jt_region_bodies.specs.declared.rectangle.Rectangle.{Rectangle}
+use Rattle.jt_region_bodies.specs.declared.polygon.Vertex.{Vertex}
+use Rattle.jt_region_bodies.specs.declared.polygon.Polygon.{Polygon}
+use Rattle.jt_region_bodies.specs.declared.route.RoutePoint.{RoutePoint}
+use Rattle.jt_region_bodies.specs.declared.route.Route.{Route}
 use Rattle.jt_text.specs.Values.{byte_digits, word_digits}
 
 -- the digits of the start and of the end; a part that is not there is `-`

@@ -13,7 +13,7 @@ use crate::line::Line;
 use jt_codec::Message;
 use jt_header::{Header, Packet};
 use jt_position::PositionView;
-use jt_regions::RegionKind;
+use jt_region_bodies::RegionKind;
 use jt_value::{Edition, Memory, Octets, Phone};
 use std::alloc::{AllocError, Global};
 

@@ -5,7 +5,7 @@ ghost use Rattle.std.specs.List.{flat_map};
 ghost use Rattle.jt_text.specs.RegionFields.{circles_fields, deletion_fields, limit_text, point_place, polygon_fields, rectangles_fields, region_start, route_fields, thresholds_text, times_text};
 
 use crate::values::{push_digits, push_number};
-use jt_regions::{Circle, Limit, Polygon, Rectangle, Route, RoutePoint, Vertex};
+use jt_region_bodies::{Circle, Limit, Polygon, Rectangle, Route, RoutePoint, Vertex};
 use std::alloc::AllocError;
 
 /// What a list of a message has a text for.

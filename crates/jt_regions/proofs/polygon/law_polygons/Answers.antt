@@ -1,7 +1,0 @@
-use Rattle.jt_layout.proofs.Answering.{one_to_one}
-use Rattle.jt_regions.specs.Regions.{polygon}
-use Rattle.jt_regions.proofs.RegionLaws.{polygon_law}
-use Rattle.jt_regions.proofs.polygon.law_polygons.Goals as goal
-
-pub returns : goal.returns
-returns c = one_to_one polygon polygon_law

@@ -1,7 +1,0 @@
-use Rattle.jt_layout.proofs.Answering.{one_to_one}
-use Rattle.jt_regions.specs.Regions.{rectangles}
-use Rattle.jt_regions.proofs.RegionLaws.{rectangles_law}
-use Rattle.jt_regions.proofs.rectangle.law_rectangles.Goals as goal
-
-pub returns : goal.returns
-returns c = one_to_one rectangles rectangles_law
