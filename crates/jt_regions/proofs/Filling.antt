@@ -1,5 +1,5 @@
 -- What is under each id of a map after a list of regions was put over it, and how many ids there are then.
-use Rattle.std.proofs.Common.{◌≡◌, ℕ, suc, ◌+◌, ◌≤◌, ◌<◌, Bool, true, false, ◌||◌, ◌⊎◌, inl, inr, cond, eqb, List, [], ◌∷◌, ◌++◌, length, map, take, get_or, Option, Some, None, is_some, refl, sym, ap, subst, ◌∙◌, arith}
+use Rattle.std.proofs.Common.{◌≡◌, ℕ, suc, ◌+◌, ◌≤◌, ◌<◌, Bool, true, false, ◌||◌, ◌⊎◌, inl, inr, cond, eqb, List, [], ◌∷◌, ◌++◌, length, map, take, drop, get_or, Option, Some, None, is_some, refl, sym, ap, subst, ◌∙◌, arith}
 use Rattle.std.specs.Option.{option_or}
 use Rattle.std.specs.List.{list_any, IsDistinct, AllByRecursion}
 use Rattle.std.specs.List.Sorted.{IsStrictlySortedBy}
@@ -11,15 +11,17 @@ use Rattle.std.specs.Cmp.{nat_cmp_total}
 use Rattle.std.proofs.lemmas.Cmp.{eq_by_cmp_equiv}
 use Rattle.std.proofs.lemmas.Bool.{ne_eqb}
 use Rattle.std.proofs.lemmas.Bool.Decides.{nat_tests}
-use Rattle.std.proofs.lemmas.List.{take_more, length-append, length-map}
+use Rattle.std.proofs.lemmas.List.{take_more, drop_more}
 use Rattle.std.proofs.lemmas.List.Folds.{list_any-append}
 use Rattle.std.proofs.lemmas.Map.Keys.{IsDistinct-from_sorted}
 use Rattle.std.proofs.lemmas.Map.Entries.{length-keys_of}
-use Rattle.std.proofs.lemmas.Map.Made.{is_some-lookup, length-from_keys, distinct_count-le}
+use Rattle.std.proofs.lemmas.Map.Made.{is_some-lookup, length-from_keys}
 use Rattle.std.proofs.Math.Bool.{or_comm, or-false}
 use Rattle.std.proofs.lemmas.Map.Views.{exact_unsigned_eq}
-use Rattle.jt_regions.specs.Entries.{under, last_with, kept, after_setting, count_after, after_deletion}
-use Rattle.jt_regions.specs.Steps.{OwnIds, After}
+use Rattle.std.specs.FinMap.{FinMap, empty, get, keys, from_entries, contains_key, get-empty, contains_key-keys}
+use Rattle.jt_regions.specs.Kinds.{last_with, kept, first_missing, after_setting, count_after, after_deletion}
+use Rattle.jt_regions.specs.Steps.{under, OwnIds, After}
+use Rattle.jt_regions.proofs.FiniteMaps.{get_is, entries_are}
 
 or_over : {T : Type 0} (b : Bool) (x : Option T) (d : Option T) (r : T) → option_or (cond b (Some r) x) d ≡ cond b (Some r) (option_or x d)
 or_over true x d r = refl
@@ -64,19 +66,23 @@ is_some-last_with id_of (r ∷ rs) id =
     ∙ or_comm (list_any (eq_by_cmp nat_cmp id) (map id_of rs)) (eq_by_cmp nat_cmp id (id_of r))
 
 -- a map with what a list was put over has as many ids as there are different ones
-pub count_is : {T : Type 0} (id_of : T → ℕ) (entries start : List (ℕ × T)) (rs : List T) → IsStrictlySortedBy nat_cmp (keys_of entries) → ((id : ℕ) → under entries id ≡ option_or (last_with id_of rs id) (under start id)) → length (keys_of entries) ≡ distinct_count eqb (keys_of start ++ map id_of rs)
-count_is id_of entries start rs sorted is =
+pub count_is : {T : Type 0} (id_of : T → ℕ) (new : List (ℕ × T)) (start : FinMap nat_cmp T) (rs : List T) → IsStrictlySortedBy nat_cmp (keys_of new) → ((id : ℕ) → under new id ≡ option_or (last_with id_of rs id) (get start id)) → length (keys_of new) ≡ distinct_count eqb (keys start ++ map id_of rs)
+count_is id_of new start rs sorted is =
     let same : eq_by_cmp nat_cmp ≡ eqb = λ i x y. same_test x y i in
     let laws = eq_by_cmp_equiv nat_cmp_total in
-    let members : (q : ℕ) → is_member (eq_by_cmp nat_cmp) (keys_of entries) q ≡ is_member (eq_by_cmp nat_cmp) (keys_of start ++ map id_of rs) q = λ q.
-    sym (is_some-lookup (eq_by_cmp nat_cmp q) entries)
+    let members : (q : ℕ) → is_member (eq_by_cmp nat_cmp) (keys_of new) q ≡ is_member (eq_by_cmp nat_cmp) (keys start ++ map id_of rs) q = λ q.
+    sym (is_some-lookup (eq_by_cmp nat_cmp q) new)
     ∙ ap is_some (is q)
-    ∙ is_some-or (last_with id_of rs q) (under start q)
-    ∙ ap (λ b. b || is_some (under start q)) (is_some-last_with id_of rs q)
-    ∙ ap (λ b. list_any (eq_by_cmp nat_cmp q) (map id_of rs) || b) (is_some-lookup (eq_by_cmp nat_cmp q) start)
-    ∙ or_comm (list_any (eq_by_cmp nat_cmp q) (map id_of rs)) (list_any (eq_by_cmp nat_cmp q) (keys_of start))
-    ∙ sym (list_any-append (eq_by_cmp nat_cmp q) (keys_of start) (map id_of rs)) in
-    subst (λ e. length (keys_of entries) ≡ distinct_count e (keys_of start ++ map id_of rs)) same (length-from_keys laws (keys_of entries) (keys_of start ++ map id_of rs) (IsDistinct-from_sorted nat_cmp (keys_of entries) sorted) members)
+    ∙ is_some-or (last_with id_of rs q) (get start q)
+    ∙ ap (λ b. b || is_some (get start q)) (is_some-last_with id_of rs q)
+    ∙ ap (λ b. list_any (eq_by_cmp nat_cmp q) (map id_of rs) || b) (contains_key-keys start q)
+    ∙ or_comm (list_any (eq_by_cmp nat_cmp q) (map id_of rs)) (list_any (eq_by_cmp nat_cmp q) (keys start))
+    ∙ sym (list_any-append (eq_by_cmp nat_cmp q) (keys start) (map id_of rs)) in
+    subst (λ e. length (keys_of new) ≡ distinct_count e (keys start ++ map id_of rs)) same (length-from_keys laws (keys_of new) (keys start ++ map id_of rs) (IsDistinct-from_sorted nat_cmp (keys_of new) sorted) members)
+
+pub size_more : (had : Bool) (new now before count : ℕ) → new ≡ now + cond had 0 1 → now ≤ before + count → new ≤ before + (count + 1)
+size_more true new now before count is had = omega arith
+size_more false new now before count is had = omega arith
 
 -- ---- the region under an id has that id
 
@@ -96,40 +102,31 @@ last_with_own id_of (x ∷ rs) id r e =
       | inr f ↦ let t = if_some (eqb (id_of x) id) x r f in ap id_of (sym t.1) ∙ exact_unsigned_eq (id_of x) id t.0
     ]
 
-pub own_after : {T : Type 0} (id_of : T → ℕ) (list : List T) (start new : List (ℕ × T)) → OwnIds id_of start → ((id : ℕ) → under new id ≡ option_or (last_with id_of list id) (under start id)) → OwnIds id_of new
-own_after id_of list start new own is id r e =
-    elim (or_some (last_with id_of list id) (under start id) r (sym (is id) ∙ e)) [
+own_of : {T : Type 0} (id_of : T → ℕ) (none : Bool) (old : List (ℕ × T)) → OwnIds id_of old → (id : ℕ) (r : T) → get (cond none empty (from_entries {R = nat_cmp} old)) id ≡ Some r → id_of r ≡ id
+own_of id_of true old own id r e =
+    let none : None ≡ Some r = sym (get-empty nat_cmp id) ∙ e in
+    absurd cc
+own_of id_of false old own id r e = own id r (sym (get_is old id) ∙ e)
+
+own_after : {T : Type 0} (id_of : T → ℕ) (setting : ℕ) (list : List T) (old new : List (ℕ × T)) → OwnIds id_of old → ((id : ℕ) → under new id ≡ after_setting id_of setting list (from_entries old) id) → OwnIds id_of new
+own_after id_of setting list old new own is id r e =
+    elim (or_some (last_with id_of list id) (get (kept setting (from_entries old)) id) r (sym (is id) ∙ e)) [
       | inl f ↦ last_with_own id_of list id r f
-      | inr f ↦ own id r f
+      | inr f ↦ own_of id_of (eqb setting 0) old own id r f
     ]
 
-own_of : {T : Type 0} (id_of : T → ℕ) (none : Bool) (old : List (ℕ × T)) → OwnIds id_of old → OwnIds id_of (cond none [] old)
-own_of id_of true old own id r e = absurd cc
-own_of id_of false old own id r e = own id r e
-
-length_kept : {T : Type 0} (none : Bool) (old : List (ℕ × T)) → length (cond none [] old) ≤ length old
-length_kept true old = omega arith
-length_kept false old = omega arith
-
-pub after : {T : Type 0} (id_of : T → ℕ) (setting : ℕ) (list : List T) (old start new : List (ℕ × T)) → length old ≤ 1024 → length list ≤ 65535 → OwnIds id_of old → start ≡ kept setting old → IsStrictlySortedBy nat_cmp (keys_of new) → ((id : ℕ) → under new id ≡ option_or (last_with id_of list id) (under start id)) → After id_of setting list old new
-after {T} id_of setting list old start new few short own start_is sorted is =
-    let regions : (id : ℕ) → under new id ≡ after_setting id_of setting list old id = λ id. is id ∙ ap (λ s. option_or (last_with id_of list id) (under s id)) start_is in
-    let count : length new ≡ count_after id_of setting list old = sym (length-keys_of new) ∙ count_is id_of new (kept setting old) list sorted regions in
-    let bound = distinct_count-le eqb (keys_of (kept setting old) ++ map id_of list) in
-    let ids = length-append (keys_of (kept setting old)) (map id_of list) in
-    let keys = length-keys_of (kept setting old) in
-    let mapped = length-map list id_of in
-    let left = length_kept (eqb setting 0) old in
+pub after : {T : Type 0} (id_of : T → ℕ) (setting : ℕ) (list : List T) (old start new : List (ℕ × T)) → OwnIds id_of old → ((id : ℕ) → under start id ≡ get (kept setting (from_entries old)) id) → IsStrictlySortedBy nat_cmp (keys_of new) → ((id : ℕ) → under new id ≡ option_or (last_with id_of list id) (under start id)) → After id_of setting list old new
+after id_of setting list old start new own start_is sorted is =
+    let regions : (id : ℕ) → under new id ≡ after_setting id_of setting list (from_entries old) id = λ id. is id ∙ ap (option_or (last_with id_of list id)) (start_is id) in
     record {
-      regions = regions;
-      count = count;
-      own = own_after id_of list (kept setting old) new (own_of id_of (eqb setting 0) old own) regions;
-      few = omega arith;
+      regions = λ id. get_is new id ∙ regions id;
+      count = sym (length-keys_of new) ∙ count_is id_of new (kept setting (from_entries old)) list sorted regions;
+      own = own_after id_of setting list old new own regions;
     }
 
-pub after_one : {T : Type 0} (id_of : T → ℕ) (r clone : T) (key : ℕ) (old new : List (ℕ × T)) → length old ≤ 1024 → OwnIds id_of old → clone ≡ r → key ≡ id_of clone → IsStrictlySortedBy nat_cmp (keys_of new) → ((id : ℕ) → under new id ≡ cond (is_at (nat_cmp key) id) (Some clone) (under old id)) → After id_of 1 (r ∷ []) old new
-after_one id_of r clone key old new few own copied keyed sorted is =
-    after id_of 1 (r ∷ []) old old new few (omega arith) own refl sorted (λ id. put_more id_of (r ∷ []) 0 r clone key id (under old id) (under old id) (under new id) (omega arith) refl copied (keyed ∙ ap id_of copied) (is id) refl)
+pub after_one : {T : Type 0} (id_of : T → ℕ) (r clone : T) (key : ℕ) (old new : List (ℕ × T)) → OwnIds id_of old → clone ≡ r → key ≡ id_of clone → IsStrictlySortedBy nat_cmp (keys_of new) → ((id : ℕ) → under new id ≡ cond (is_at (nat_cmp key) id) (Some clone) (under old id)) → After id_of 1 (r ∷ []) old new
+after_one id_of r clone key old new own copied keyed sorted is =
+    after id_of 1 (r ∷ []) old old new own (λ id. sym (get_is old id)) sorted (λ id. put_more id_of (r ∷ []) 0 r clone key id (under old id) (under old id) (under new id) (omega arith) refl copied (keyed ∙ ap id_of copied) (is id) refl)
 
 -- ---- one region more
 
@@ -161,18 +158,25 @@ count_push (x ∷ ks) k apart =
     ∙ more_one x k ks (eqb x k) refl none (count_push ks k apart.1)
     ∙ ap (λ b. suc (length ks) + cond (b || list_any (eqb k) ks) 0 1) (flipped x k)
 
-pub count_one : {T : Type 0} (id_of : T → ℕ) (r : T) (old : List (ℕ × T)) → IsStrictlySortedBy nat_cmp (keys_of old) → count_after id_of 1 (r ∷ []) old ≡ length old + cond (is_some (under old (id_of r))) 0 1
+pub count_one : {T : Type 0} (id_of : T → ℕ) (r : T) (old : List (ℕ × T)) → IsStrictlySortedBy nat_cmp (keys_of old) → count_after id_of 1 (r ∷ []) (from_entries old) ≡ length old + cond (is_some (under old (id_of r))) 0 1
 count_one {T} id_of r old sorted =
     let same : eq_by_cmp nat_cmp ≡ eqb = λ i x y. same_test x y i in
     let apart : IsDistinct eqb (keys_of old) = subst (λ e. IsDistinct e (keys_of old)) same (IsDistinct-from_sorted nat_cmp (keys_of old) sorted) in
     let found : list_any (eqb (id_of r)) (keys_of old) ≡ is_some (under old (id_of r)) = subst (λ e. list_any (e (id_of r)) (keys_of old) ≡ is_some (under old (id_of r))) same (sym (is_some-lookup (eq_by_cmp nat_cmp (id_of r)) old)) in
-    count_push (keys_of old) (id_of r) apart ∙ ap (λ b. length (keys_of old) + cond b 0 1) found ∙ ap (λ n. n + cond (is_some (under old (id_of r))) 0 1) (length-keys_of old)
+    ap (λ (es : List (ℕ × T)). distinct_count eqb (keys_of es ++ id_of r ∷ [])) (entries_are old sorted)
+    ∙ count_push (keys_of old) (id_of r) apart ∙ ap (λ b. length (keys_of old) + cond b 0 1) found ∙ ap (λ n. n + cond (is_some (under old (id_of r))) 0 1) (length-keys_of old)
 
 -- ---- deletions
 
-pub without : {T : Type 0} (ids : List ℕ) (old : List (ℕ × T)) (id : ℕ) → 0 < length ids → after_deletion ids old id ≡ cond (list_any (eqb id) ids) None (under old id)
-without [] old id some = absurd (omega arith)
-without (i ∷ ids) old id some = refl
+pub cleared : {T : Type 0} (ids : List ℕ) (new : List (ℕ × T)) (old : FinMap nat_cmp T) (id : ℕ) → length ids ≡ 0 → new ≡ [] → get (from_entries {R = nat_cmp} new) id ≡ after_deletion ids old id
+cleared [] new old id none is = get_is new id ∙ ap (λ es. under es id) is
+cleared (i ∷ ids) new old id none is = absurd (omega arith)
+
+-- what was taken out of the entries was taken out of the map
+pub deleted : {T : Type 0} (ids : List ℕ) (es new : List (ℕ × T)) (old : FinMap nat_cmp T) (id : ℕ) → false ≡ eqb (length ids) 0 → from_entries es ≡ old → under new id ≡ cond (list_any (eqb id) ids) None (under es id) → get (from_entries {R = nat_cmp} new) id ≡ after_deletion ids old id
+deleted [] es new old id some view is = absurd cc
+deleted {T} (i ∷ ids) es new old id some view is =
+    get_is new id ∙ is ∙ ap (cond (list_any (eqb id) (i ∷ ids)) None) (sym (get_is es id) ∙ ap (λ (map : FinMap nat_cmp T). get map id) view)
 
 out_more : {T : Type 0} (b c : Bool) (start : Option T) → cond c None (cond b None start) ≡ cond (b || c) None start
 out_more true true start = refl
@@ -188,13 +192,25 @@ take_more_out ids i id start was new lt takes before =
     let more : list_any (eqb id) (take (i + 1) ids) ≡ (list_any (eqb id) (take i ids) || eqb id k) = ap (list_any (eqb id)) (take_more ids i 0 lt) ∙ member_push (take i ids) k id in
     takes ∙ ap (λ b. cond b None was) test ∙ ap (cond (eqb id k) None) before ∙ out_more (list_any (eqb id) (take i ids)) (eqb id k) start ∙ ap (λ b. cond b None start) (sym more)
 
-pub own_left : {T : Type 0} (id_of : T → ℕ) (ids : List ℕ) (old new : List (ℕ × T)) → OwnIds id_of old → ((id : ℕ) → under new id ≡ cond (list_any (eqb id) ids) None (under old id)) → OwnIds id_of new
-own_left {T} id_of ids old new own is id r e = left (list_any (eqb id) ids) (sym (is id) ∙ e) where
-  left : (b : Bool) → cond b None (under old id) ≡ Some r → id_of r ≡ id
-  left true f = absurd cc
-  left false f = own id r f
+-- ---- what is kept
 
--- ---- copies
+pub kept_none : {T : Type 0} (setting : ℕ) (old : FinMap nat_cmp T) (id : ℕ) → setting ≡ 0 → None ≡ get (kept setting old) id
+kept_none setting old id none = sym (ap (λ s. get (kept s old) id) none ∙ get-empty nat_cmp id)
 
-pub kept_all : {T : Type 0} (setting : ℕ) (old : List (ℕ × T)) → (setting ≡ 0 → ⊥) → kept setting old ≡ old
+kept_all : {T : Type 0} (setting : ℕ) (old : FinMap nat_cmp T) → (setting ≡ 0 → ⊥) → kept setting old ≡ old
 kept_all setting old some = rw (ne_eqb setting 0 some) refl
+
+-- a copy of the entries has each region
+pub kept_copy : {T : Type 0} (setting : ℕ) (old new : List (ℕ × T)) (id : ℕ) → (setting ≡ 0 → ⊥) → new ≡ old → under new id ≡ get (kept setting (from_entries old)) id
+kept_copy {T} setting old new id some is =
+    ap (λ (es : List (ℕ × T)). under es id) is ∙ sym (get_is old id) ∙ ap (λ (map : FinMap nat_cmp T). get map id) (sym (kept_all setting (from_entries old) some))
+
+-- ---- the first region that is missing
+
+-- a region of the list was looked up
+pub missing_at : {T : Type 0} (id_of : T → ℕ) (old : List (ℕ × T)) (list : List T) (i key : ℕ) (r : T) (has : Bool) → i < length list → r ≡ get_or list i r → key ≡ id_of r → has ≡ is_some (under old key) → first_missing id_of (from_entries old) (drop i list) ≡ cond has (first_missing id_of (from_entries old) (drop (i + 1) list)) (Some key)
+missing_at {T} id_of old list i key r has lt at keyed is =
+    let rest = drop (i + 1) list in
+    let more : drop i list ≡ r ∷ rest = drop_more list i r lt ∙ ap (λ (x : T). x ∷ rest) (sym at) in
+    let found : contains_key (from_entries {R = nat_cmp} old) (id_of r) ≡ has = ap is_some (get_is old (id_of r)) ∙ ap (λ k. is_some (under old k)) (sym keyed) ∙ sym is in
+    ap (first_missing id_of (from_entries old)) more ∙ ap (λ b. cond b (first_missing id_of (from_entries old) rest) (Some (id_of r))) found ∙ ap (λ k. cond has (first_missing id_of (from_entries old) rest) (Some k)) (sym keyed)

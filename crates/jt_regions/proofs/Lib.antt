@@ -1,1 +1,2 @@
+pub mod FiniteMaps
 pub mod Filling

@@ -1,4 +1,5 @@
-pub mod Entries
+pub mod Kinds
 pub mod Steps
+pub mod Stored
 pub mod Tables
 pub use Rattle.jt_region_bodies.specs.Regions

@@ -1,7 +1,6 @@
--- The table of a terminal's regions: four maps from id to region, and what a change makes of them (this project's own). To be believed.
+-- The table of a terminal's regions: four finite maps from id to region, and what a change makes of them (this project's own). To be believed.
 use Rattle.std.specs.Prelude.{◌≡◌, ℕ, ◌≤◌, List, [], ◌∷◌, length, Result, Ok}
-use Rattle.std.specs.List.Sorted.{IsStrictlySortedBy}
-use Rattle.std.specs.Map.{keys_of}
+use Rattle.std.specs.FinMap.{FinMap, get, len}
 use Rattle.std.specs.Ordering.{nat_cmp}
 use Rattle.jt_region_bodies.specs.declared.circle.Circle.{Circle}
 use Rattle.jt_region_bodies.specs.declared.rectangle.Rectangle.{Rectangle}
@@ -12,28 +11,21 @@ use Rattle.jt_region_bodies.specs.declared.kind.RegionKind.TheVariants as kind
 use Rattle.jt_regions.specs.declared.change.RegionChange.{RegionChange}
 use Rattle.jt_regions.specs.declared.change.RegionChange.TheVariants as change
 use Rattle.jt_regions.specs.declared.error.RegionError.{RegionError}
-use Rattle.jt_regions.specs.Entries.{under, Sets, after_deletion}
+use Rattle.jt_regions.specs.Kinds.{Sets, after_deletion}
 
--- the four maps, each by its entries in order of id
+-- for each kind a map from id to region
 pub record Regions : Type 0 where
-  pub circles : List (ℕ × Circle)
-  pub rectangles : List (ℕ × Rectangle)
-  pub polygons : List (ℕ × Polygon)
-  pub routes : List (ℕ × Route)
+  pub circles : FinMap nat_cmp Circle
+  pub rectangles : FinMap nat_cmp Rectangle
+  pub polygons : FinMap nat_cmp Polygon
+  pub routes : FinMap nat_cmp Route
 
 -- how many regions of a kind there are
 abbrev pub count_of : RegionKind → Regions → ℕ
-count_of kind.Circle t = length t.circles
-count_of kind.Rectangle t = length t.rectangles
-count_of kind.Polygon t = length t.polygons
-count_of kind.Route t = length t.routes
-
--- the regions of a kind stand in order of id, no id twice
-abbrev pub AreOrdered : RegionKind → Regions → Type 0
-AreOrdered kind.Circle t = IsStrictlySortedBy nat_cmp (keys_of t.circles)
-AreOrdered kind.Rectangle t = IsStrictlySortedBy nat_cmp (keys_of t.rectangles)
-AreOrdered kind.Polygon t = IsStrictlySortedBy nat_cmp (keys_of t.polygons)
-AreOrdered kind.Route t = IsStrictlySortedBy nat_cmp (keys_of t.routes)
+count_of kind.Circle t = len t.circles
+count_of kind.Rectangle t = len t.rectangles
+count_of kind.Polygon t = len t.polygons
+count_of kind.Route t = len t.routes
 
 -- the regions of all other kinds are as before
 abbrev pub OthersStay : RegionKind → Regions → Regions → Type 0
@@ -44,10 +36,10 @@ OthersStay kind.Route old new = (new.circles ≡ old.circles) × (new.rectangles
 
 -- the regions of a kind after a deletion
 abbrev pub Deleted : RegionKind → List ℕ → Regions → Regions → Type 0
-Deleted kind.Circle ids old new = (id : ℕ) → under new.circles id ≡ after_deletion ids old.circles id
-Deleted kind.Rectangle ids old new = (id : ℕ) → under new.rectangles id ≡ after_deletion ids old.rectangles id
-Deleted kind.Polygon ids old new = (id : ℕ) → under new.polygons id ≡ after_deletion ids old.polygons id
-Deleted kind.Route ids old new = (id : ℕ) → under new.routes id ≡ after_deletion ids old.routes id
+Deleted kind.Circle ids old new = (id : ℕ) → get new.circles id ≡ after_deletion ids old.circles id
+Deleted kind.Rectangle ids old new = (id : ℕ) → get new.rectangles id ≡ after_deletion ids old.rectangles id
+Deleted kind.Polygon ids old new = (id : ℕ) → get new.polygons id ≡ after_deletion ids old.polygons id
+Deleted kind.Route ids old new = (id : ℕ) → get new.routes id ≡ after_deletion ids old.routes id
 
 -- What applying a change answers, and the table afterwards. A polygon or a route is added or replaces the one of its id.
 abbrev pub Applies : RegionChange → Regions → Result (Unit {0}) RegionError → Regions → Type 0

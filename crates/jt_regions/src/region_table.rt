@@ -1,8 +1,8 @@
 //! The table of a terminal's regions.
 
-ghost use Rattle.std.specs.Prelude.{◌≡◌, ◌≤◌, [], IfSome, OnErr, option_copied};
-ghost use Rattle.jt_regions.specs.Entries.{under};
-ghost use Rattle.jt_regions.specs.Tables.{count_of, AreOrdered, Applies, AtMost, Deleted, OthersStay};
+ghost use Rattle.std.specs.Prelude.{◌≡◌, ◌≤◌, IfSome, OnErr, option_copied};
+ghost use Rattle.std.specs.FinMap as map;
+ghost use Rattle.jt_regions.specs.Tables.{count_of, Applies, AtMost, Deleted, OthersStay};
 
 use crate::change::RegionChange;
 use crate::error::RegionError;
@@ -22,8 +22,11 @@ pub struct RegionTable {
 
 impl Model for RegionTable {
     ghost use Rattle.jt_regions.specs.Tables.{Regions};
+    ghost use Rattle.jt_regions.specs.Stored.{regions_code};
 
     ghost Value = { Regions };
+
+    ghost coded = { regions_code };
 
     ghost view = { λ table. record { circles = table.circles; rectangles = table.rectangles; polygons = table.polygons; routes = table.routes } };
 }
@@ -31,7 +34,7 @@ impl Model for RegionTable {
 impl RegionTable {
     /// A table of no regions, which takes no memory.
     pub fn new(alloc: Global) -> RegionTable
-        ensures { result ≡ record { circles = []; rectangles = []; polygons = []; routes = [] } }
+        ensures { result ≡ record { circles = map.empty; rectangles = map.empty; polygons = map.empty; routes = map.empty } }
     {
         RegionTable {
             circles: Table::new(alloc),
@@ -43,7 +46,7 @@ impl RegionTable {
 
     /// The circle of an id, or None where the table has none.
     pub fn circle(&self, id: u32) -> Option<&Circle>
-        ensures circle { option_copied result ≡ under self.now.circles id }
+        ensures circle { option_copied result ≡ map.get self.now.circles id }
         ensures id { IfSome result (λ circle. circle.now.id ≡ id) }
     {
         self.circles.get(id)
@@ -51,7 +54,7 @@ impl RegionTable {
 
     /// The rectangle of an id, or None where the table has none.
     pub fn rectangle(&self, id: u32) -> Option<&Rectangle>
-        ensures rectangle { option_copied result ≡ under self.now.rectangles id }
+        ensures rectangle { option_copied result ≡ map.get self.now.rectangles id }
         ensures id { IfSome result (λ rectangle. rectangle.now.id ≡ id) }
     {
         self.rectangles.get(id)
@@ -59,7 +62,7 @@ impl RegionTable {
 
     /// The polygon of an id, or None where the table has none.
     pub fn polygon(&self, id: u32) -> Option<&Polygon>
-        ensures polygon { option_copied result ≡ under self.now.polygons id }
+        ensures polygon { option_copied result ≡ map.get self.now.polygons id }
         ensures id { IfSome result (λ polygon. polygon.now.id ≡ id) }
     {
         self.polygons.get(id)
@@ -67,7 +70,7 @@ impl RegionTable {
 
     /// The route of an id, or None where the table has none.
     pub fn route(&self, id: u32) -> Option<&Route>
-        ensures route { option_copied result ≡ under self.now.routes id }
+        ensures route { option_copied result ≡ map.get self.now.routes id }
         ensures id { IfSome result (λ route. route.now.id ≡ id) }
     {
         self.routes.get(id)
@@ -77,7 +80,6 @@ impl RegionTable {
     pub fn count(&self, kind: RegionKind) -> u32
         ensures count { result ≡ count_of kind self.now }
         ensures few { result ≤ 1024 }
-        ensures ordered { AreOrdered kind self.now }
     {
         let count = match kind {
             RegionKind::Circle => self.circles.len(),
@@ -91,17 +93,17 @@ impl RegionTable {
     /// Applies a change of at most 65,535 regions or ids. On any error the table is as before. BadSetting comes exactly where
     /// the setting is above 2; then NoRegion exactly where the setting is 2, with the first id of the list that the table
     /// lacks; then TooMany exactly where the kind would have more than 1,024 regions, with their number; or Memory.
-    pub fn apply(&mut self, alloc: Global, change: &RegionChange) -> Result<(), RegionError>
+    pub fn apply(&mut self, change: &RegionChange) -> Result<(), RegionError>
         requires { AtMost 65535 change.now }
         ensures answer { Applies change.now self.old result self.new }
         ensures err { OnErr result (self.new ≡ self.old) }
     {
         match change {
             RegionChange::Circles { setting, list } => {
-                self.circles.set(alloc, *setting, list.as_slice())
+                self.circles.set(*setting, list.as_slice())
             }
             RegionChange::Rectangles { setting, list } => {
-                self.rectangles.set(alloc, *setting, list.as_slice())
+                self.rectangles.set(*setting, list.as_slice())
             }
             RegionChange::Polygon(polygon) => self.polygons.put(polygon),
             RegionChange::Route(route) => self.routes.put(route),

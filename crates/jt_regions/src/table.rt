@@ -1,15 +1,13 @@
 //! The regions of one kind.
 
-ghost use Rattle.std.specs.Prelude.{◌≡◌, ℕ, nat_eq, ◌≤◌, ◌<◌, ◌+◌, ◌↔◌, [], ◌∷◌, ◌++◌, length, map, IsNone, IfOk, IfSome, OnErr, OnOk, option_copied, if◌then◌else◌, None};
+ghost use Rattle.std.specs.Prelude.{◌≡◌, ℕ, nat_eq, ◌≤◌, ◌+◌, [], ◌∷◌, length, IfOk, IfSome, OnErr, OnOk, option_copied, if◌then◌else◌, None};
+ghost use Rattle.std.specs.BTreeMap as tree;
+ghost use Rattle.std.specs.FinMap as map;
 ghost use Rattle.std.specs.Ordering.{nat_cmp};
-ghost use Rattle.std.specs.BTreeMap.{get, btree_map_len, IsUnchanged};
 ghost use Rattle.std.specs.Option.{option_or};
 ghost use Rattle.std.specs.List.{list_any};
-ghost use Rattle.std.specs.List.Sorted.{IsStrictlySortedBy};
-ghost use Rattle.std.specs.Map.{keys_of};
-ghost use Rattle.std.specs.Set.{distinct_count};
-ghost use Rattle.jt_regions.specs.Entries as entries;
-ghost use Rattle.jt_regions.specs.Entries.{under, last_with, first_missing, count_after, Sets, after_deletion};
+ghost use Rattle.jt_regions.specs.Kinds as kinds;
+ghost use Rattle.jt_regions.specs.Kinds.{last_with, first_missing, count_after, Sets, after_deletion};
 ghost use Rattle.jt_regions.specs.Steps.{OwnIds, After};
 
 use crate::error::RegionError;
@@ -24,18 +22,25 @@ const LIMIT: usize = 1024;
 /// At most 1,024 regions, each under its id.
 #[derive(Drop)]
 pub struct Table<T: Identified> {
+    alloc: Global,
     regions: BTreeMap<u32, T>,
 }
 
 impl<T: Identified> Model for Table<T> {
-    ghost use Rattle.std.specs.Prelude.{ℕ, ◌≤◌, List, length};
+    ghost use Rattle.std.specs.Prelude.{◌≤◌};
+    ghost use Rattle.std.specs.BTreeMap.{btree_map_len};
+    ghost use Rattle.std.specs.Coded.{coded_ℕ};
+    ghost use Rattle.std.specs.FinMap.{FinMap, code, from_entries};
+    ghost use Rattle.std.specs.Ordering.{nat_cmp};
     ghost use Rattle.jt_regions.specs.Steps.{OwnIds};
 
-    ghost Value = { List (ℕ × T) };
+    ghost Value = { FinMap nat_cmp T };
 
-    ghost view = { λ table. table.regions.entries };
+    ghost coded = { code coded_ℕ T.code };
 
-    ghost invariant = { λ table. (length table.regions.entries ≤ 1024) × OwnIds T.id_of table.regions.entries };
+    ghost view = { λ table. from_entries table.regions.entries };
+
+    ghost invariant = { λ table. (btree_map_len table.regions ≤ 1024) × OwnIds T.id_of table.regions.entries };
 }
 
 // The map with the last region of a list under each id, and otherwise with those that it had.
@@ -43,7 +48,8 @@ fn filled<T: Identified>(
     regions: BTreeMap<u32, T>,
     list: &[T],
 ) -> Result<BTreeMap<u32, T>, AllocError>
-    ensures { IfOk result (λ filled. (id : ℕ) → get nat_cmp filled id ≡ option_or (last_with T.id_of list.now id) (get nat_cmp regions id)) }
+    ensures regions { IfOk result (λ filled. (id : ℕ) → tree.get nat_cmp filled id ≡ option_or (last_with T.id_of list.now id) (tree.get nat_cmp regions id)) }
+    ensures len { IfOk result (λ filled. tree.btree_map_len filled ≤ tree.btree_map_len regions + length list.now) }
 {
     let mut filled = regions;
     for region in list {
@@ -58,7 +64,8 @@ fn kept<T: Identified>(
     regions: &BTreeMap<u32, T>,
     setting: u8,
 ) -> Result<BTreeMap<u32, T>, AllocError>
-    ensures { IfOk result (λ kept. kept.entries ≡ entries.kept setting regions.now.entries) }
+    ensures regions { IfOk result (λ kept. (id : ℕ) → tree.get nat_cmp kept id ≡ map.get (kinds.kept setting (map.from_entries regions.now.entries)) id) }
+    ensures len { IfOk result (λ kept. tree.btree_map_len kept ≤ tree.btree_map_len regions.now) }
 {
     if setting == 0 {
         return Ok(BTreeMap::new(alloc));
@@ -68,7 +75,7 @@ fn kept<T: Identified>(
 
 // The first id of the list under which there is no region.
 fn absent<T: Identified>(regions: &BTreeMap<u32, T>, list: &[T]) -> Option<u32>
-    ensures { result ≡ first_missing T.id_of regions.now.entries list.now }
+    ensures { result ≡ first_missing T.id_of (map.from_entries regions.now.entries) list.now }
 {
     for region in list {
         let id = region.id();
@@ -81,7 +88,7 @@ fn absent<T: Identified>(regions: &BTreeMap<u32, T>, list: &[T]) -> Option<u32>
 
 // The id that a setting has no region for.
 fn missing<T: Identified>(regions: &BTreeMap<u32, T>, setting: u8, list: &[T]) -> Option<u32>
-    ensures { result ≡ entries.missing T.id_of setting list.now regions.now.entries }
+    ensures { result ≡ kinds.missing T.id_of setting list.now (map.from_entries regions.now.entries) }
 {
     if setting == 2 {
         absent(regions, list)
@@ -92,8 +99,8 @@ fn missing<T: Identified>(regions: &BTreeMap<u32, T>, setting: u8, list: &[T]) -
 
 // How many regions there are with one more.
 fn count_with<T: Identified>(regions: &BTreeMap<u32, T>, region: &T) -> usize
-    ensures count { result ≡ count_after T.id_of 1 (region.now ∷ []) regions.now.entries }
-    ensures few { result ≤ btree_map_len regions.now + 1 }
+    ensures count { result ≡ count_after T.id_of 1 (region.now ∷ []) (map.from_entries regions.now.entries) }
+    ensures few { result ≤ tree.btree_map_len regions.now + 1 }
 {
     let more = if regions.contains_key(&region.id()) {
         0
@@ -105,8 +112,8 @@ fn count_with<T: Identified>(regions: &BTreeMap<u32, T>, region: &T) -> usize
 
 // Takes out the regions of these ids.
 fn take_out<T: Identified>(regions: &mut BTreeMap<u32, T>, ids: &[u32])
-    ensures regions { (id : ℕ) → get nat_cmp regions.new id ≡ (if list_any (nat_eq id) ids.now then None else get nat_cmp regions.old id) }
-    ensures len { btree_map_len regions.new ≤ btree_map_len regions.old }
+    ensures regions { (id : ℕ) → tree.get nat_cmp regions.new id ≡ (if list_any (nat_eq id) ids.now then None else tree.get nat_cmp regions.old id) }
+    ensures len { tree.btree_map_len regions.new ≤ tree.btree_map_len regions.old }
 {
     for id in ids {
         regions.remove(id);
@@ -120,10 +127,11 @@ fn after<T: Identified>(
     setting: u8,
     list: &[T],
 ) -> Result<BTreeMap<u32, T>, AllocError>
-    requires few { btree_map_len regions.now ≤ 1024 }
+    requires few { tree.btree_map_len regions.now ≤ 1024 }
     requires own { OwnIds T.id_of regions.now.entries }
     requires list { length list.now ≤ 65535 }
-    ensures { IfOk result (λ next. After T.id_of setting list.now regions.now.entries next.entries) }
+    ensures regions { IfOk result (λ next. After T.id_of setting list.now regions.now.entries next.entries) }
+    ensures few { IfOk result (λ next. tree.btree_map_len next ≤ 66559) }
 {
     let kept = kept(alloc, regions, setting)?;
     let next = filled(kept, list)?;
@@ -133,10 +141,9 @@ fn after<T: Identified>(
 
 // Puts a copy of a region over the map.
 fn put_over<T: Identified>(regions: &mut BTreeMap<u32, T>, region: &T) -> Result<(), AllocError>
-    requires few { btree_map_len regions.old ≤ 1024 }
-    requires own { OwnIds T.id_of regions.old.entries }
+    requires { OwnIds T.id_of regions.old.entries }
     ensures ok { OnOk result (After T.id_of 1 (region.now ∷ []) regions.old.entries regions.new.entries) }
-    ensures err { OnErr result (IsUnchanged regions.old regions.new) }
+    ensures err { OnErr result (tree.IsUnchanged regions.old regions.new) }
 {
     let region = region.clone()?;
     regions.insert(region.id(), region)?;
@@ -146,33 +153,35 @@ fn put_over<T: Identified>(regions: &mut BTreeMap<u32, T>, region: &T) -> Result
 impl<T: Identified> Table<T> {
     /// No regions.
     pub fn new(alloc: Global) -> Table<T>
-        ensures { result ≡ [] }
+        ensures { result ≡ map.empty }
     {
         Table {
+            alloc,
             regions: BTreeMap::new(alloc),
         }
     }
 
     /// The region under an id.
+    #[tactic(auto, using(crate::proofs::FiniteMaps::get_is))]
     pub fn get(&self, id: u32) -> Option<&T>
-        ensures region { option_copied result ≡ under self.now id }
+        ensures region { option_copied result ≡ map.get self.now id }
         ensures id { IfSome result (λ region. T.id_of region.now ≡ id) }
     {
         self.regions.get(&id)
     }
 
     /// The number of regions.
+    #[tactic(auto, using(crate::proofs::FiniteMaps::len_is))]
     pub fn len(&self) -> usize
-        ensures len { result ≡ length self.now }
+        ensures len { result ≡ map.len self.now }
         ensures few { result ≤ 1024 }
-        ensures ordered { IsStrictlySortedBy nat_cmp (keys_of self.now) }
     {
         self.regions.len()
     }
 
     /// Sets a list of regions: with setting 0 they are the regions, with 1 each is added or replaces the one of its id, with
     /// 2 each replaces it.
-    pub fn set(&mut self, alloc: Global, setting: u8, list: &[T]) -> Result<(), RegionError>
+    pub fn set(&mut self, setting: u8, list: &[T]) -> Result<(), RegionError>
         requires { length list.now ≤ 65535 }
         ensures { Sets T.id_of setting list.now self.old result self.new }
     {
@@ -183,7 +192,7 @@ impl<T: Identified> Table<T> {
             Some(id) => return Err(RegionError::NoRegion(id)),
             None => {}
         }
-        let next = after(alloc, &self.regions, setting, list)?;
+        let next = after(self.alloc, &self.regions, setting, list)?;
         let count = next.len();
         if count > LIMIT {
             return Err(RegionError::TooMany(count as u32));
@@ -205,8 +214,9 @@ impl<T: Identified> Table<T> {
     }
 
     /// Takes out the regions of these ids, and all where there are none.
+    #[tactic(auto, using(crate::proofs::Filling::cleared, crate::proofs::Filling::deleted))]
     pub fn delete(&mut self, ids: &[u32])
-        ensures { (id : ℕ) → under self.new id ≡ after_deletion ids.now self.old id }
+        ensures { (id : ℕ) → map.get self.new id ≡ after_deletion ids.now self.old id }
     {
         if ids.is_empty() {
             self.regions.clear();

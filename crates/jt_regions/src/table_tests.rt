@@ -47,14 +47,14 @@ fn set(
     let Ok(list) = seq(alloc, circles) else {
         return Err(RegionError::Memory);
     };
-    table.apply(alloc, &RegionChange::Circles { setting, list })
+    table.apply(&RegionChange::Circles { setting, list })
 }
 
 fn set_rectangle(alloc: Global, table: &mut RegionTable, id: u32) -> Result<(), RegionError> {
     let Ok(list) = seq(alloc, &[rectangle(id)]) else {
         return Err(RegionError::Memory);
     };
-    table.apply(alloc, &RegionChange::Rectangles { setting: 1, list })
+    table.apply(&RegionChange::Rectangles { setting: 1, list })
 }
 
 fn put_polygon(alloc: Global, table: &mut RegionTable, id: u32) -> Result<(), RegionError> {
@@ -65,7 +65,7 @@ fn put_polygon(alloc: Global, table: &mut RegionTable, id: u32) -> Result<(), Re
         limit: None,
         vertices: Seq::new(alloc),
     };
-    table.apply(alloc, &RegionChange::Polygon(polygon))
+    table.apply(&RegionChange::Polygon(polygon))
 }
 
 fn put_route(
@@ -80,7 +80,7 @@ fn put_route(
         times: None,
         points: Seq::new(alloc),
     };
-    table.apply(alloc, &RegionChange::Route(route))
+    table.apply(&RegionChange::Route(route))
 }
 
 fn delete(
@@ -94,7 +94,7 @@ fn delete(
     let Ok(ids) = seq(alloc, ids) else {
         return Err(RegionError::Memory);
     };
-    table.apply(alloc, &RegionChange::Delete { kind, ids })
+    table.apply(&RegionChange::Delete { kind, ids })
 }
 
 fn radius_of(table: &RegionTable, id: u32) -> Option<u32> {

@@ -1,8 +1,7 @@
 -- The names of messages: this project's texts. To be believed.
-use Rattle.std.specs.Prelude.{ℕ, ◌==◌, if◌then◌else◌, List, codes}
+use Rattle.std.specs.Prelude.{ℕ, ◌==◌, if◌then◌else◌, List, Option, Some, None, codes}
 use Rattle.jt_header.specs.declared.header.Header.{Header}
-use Rattle.jt_region_bodies.specs.declared.kind.RegionKind.{RegionKind}
-use Rattle.jt_region_bodies.specs.declared.kind.RegionKind.TheVariants as kind
+use Rattle.jt_codec.specs.Bodies.{id_of}
 use Rattle.jt_codec.specs.declared.message.Message.{Message}
 use Rattle.jt_codec.specs.declared.message.Message.TheVariants as message
 
@@ -37,37 +36,17 @@ id_name id =
     else if id == 0x8607 then codes "delete-routes"
     else codes "opaque"
 
--- the name of the deletion of a kind
-abbrev pub deletion_name : RegionKind → List ℕ
-deletion_name kind.Circle = codes "delete-circles"
-deletion_name kind.Rectangle = codes "delete-rectangles"
-deletion_name kind.Polygon = codes "delete-polygons"
-deletion_name kind.Route = codes "delete-routes"
+-- The id by which a message is named: a packet's is that of its header. A body that is carried as its octets has none,
+-- whatever its id.
+abbrev pub naming_id : Header → Message → Option ℕ
+naming_id header (message.Part _) = Some header.id
+naming_id header (message.Opaque _ _) = None
+naming_id header read = id_of read
 
--- a message's name; a packet has that of its id
+abbrev pub name_under : Option ℕ → List ℕ
+name_under None = codes "opaque"
+name_under (Some id) = id_name id
+
+-- a message's name
 abbrev pub name_of : Header → Message → List ℕ
-name_of header (message.TerminalAck _ _ _) = codes "terminal-ack"
-name_of header (message.PlatformAck _ _ _) = codes "platform-ack"
-name_of header message.Heartbeat = codes "heartbeat"
-name_of header message.Deregister = codes "deregister"
-name_of header (message.Register _) = codes "register"
-name_of header (message.RegisterReply _) = codes "register-reply"
-name_of header (message.Auth _) = codes "auth"
-name_of header (message.SetParams _) = codes "set-params"
-name_of header message.QueryParams = codes "query-params"
-name_of header (message.QuerySome _) = codes "query-some"
-name_of header (message.Params _ _) = codes "params"
-name_of header (message.Position _) = codes "position"
-name_of header (message.PositionReply _ _) = codes "position-reply"
-name_of header message.QueryPosition = codes "query-position"
-name_of header (message.Track _ _) = codes "track"
-name_of header (message.Batch _) = codes "batch"
-name_of header (message.Text _ _ _) = codes "text"
-name_of header (message.Control _ _) = codes "control"
-name_of header (message.Circles _ _) = codes "circles"
-name_of header (message.Rectangles _ _) = codes "rectangles"
-name_of header (message.Polygon _) = codes "polygon"
-name_of header (message.Route _) = codes "route"
-name_of header (message.Delete kind _) = deletion_name kind
-name_of header (message.Opaque _ _) = codes "opaque"
-name_of header (message.Part _) = id_name header.id
+name_of header message = name_under (naming_id header message)

@@ -6,14 +6,13 @@ ghost use Rattle.hex.specs.Hex.{encode_lower};
 ghost use Rattle.jt_value.specs.Phone.{field_of};
 ghost use Rattle.jt_codec.specs.declared.message.Message.TheVariants as message;
 ghost use Rattle.jt_text.specs.Frames.{bit15_text, frame_start, header_fields, packet_text, version_text, view_line, year};
-ghost use Rattle.jt_text.specs.Names.{deletion_name, id_name, name_of};
+ghost use Rattle.jt_text.specs.Names.{id_name, name_of, naming_id};
 
 use crate::fields::{push_fields, push_item_views, put_fixed};
 use crate::line::Line;
 use jt_codec::Message;
 use jt_header::{Header, Packet};
 use jt_position::PositionView;
-use jt_region_bodies::RegionKind;
 use jt_value::{Edition, Memory, Octets, Phone};
 use std::alloc::{AllocError, Global};
 
@@ -54,15 +53,14 @@ fn id_name(id: u16) -> &'static str
     }
 }
 
-fn deletion_name(kind: RegionKind) -> &'static str
-    ensures name { result.now ≡ deletion_name kind }
-    ensures short { length result.now ≤ 17 }
+// The id by which a message is named.
+fn naming_id(header: &Header, message: &Message) -> Option<u16>
+    ensures { result ≡ naming_id header.now message.now }
 {
-    match kind {
-        RegionKind::Circle => "delete-circles",
-        RegionKind::Rectangle => "delete-rectangles",
-        RegionKind::Polygon => "delete-polygons",
-        RegionKind::Route => "delete-routes",
+    match message {
+        Message::Part(_) => Some(header.id),
+        Message::Opaque { .. } => None,
+        _ => message.id(),
     }
 }
 
@@ -70,32 +68,9 @@ fn name(header: &Header, message: &Message) -> &'static str
     ensures name { result.now ≡ name_of header.now message.now }
     ensures short { length result.now ≤ 17 }
 {
-    match message {
-        Message::TerminalAck { .. } => "terminal-ack",
-        Message::PlatformAck { .. } => "platform-ack",
-        Message::Heartbeat => "heartbeat",
-        Message::Deregister => "deregister",
-        Message::Register(_) => "register",
-        Message::RegisterReply(_) => "register-reply",
-        Message::Auth(_) => "auth",
-        Message::SetParams(_) => "set-params",
-        Message::QueryParams => "query-params",
-        Message::QuerySome(_) => "query-some",
-        Message::Params { .. } => "params",
-        Message::Position(_) => "position",
-        Message::PositionReply { .. } => "position-reply",
-        Message::QueryPosition => "query-position",
-        Message::Track { .. } => "track",
-        Message::Batch(_) => "batch",
-        Message::Text { .. } => "text",
-        Message::Control { .. } => "control",
-        Message::Circles { .. } => "circles",
-        Message::Rectangles { .. } => "rectangles",
-        Message::Polygon(_) => "polygon",
-        Message::Route(_) => "route",
-        Message::Delete { kind, .. } => deletion_name(*kind),
-        Message::Opaque { .. } => "opaque",
-        Message::Part(_) => id_name(header.id),
+    match naming_id(header, message) {
+        Some(id) => id_name(id),
+        None => "opaque",
     }
 }
 
@@ -211,7 +186,7 @@ fn put_front(line: &mut Line, place: u64, header: &Header, name: &str, body_len:
 
 /// Puts the line of a frame whose body is a position, read in place, at the end of a text, `place` being that of its opening
 /// flag and `body_len` the octets of its body. `line` is room that is used again.
-#[tactic(auto, using(std::proofs::Common::append_assoc), unfolding(crate::specs::Frames::view_line, crate::specs::PositionFields::position_fields))]
+#[tactic(auto, using(std::proofs::Common::append_assoc), unfolding(crate::specs::Frames::view_line, crate::specs::Names::id_name, crate::specs::PositionFields::position_fields))]
 pub fn push_position_line(
     text: &mut String,
     line: &mut Line,
@@ -255,7 +230,7 @@ fn push_bare_line(
 
 /// Puts the line of a heartbeat at the end of a text, `place` being that of its opening flag and `body_len` the octets of its
 /// body. `line` is room that is used again.
-#[tactic(auto, using(std::proofs::Common::append_assoc), unfolding(crate::specs::Frames::view_line))]
+#[tactic(auto, using(std::proofs::Common::append_assoc), unfolding(crate::specs::Frames::view_line, crate::specs::Names::id_name))]
 pub fn push_heartbeat_line(
     text: &mut String,
     line: &mut Line,

@@ -1,5 +1,5 @@
 use Rattle.std.proofs.Common.{◌≡◌, cond, is_some, sym, ap, ◌∙◌, arith}
-use Rattle.jt_regions.specs.Entries.{under}
+use Rattle.jt_regions.specs.Steps.{under}
 use Rattle.jt_regions.proofs.Filling.{count_one}
 use Rattle.jt_regions.proofs.table.count_with.Goals as goal
 use Rattle.jt_regions.proofs.table.count_with.Goals.{then-contains_key, else-contains_key}
