@@ -43,7 +43,7 @@ pub Runs-one : (old new : State) (octet : ℕ) (events : List Event) → new ≡
 Runs-one old new octet events e f =
     record { reached = e; read = f ∙ sym (append-nil (events_of old octet)); quiet = λ count lt. quiet_one old octet count lt }
 
--- a state is alike itself
+-- a state is like itself
 pub Runs-kept : (old new : State) (octets : List ℕ) (events : List Event) → Runs old new octets events → RunsInPlace old new octets events
 Runs-kept old new octets events runs = record { kept = new; runs = runs; alike = refl }
 

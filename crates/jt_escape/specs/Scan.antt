@@ -132,7 +132,7 @@ pub record Runs (old new : State) (octets : List ℕ) (events : List Event) : Ty
   pub read : events ≡ scan old octets
   pub quiet : (count : ℕ) → count < length octets → scan old (take count octets) ≡ []
 
--- the same, to a state that is alike the new one
+-- the same, where the new state is only like the one that is reached, which keeps every content
 pub record RunsInPlace (old new : State) (octets : List ℕ) (events : List Event) : Type 0 where
   pub kept : State
   pub runs : Runs old kept octets events
