@@ -26,8 +26,8 @@ fn judge_made(alloc: Global, header: &Header, body: &[u8]) -> Result<Option<Refu
 }
 
 /// The first reason against the body behind this header, of at most 1,023 octets, with its offset in the content and `at`
-/// 0, or None where `read_message` has a message of it. Heartbeats, positions and packets are judged in place and take no
-/// memory; of every other body a message is made and dropped.
+/// 0, or None where `read_message` has a message of it. Heartbeats, positions, batches and packets are judged in place and
+/// take no memory; of every other body a message is made and dropped.
 #[inline(always)]
 pub fn judge_message(alloc: Global, header: &Header, body: &[u8]) -> Result<Option<Refusal>, Memory>
     requires { length body.now < 2 ^ 10 }

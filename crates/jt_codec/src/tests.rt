@@ -268,6 +268,12 @@ fn views(rt: HostRuntime) {
     };
     let refused = view_message(&header(0x0200, 0, None), &POSITION[..27]);
     assert!(rt; matches!(&refused, Some(Err(refusal)) if *refusal == truncated));
+    match view_message(&header(0x0704, 0, None), &[0, 0, 1]) {
+        Some(Ok(MessageView::Batch(view))) => {
+            assert_eq!(rt; (view.kind, view.fixes.left()), (1, 0));
+        }
+        _ => panic!(rt; "a batch"),
+    }
     assert!(rt; view_message(&header(0x0003, 0, None), &[]).is_none());
 }
 

@@ -8,7 +8,7 @@ use Rattle.std.proofs.lemmas.List.{append-nil, take-append-le, take-append-drop,
 use Rattle.jt_escape.specs.declared.splitter.Mode.{Mode}
 use Rattle.jt_escape.specs.declared.splitter.Mode.TheVariants as modes
 use Rattle.jt_escape.specs.Span.{Event, HasNoFlag, Events}
-use Rattle.jt_escape.specs.Scan.{State, start, after, events_of, run, scan, IsPlain, keeping_all, passing_all, opening, lasting, Runs, RunsInPlace}
+use Rattle.jt_escape.specs.Scan.{State, start, after, events_of, run, scan, IsPlain, keeping, passing, gathering, standing, keeping_all, passing_all, opening, lasting, Runs, RunsInPlace}
 use Rattle.jt_escape.specs.Splitter.{Takes, TakesInPlace, IsSilent, IsSilentInPlace}
 use Rattle.jt_escape.proofs.Scanning.{at}
 use Rattle.jt_escape.proofs.Reading.{scan-append, run-append, events_held, events_only}
@@ -95,6 +95,67 @@ unfolding after events_of
 opens_frame old octet (inl is) flag = (rw (is, flag) refl, rw (is, flag) refl)
 opens_frame old octet (inr is) flag = (rw (is, flag) refl, rw is refl)
 
+-- ---- one octet that is kept
+
+mode_is : (state : State) (mode : Mode) → state.mode ≡ mode → state ≡ at mode state.content state.place state.opened
+mode_is state mode e = ap (λ (m : Mode). at m state.content state.place state.opened) e
+
+moved : (mode : Mode) (kept content : List ℕ) (place q opened : ℕ) → kept ≡ content → place ≡ q → at mode kept place opened ≡ at mode content q opened
+moved mode kept content place q opened e f = cc
+
+keeps_one : (octet : ℕ) (kept : List ℕ) (place opened : ℕ) → octet ≢ 0x7E → octet ≢ 0x7D → length kept < 1045
+    → (after (at modes.Inside kept place opened) octet ≡ at modes.Inside (kept ++ octet ∷ []) (place + 1) opened) × (events_of (at modes.Inside kept place opened) octet ≡ [])
+unfolding after events_of
+keeps_one octet kept place opened flag escape lt =
+    let short : eqb (length kept) 1045 ≡ false = ne_eqb _ _ (λ e. omega (arith, e)) in
+    (simp (ne_eqb octet 0x7E flag, ne_eqb octet 0x7D escape, short), simp (ne_eqb octet 0x7E flag, ne_eqb octet 0x7D escape, short))
+
+-- an escape begins, and it is the octet that its code says
+escape_begins : (old : State) → old.mode ≡ modes.Inside → length old.content < 1045 → (after old 0x7D ≡ passing old modes.Escaping) × (events_of old 0x7D ≡ [])
+unfolding after events_of
+escape_begins old is room = let short : eqb (length old.content) 1045 ≡ false = ne_eqb _ _ (λ e. omega (arith, e)) in (rw (is, short) refl, rw (is, short) refl)
+
+escape_stands : (state : State) (code octet : ℕ) → state.mode ≡ modes.Escaping → ((code ≡ 0x01) × (octet ≡ 0x7D)) ⊎ ((code ≡ 0x02) × (octet ≡ 0x7E))
+    → (after state code ≡ keeping state octet) × (events_of state code ≡ [])
+unfolding after events_of
+escape_stands state code octet is (inl both) = (rw (is, both.0, both.1) refl, rw (is, both.0) refl)
+escape_stands state code octet is (inr both) = (rw (is, both.0, both.1) refl, rw (is, both.0) refl)
+
+-- what is gathered is kept at any place
+gathered_there : (old new : State) (octet p q : ℕ) → old.mode ≡ modes.Inside → new ≡ gathering old octet → q ≡ p + 1 → standing new q ≡ keeping (standing old p) octet
+gathered_there old new octet p q is e f = rw (e, f, is) refl
+
+pub escape_runs : (old new : State) (piece : List ℕ) (octet : ℕ) → old.mode ≡ modes.Inside → length old.content < 1045 → 1 < length piece → get_or piece 0 0 ≡ 0x7D
+    → ((get_or piece 1 0 ≡ 0x01) × (octet ≡ 0x7D)) ⊎ ((get_or piece 1 0 ≡ 0x02) × (octet ≡ 0x7E)) → new ≡ gathering old octet
+    → (place : ℕ) → Runs (standing old place) (standing new (place + 2)) (take 2 piece) []
+escape_runs old new piece octet is room two escape code e place =
+    let here = standing old place in
+    let mid = passing here modes.Escaping in
+    let begins = rw (sym escape) at escape_begins here is room in
+    let stands = escape_stands mid (get_or piece 1 0) octet refl code in
+    let kept : standing new (place + 2) ≡ keeping mid octet = rw (e, is) (moved modes.Inside (old.content ++ octet ∷ []) (old.content ++ octet ∷ []) (place + 2) (place + 1 + 1) old.opened refl (omega arith)) in
+    Runs-next here mid (standing new (place + 2)) piece 1 [] two (Runs-next here here mid piece 0 [] (omega (arith, two)) (Runs-none here) (sym begins.0) (sym begins.1)) (kept ∙ sym stands.0) (sym stands.1)
+
+-- and so are more octets behind others
+pub gathered_onward : (start old new : State) (piece : List ℕ) (taken count : ℕ) → Runs start (standing old (start.place + taken)) (take taken piece) []
+    → ((place : ℕ) → Runs (standing old place) (standing new (place + count)) (take count (slice_range piece taken (length piece))) [])
+    → Runs start (standing new (start.place + (taken + count))) (take (taken + count) piece) []
+gathered_onward start old new piece taken count first second =
+    let total : start.place + taken + count ≡ start.place + (taken + count) = omega arith in
+    subst (λ (place : ℕ). Runs start (standing new place) (take (taken + count) piece) []) total
+    (Runs-onward start (standing old (start.place + taken)) (standing new (start.place + taken + count)) piece taken count [] first (second (start.place + taken)))
+
+-- an octet that stands for itself
+pub plain_runs : (old new : State) (piece : List ℕ) → old.mode ≡ modes.Inside → length old.content < 1045 → 0 < length piece → get_or piece 0 0 ≢ 0x7E → get_or piece 0 0 ≢ 0x7D
+    → new ≡ gathering old (get_or piece 0 0) → (place : ℕ) → Runs (standing old place) (standing new (place + 1)) (take 1 piece) []
+plain_runs old new piece is room some flag escape e place =
+    let here = standing old place in
+    let at_here : here ≡ at modes.Inside old.content place old.opened = mode_is here modes.Inside is in
+    let kept = keeps_one (get_or piece 0 0) old.content place old.opened flag escape room in
+    Runs-next here here (standing new (place + 1)) piece 0 [] some (Runs-none here)
+    (gathered_there old new (get_or piece 0 0) place (place + 1) is e refl ∙ sym kept.0 ∙ ap (λ (state : State). after state (get_or piece 0 0)) (sym at_here))
+    (sym (ap (λ (state : State). events_of state (get_or piece 0 0)) at_here ∙ kept.1))
+
 -- ---- what a run is to the streams
 
 -- what is scanned behind a stream is what its events gain
@@ -143,19 +204,6 @@ silent_in_place old new piece count events in_place within fewer below = λ stre
     (gains_scanned stream (take fewer piece) before [] (sym (scan_like (take fewer piece) old (run start stream) h.taken) ∙ none) held)
 
 -- ---- runs of octets that are kept, or passed over
-
-mode_is : (state : State) (mode : Mode) → state.mode ≡ mode → state ≡ at mode state.content state.place state.opened
-mode_is state mode e = ap (λ (m : Mode). at m state.content state.place state.opened) e
-
-moved : (mode : Mode) (kept content : List ℕ) (place q opened : ℕ) → kept ≡ content → place ≡ q → at mode kept place opened ≡ at mode content q opened
-moved mode kept content place q opened e f = cc
-
-keeps_one : (octet : ℕ) (kept : List ℕ) (place opened : ℕ) → octet ≢ 0x7E → octet ≢ 0x7D → length kept < 1045
-    → (after (at modes.Inside kept place opened) octet ≡ at modes.Inside (kept ++ octet ∷ []) (place + 1) opened) × (events_of (at modes.Inside kept place opened) octet ≡ [])
-unfolding after events_of
-keeps_one octet kept place opened flag escape lt =
-    let short : eqb (length kept) 1045 ≡ false = ne_eqb _ _ (λ e. omega (arith, e)) in
-    (simp (ne_eqb octet 0x7E flag, ne_eqb octet 0x7D escape, short), simp (ne_eqb octet 0x7E flag, ne_eqb octet 0x7D escape, short))
 
 keeps_run : (octets kept : List ℕ) (place opened : ℕ) → IsPlain octets → length kept + length octets ≤ 1045
     → (run (at modes.Inside kept place opened) octets ≡ at modes.Inside (kept ++ octets) (place + length octets) opened) × (scan (at modes.Inside kept place opened) octets ≡ [])

@@ -30,6 +30,14 @@ abbrev pub keeping : State → ℕ → State
 keeping state octet =
     record { mode = Inside; content = state.content ++ octet ∷ []; place = state.place + 1; opened = state.opened }
 
+-- the octet is put behind the content, and no octet of the stream is taken
+abbrev pub gathering : State → ℕ → State
+gathering state octet = record state { content = state.content ++ octet ∷ [] }
+
+-- the state at another place of a stream
+abbrev pub standing : State → ℕ → State
+standing state place = record state { place = place }
+
 abbrev pub after_in : Mode → State → ℕ → State
 after_in Outside state octet = if octet == 0x7E then opening state else passing state Straying
 after_in Straying state octet = if octet == 0x7E then opening state else passing state Straying

@@ -4,7 +4,7 @@ ghost use Rattle.std.specs.Prelude.{◌≡◌, ◌⊎◌, ◌<◌, ◌≤◌, �
 ghost use Rattle.jt_value.specs.declared.refusal.Refusal.{Refusal};
 ghost use Rattle.jt_escape.specs.declared.splitter.Mode.TheVariants.{Outside, Straying, Inside, Escaping, Skipping};
 ghost use Rattle.jt_escape.specs.Span.{Ends, HasNoFlag, IsContent, refusal_at};
-ghost use Rattle.jt_escape.specs.Scan.{State, opening, passing, passing_all, keeping, keeping_all, lending, after_in, after, events_in, events_of, end_in, IsPlain, Runs, RunsInPlace};
+ghost use Rattle.jt_escape.specs.Scan.{State, opening, passing, passing_all, keeping, keeping_all, gathering, standing, lending, after_in, after, events_in, events_of, end_in, IsPlain, Runs, RunsInPlace};
 ghost use Rattle.jt_escape.specs.Splitter.{StandsFor, Continues, Takes, TakesInPlace, IsSilent, IsSilentInPlace, told, lent, told_in_place};
 
 use crate::framing::{CONTENT_LIMIT, ESCAPE, ESCAPE_CODE, FLAG, FLAG_CODE};
@@ -12,6 +12,9 @@ use arrayvec::ArrayVec;
 use jt_value::{Refusal, Why};
 use memchr::{memchr, memchr2};
 use std::marker::Model;
+
+// Escapes with fewer octets than this between them are near one another.
+const NEAR: usize = 8;
 
 /// Where in its stream a splitter stands.
 #[derive(Clone, Copy, Debug, PartialEq, Eq)]
@@ -91,6 +94,18 @@ fn plain_len(octets: &[u8]) -> usize
     ensures plain { IsPlain (take result octets.now) }
 {
     memchr2(FLAG, ESCAPE, octets).unwrap_or(octets.len())
+}
+
+// The octet that an escape with this code stands for.
+#[inline(always)]
+fn unescaped(code: u8) -> Option<u8>
+    ensures { IfSome result (λ octet. ((code ≡ 0x01) × (octet ≡ 0x7D)) ⊎ ((code ≡ 0x02) × (octet ≡ 0x7E))) }
+{
+    match code {
+        ESCAPE_CODE => Some(ESCAPE),
+        FLAG_CODE => Some(FLAG),
+        _ => None,
+    }
 }
 
 // How many octets the content has, where the piece begins with a whole frame that has no escape. The search goes no further
@@ -283,12 +298,105 @@ impl Splitter {
         requires mode { self.old.mode ≡ Inside }
         ensures within { result ≤ length octets.now }
         ensures place { self.new.place ≡ self.old.place + result }
+        ensures mode { self.new.mode ≡ Inside }
         ensures runs { Runs self.old self.new (take result octets.now) [] }
     {
         let room = self.content.remaining_capacity();
         let run = plain_len(&octets[..octets.len().min(room)]);
         self.keep_all(&octets[..run]);
         run
+    }
+
+    // Puts a content octet behind those that are kept.
+    #[inline(always)]
+    fn gather(&mut self, octet: u8)
+        requires mode { self.old.mode ≡ Inside }
+        requires room { length self.old.content < 1045 }
+        ensures { self.new ≡ gathering self.old octet }
+    {
+        self.content.push(octet);
+    }
+
+    // Gathers the octet that an escape at the front stands for, where both of its octets are there and it is a right one: how
+    // many octets it takes. The place is not moved.
+    #[inline(always)]
+    fn gather_escape(&mut self, octets: &[u8]) -> usize
+        requires mode { self.old.mode ≡ Inside }
+        requires room { length self.old.content < 1045 }
+        requires some { 0 < length octets.now }
+        requires escape { slice_index octets.now 0 ≡ 0x7D }
+        ensures within { result ≤ length octets.now }
+        ensures mode { self.new.mode ≡ Inside }
+        ensures place { self.new.place ≡ self.old.place }
+        ensures runs { (place : ℕ) → Runs (standing self.old place) (standing self.new (place + result)) (take result octets.now) [] }
+    {
+        if octets.len() == 1 {
+            return 0;
+        }
+        match unescaped(octets[1]) {
+            None => 0,
+            Some(octet) => {
+                self.gather(octet);
+                2
+            }
+        }
+    }
+
+    // Gathers the next octet of a content, where there is one and room for it: how many octets it takes. The place is not
+    // moved.
+    #[inline(always)]
+    fn gather_next(&mut self, octets: &[u8]) -> usize
+        requires mode { self.old.mode ≡ Inside }
+        requires some { 0 < length octets.now }
+        ensures within { result ≤ length octets.now }
+        ensures mode { self.new.mode ≡ Inside }
+        ensures place { self.new.place ≡ self.old.place }
+        ensures runs { (place : ℕ) → Runs (standing self.old place) (standing self.new (place + result)) (take result octets.now) [] }
+    {
+        let octet = octets[0];
+        if octet == FLAG || self.content.is_full() {
+            return 0;
+        }
+        if octet == ESCAPE {
+            return self.gather_escape(octets);
+        }
+        self.gather(octet);
+        1
+    }
+
+    // Gathers content octets one by one, as long as escapes stand near one another: how many octets they take. The place is
+    // not moved. Where escapes stand so, a search for each takes longer.
+    #[inline(always)]
+    fn gather_near(&mut self, octets: &[u8]) -> usize
+        requires { self.old.mode ≡ Inside }
+        ensures within { result ≤ length octets.now }
+        ensures place { self.new.place ≡ self.old.place }
+        ensures runs { Runs self.old (standing self.new (self.old.place + result)) (take result octets.now) [] }
+    {
+        let mut taken = 0;
+        let mut plain = 0;
+        while taken < octets.len() && plain < NEAR {
+            let count = self.gather_next(&octets[taken..]);
+            if count == 0 {
+                return taken;
+            }
+            plain = if count == 1 { plain + 1 } else { 0 };
+            taken += count;
+        }
+        taken
+    }
+
+    // Keeps content octets as long as escapes stand near one another: how many octets were taken.
+    fn keep_near(&mut self, octets: &[u8]) -> usize
+        requires place { self.old.place + length octets.now < 2 ^ 63 }
+        requires mode { self.old.mode ≡ Inside }
+        ensures within { result ≤ length octets.now }
+        ensures place { self.new.place ≡ self.old.place + result }
+        ensures runs { Runs self.old self.new (take result octets.now) [] }
+    {
+        let taken = self.gather_near(octets);
+        self.place += taken as u64;
+        taken
     }
 
     // Passes over octets up to the first flag.
@@ -336,7 +444,8 @@ impl Splitter {
         ensures content { result.1 ≡ Split.Content → 0 < length self.new.content }
     {
         let run = self.keep_run(octets);
-        self.take_behind(octets, run)
+        let near = self.keep_near(&octets[run..]);
+        self.take_behind(octets, run + near)
     }
 
     // Takes octets that are in no frame up to the next flag, and it, or all.

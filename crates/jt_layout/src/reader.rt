@@ -1,6 +1,6 @@
 //! Fields of a body, read one after the other.
 
-ghost use Rattle.std.specs.Prelude.{◌≡◌, ◌≤◌, ◌↔◌, ◌+◌, length, take, IsTrue, IsOk, IfOk, IfErr, OnErr, OnOk};
+ghost use Rattle.std.specs.Prelude.{◌≡◌, ◌≤◌, ◌<◌, ◌^◌, ◌↔◌, ◌+◌, length, take, IsTrue, IsOk, IfOk, IfErr, OnErr, OnOk};
 ghost use Rattle.jt_layout.specs.Layout.{byte, word, dword, octets_of, rest, at_end, truncated};
 ghost use Rattle.jt_layout.specs.Reading.{Finds, Gives};
 
@@ -42,6 +42,14 @@ impl<'a> Reader<'a> {
         self.place
     }
 
+    /// How many octets are left.
+    pub fn left(&self) -> usize
+        ensures left { self.now.place + result ≡ length self.now.octets }
+        ensures within { result < 2 ^ 63 }
+    {
+        self.octets.len() - self.place
+    }
+
     /// A second reader that stands at the same place.
     pub fn ahead(&self) -> Reader<'a>
         ensures { result ≡ self.now }
@@ -63,8 +71,7 @@ impl<'a> Reader<'a> {
         ensures place { OnOk result (self.new.place ≡ self.old.place + count) }
         ensures err { OnErr result (self.new ≡ self.old) }
     {
-        let left = self.octets.len() - self.place;
-        if left < count {
+        if self.left() < count {
             return Err(truncated(self.place));
         }
         let field = &self.octets[self.place..self.place + count];

@@ -16,7 +16,7 @@ fn fields_come_in_order(rt: HostRuntime) -> Result<(), Fail> {
     assert_eq!(rt; reader.slice(1), Ok([0xAA].as_slice()));
     let copied = reader.octets(rt.alloc(), 1)?;
     assert_eq!(rt; copied.as_slice(), [0xBB].as_slice());
-    assert_eq!(rt; reader.place(), 9);
+    assert_eq!(rt; (reader.place(), reader.left()), (9, 2));
     assert!(rt; !reader.is_at_end());
     assert_eq!(rt; reader.end(), Err(refusal(9, Why::Trailing)));
     let rest = reader.rest(rt.alloc())?;

@@ -1,4 +1,5 @@
 pub mod ItemLaws
 pub mod ViewLaws
+pub mod BatchViewLaws
 pub mod MomentLaws
 pub mod FixLaws

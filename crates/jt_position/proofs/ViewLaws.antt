@@ -1,15 +1,17 @@
 -- What is left of a position's items as they are taken one by one.
-use Rattle.std.proofs.Common.{◌≡◌, ℕ, ◌+◌, ◌<◌, ◌≤◌, ltb, List, [], ◌∷◌, ◌++◌, length, take, drop, Option, Some, None, Result, Ok, Err, IsTrue, is_ok, refl, sym, ap, ◌∙◌, arith, rules}
+use Rattle.std.proofs.Common.{◌≡◌, ℕ, ◌+◌, ◌-◌, ◌<◌, ◌≤◌, ltb, List, [], ◌∷◌, ◌++◌, length, take, drop, Option, Some, None, Result, Ok, Err, IsTrue, is_ok, refl, sym, ap, ◌∙◌, arith, rules}
 use Rattle.std.specs.List.{flat_map}
-use Rattle.std.proofs.lemmas.List.{drop-drop, take_at}
+use Rattle.std.proofs.lemmas.List.{drop-drop, take_at, length-drop}
 use Rattle.std.proofs.lemmas.List.Concat.{flat_map-append}
 use Rattle.std.specs.Int.{w8, from_be_bytes}
 use Rattle.std.specs.Iterator.{YieldsFirstBy, MakesProgress, item_count}
 use Rattle.std.specs.Result.{result_unwrap_or, result_ok}
+use Rattle.jt_value.specs.Octets.{AreOctets}
 use Rattle.jt_value.specs.declared.refusal.Refusal.{Refusal}
 use Rattle.jt_layout.specs.Layout.{Fills, ◌>>=◌, ◌▹◌, number, octets_of, block, byte, truncated, read_to_the_end}
 use Rattle.jt_layout.specs.Reading.{Finds}
 use Rattle.jt_layout.proofs.Laws.{behind, bind_ok, guard_ok, ok_is}
+use Rattle.jt_layout.proofs.Repeats.{to_the_end_law}
 use Rattle.jt_layout.proofs.Loops.{Grows, all_next, all_none, all_stops}
 use Rattle.jt_position.specs.declared.item.Item.{Item}
 use Rattle.jt_position.specs.declared.item.Item.TheVariants.{Raw}
@@ -17,6 +19,7 @@ use Rattle.jt_position.specs.declared.position.Position.{Position}
 use Rattle.jt_position.specs.declared.view.ItemView.{ItemView}
 use Rattle.jt_position.specs.Items.{typed, untyped}
 use Rattle.jt_position.specs.Positions.{plain_item, item, fixed, position}
+use Rattle.jt_position.proofs.ItemLaws.{item_law, item_some}
 use Rattle.jt_position.specs.Views.{owned, reads_from, items_from}
 
 byte_ends : (s : List ℕ) (p : ℕ) (x : ℕ × ℕ) → byte.read s p ≡ Ok x → x.1 ≡ p + 1
@@ -72,6 +75,18 @@ stepped s p t q left (Err r) o same lt found h was is = absurd (not_refused s p 
 pub progress : (left after : List Item) (o : Option ItemView) → YieldsFirstBy owned (λ left. left) left o after → MakesProgress (λ s. Unit {0}) (item_count (λ left. left)) left o after
 progress left after None h = search rules
 progress left after (Some view) h = let shorter = ap length h in search rules
+
+-- the items take all octets that are left
+sized : (s : List ℕ) (p : ℕ) (r : Result (List Item) Refusal) → AreOctets s → p ≤ length s → read_to_the_end item.read s p ≡ r → IsTrue (is_ok r) → length (flat_map item.spell (result_unwrap_or r [])) ≡ length s - p
+sized s p (Ok items) octets le e h =
+    let fills = (to_the_end_law item item_law item_some).takes s p items octets le e in
+    ap length (sym fills.parts) ∙ length-drop p s
+sized s p (Err r) octets le e h = absurd cc
+
+pub items_size : (s : List ℕ) (p left : ℕ) (items : List Item) → AreOctets s → p + left ≡ length s → IsTrue (reads_from s p) → items_from s p ≡ items → left ≡ length (flat_map item.spell items)
+items_size s p left items octets ends h is =
+    let size = sized s p (read_to_the_end item.read s p) octets (omega arith) refl h in
+    omega (arith, size, ap (λ (xs : List Item). length (flat_map item.spell xs)) is)
 
 -- where raw values stand
 fixed_length : (m : Position) → position.Fits m → length (fixed.spell m.fixed) ≡ 28

@@ -2,6 +2,7 @@
 #![tactic(auto)]
 
 mod batch;
+mod batch_view;
 mod fix;
 mod fixed;
 mod item;
@@ -11,6 +12,7 @@ mod position;
 mod view;
 
 pub use batch::{Batch, law_batches, read_batch, write_batch};
+pub use batch_view::{BatchView, Positions, view_batch};
 pub use fix::{Fix, FixError, law_fixes};
 pub use fixed::Fixed;
 pub use item::Item;

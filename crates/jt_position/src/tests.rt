@@ -151,11 +151,40 @@ fn batches(rt: HostRuntime) -> Result<(), Fail> {
     assert!(rt; batch.fits());
     let written = write_batch(rt.alloc(), &batch)?;
     assert_eq!(rt; written.as_slice(), two.as_slice());
+    assert!(rt; is_of_two_positions(two.as_slice()));
     // An item that would end in the next position passes its own position's end.
     two.as_mut_slice()[34] = 4;
     let answer = read_batch(rt.alloc(), two.as_slice()).err();
     assert_eq!(rt; answer, Some(CodecError::Refused(truncated(35))));
+    let answer = view_batch(two.as_slice()).err();
+    assert_eq!(rt; answer, Some(truncated(35)));
     Ok(())
+}
+
+// Whether the octets are the batch of `batches`, read in place.
+fn is_of_two_positions(octets: &[u8]) -> bool {
+    let raw = Some(raw(0x01, &[0, 0, 0x0A]));
+    match view_batch(octets) {
+        Ok(view) => {
+            let mut fixes = view.fixes;
+            let both = view.kind == 1 && fixes.left() == 2;
+            let first = is_position(fixes.next(), 33, raw);
+            let second = is_position(fixes.next(), 28, None);
+            both && first && second && fixes.left() == 0 && fixes.next().is_none()
+        }
+        Err(_) => false,
+    }
+}
+
+fn is_position(view: Option<PositionView<'_>>, size: usize, item: Option<ItemView<'_>>) -> bool {
+    match view {
+        Some(view) => {
+            let long = view.size() == size && view.fixed.lat == 20_000_000;
+            let mut items = view.items;
+            long && items.next() == item && items.next().is_none()
+        }
+        None => false,
+    }
 }
 
 #[test]

@@ -8,11 +8,11 @@ ghost use Rattle.jt_codec.specs.declared.message.Message.TheVariants as message;
 ghost use Rattle.jt_text.specs.Frames.{bit15_text, frame_start, header_fields, packet_text, version_text, view_line, year};
 ghost use Rattle.jt_text.specs.Names.{id_name, name_of, naming_id};
 
-use crate::fields::{push_fields, push_item_views, put_fixed};
+use crate::fields::{push_fields, push_item_views, push_position_views, put_fixed};
 use crate::line::Line;
 use jt_codec::Message;
 use jt_header::{Header, Packet};
-use jt_position::PositionView;
+use jt_position::{BatchView, PositionView};
 use jt_value::{Edition, Memory, Octets, Phone};
 use std::alloc::{AllocError, Global};
 
@@ -203,6 +203,30 @@ pub fn push_position_line(
     put_front(line, place, header, "position", body_len);
     line.push_to(text)?;
     push_item_views(text, line, view.items)?;
+    text.push_str("\n")?;
+    Ok(())
+}
+
+/// Puts the line of a frame whose body is a batch, read in place, at the end of a text, `place` being that of its opening flag
+/// and `body_len` the octets of its body. `line` is room that is used again.
+#[tactic(auto, using(std::proofs::Common::append_assoc), unfolding(crate::specs::Frames::view_line, crate::specs::Names::id_name, crate::specs::PositionFields::batch_fields))]
+pub fn push_batch_line(
+    text: &mut String,
+    line: &mut Line,
+    place: u64,
+    header: &Header,
+    view: BatchView<'_>,
+    body_len: u16,
+) -> Result<(), AllocError>
+    ensures { OnOk result (string_bytes text.new ≡ string_bytes text.old
+        ++ view_line place header.now (message.Batch (record { kind = view.entry.kind; fixes = view.entry.fixes })) body_len) }
+{
+    line.clear();
+    line.put_named_number(" kind=", view.kind as u64);
+    line.put_named_number(" count=", view.fixes.left() as u64);
+    put_front(line, place, header, "batch", body_len);
+    line.push_to(text)?;
+    push_position_views(text, line, view.fixes)?;
     text.push_str("\n")?;
     Ok(())
 }

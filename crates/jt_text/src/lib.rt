@@ -10,7 +10,8 @@ mod times;
 mod values;
 
 pub use frame::{
-    push_heartbeat_line, push_message_line, push_position_line, push_view_line, view_line,
+    push_batch_line, push_heartbeat_line, push_message_line, push_position_line, push_view_line,
+    view_line,
 };
 pub use laws::law_of_times;
 pub use line::Line;

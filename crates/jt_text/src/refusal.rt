@@ -62,12 +62,16 @@ fn put_refusal(line: &mut Line, refusal: &Refusal)
     line.put_number(refusal.at);
 }
 
-/// Puts the line of a refusal at the end of a text: its place, its offset and its reason.
-pub fn push_refusal_line(text: &mut String, refusal: &Refusal) -> Result<(), AllocError>
+/// Puts the line of a refusal at the end of a text: its place, its offset and its reason. `line` is room that is used again.
+pub fn push_refusal_line(
+    text: &mut String,
+    line: &mut Line,
+    refusal: &Refusal,
+) -> Result<(), AllocError>
     ensures { OnOk result (string_bytes text.new ≡ string_bytes text.old ++ refusal_line refusal.now) }
 {
-    let mut line = Line::new();
-    put_refusal(&mut line, refusal);
+    line.clear();
+    put_refusal(line, refusal);
     line.push_to(text)
 }
 
@@ -76,6 +80,6 @@ pub fn refusal_line(alloc: Global, refusal: &Refusal) -> Result<Octets, Memory>
     ensures { IfOk result (λ line. line ≡ refusal_line refusal.now) }
 {
     let mut text = String::new(alloc);
-    push_refusal_line(&mut text, refusal)?;
+    push_refusal_line(&mut text, &mut Line::new(), refusal)?;
     Ok(Octets::from_vec(text.into_bytes()))
 }

@@ -1,7 +1,7 @@
 use super::*;
 use jt_codec::{Message, read_body};
 use jt_header::{Header, Packet};
-use jt_position::view_position;
+use jt_position::{view_batch, view_position};
 use jt_register::{Auth, AuthTail};
 use jt_value::{Edition, Octets, Phone, Refusal, Why};
 use std::alloc::Global;
@@ -295,6 +295,28 @@ fn refusals(rt: HostRuntime) -> Result<(), Fail> {
         let line = refusal_line(alloc, &refusal)?;
         assert_eq!(rt; line.as_slice(), written.as_bytes());
     }
+    Ok(())
+}
+
+// A batch of two positions, of 33 and 28 octets, and a refusal.
+#[test]
+fn a_batch_in_place(rt: HostRuntime) -> Result<(), Fail> {
+    let mut line = Line::new();
+    let mut text = String::new(rt.alloc());
+    let body =
+        b"\0\x02\x01\0\x21\0\0\0\0\0\0\0\x03\x01\x31\x2d\0\x06\xbc\x3e\x40\0\0\0\0\0\0\0\0\0\0\0\0\x01\x03\0\0\x0a\0\x1c\0\0\0\0\0\0\0\x03\x01\x31\x2d\0\x06\xbc\x3e\x40\0\x0a\0\0\0\0\x24\x03\x05\x12\x34\x56";
+    let view = view_batch(body).expect(&rt, "a batch");
+    push_batch_line(&mut text, &mut line, 7, &header(0x0704, None), view, 68)?;
+    let refusal = Refusal {
+        at: 90,
+        inside: 0,
+        why: Why::Stray,
+    };
+    push_refusal_line(&mut text, &mut line, &refusal)?;
+    assert_eq!(rt;
+        text.as_str(),
+        "7 2013 0x0704 batch phone=013912345678 serial=3 body=68 count=2 kind=1 length=33 alarm=0x00000000 status=0x00000003 lat=20000000 lon=113000000 altitude=0 speed=0 direction=0 time=- item=0x01:00000a length=28 alarm=0x00000000 status=0x00000003 lat=20000000 lon=113000000 altitude=10 speed=0 direction=0 time=2024-03-05T12:34:56+08:00\n90+0 refused Stray\n"
+    );
     Ok(())
 }
 

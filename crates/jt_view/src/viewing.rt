@@ -15,7 +15,8 @@ use jt_escape::Split;
 use jt_header::Header;
 use jt_stream::{Stream, placed};
 use jt_text::{
-    Line, push_heartbeat_line, push_message_line, push_position_line, push_refusal_line,
+    Line, push_batch_line, push_heartbeat_line, push_message_line, push_position_line,
+    push_refusal_line,
 };
 use jt_value::{CodecError, Memory, Refusal};
 use std::alloc::{AllocError, Global};
@@ -37,14 +38,15 @@ fn push_view(
         MessageView::Position(view) => {
             push_position_line(text, line, place, header, view, body_len)
         }
+        MessageView::Batch(view) => push_batch_line(text, line, place, header, view, body_len),
     }
 }
 
 #[inline(never)]
-fn view_refusal(text: &mut String, refusal: Refusal) -> Result<Judged, Memory>
+fn view_refusal(text: &mut String, line: &mut Line, refusal: Refusal) -> Result<Judged, Memory>
     ensures { IfOk result (λ judgement. ViewsEntry (entries.Refused refusal) judgement (string_bytes text.old) (string_bytes text.new)) }
 {
-    push_refusal_line(text, &refusal)?;
+    push_refusal_line(text, line, &refusal)?;
     Ok(Judged::Refused(refusal))
 }
 
@@ -66,7 +68,7 @@ fn view_made(
             push_message_line(text, line, place, header, &message, body.len() as u16)?;
             Ok(Judged::Frame)
         }
-        Err(CodecError::Refused(refusal)) => view_refusal(text, placed(place, refusal)),
+        Err(CodecError::Refused(refusal)) => view_refusal(text, line, placed(place, refusal)),
         Err(CodecError::Memory) => Err(Memory),
     }
 }
@@ -89,7 +91,7 @@ fn view_body(
             push_view(text, line, place, header, view, body.len() as u16)?;
             Ok(Judged::Frame)
         }
-        Some(Err(refusal)) => view_refusal(text, placed(place, refusal)),
+        Some(Err(refusal)) => view_refusal(text, line, placed(place, refusal)),
         None => view_made(alloc, place, header, body, line, text),
     }
 }
@@ -108,7 +110,7 @@ fn view_frame(
 {
     match stream.frame_in(taken) {
         Ok((place, header, body)) => view_body(alloc, place, &header, body, line, text),
-        Err(refusal) => view_refusal(text, refusal),
+        Err(refusal) => view_refusal(text, line, refusal),
     }
 }
 
@@ -129,7 +131,7 @@ pub fn view_told(
 {
     match split {
         Split::Content => view_frame(alloc, stream, taken, line, text),
-        Split::Refused(refusal) => view_refusal(text, refusal),
+        Split::Refused(refusal) => view_refusal(text, line, refusal),
         Split::More => Ok(Judged::Nothing),
     }
 }

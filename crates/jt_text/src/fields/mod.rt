@@ -17,7 +17,7 @@ use jt_params::Param;
 use jt_position::Position;
 use orders::{push_control, push_text, push_track};
 use params::{push_params, push_query_some};
-pub(crate) use position::{push_item_views, put_fixed};
+pub(crate) use position::{push_item_views, push_position_views, put_fixed};
 use position::{push_batch, push_position};
 use regions::{push_circles, push_deletion, push_polygon, push_rectangles, push_route};
 use registration::{push_auth, push_register, push_register_reply};

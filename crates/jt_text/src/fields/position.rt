@@ -4,6 +4,7 @@ ghost use Rattle.std.specs.Prelude.{◌≡◌, ◌+◌, ◌≤◌, ◌++◌, len
 ghost use Rattle.std.specs.List.{flat_map};
 ghost use Rattle.std.specs.Fmt.{decimal};
 ghost use Rattle.jt_position.specs.declared.item.Item.TheVariants as items;
+ghost use Rattle.jt_position.specs.BatchViews.{positioned};
 ghost use Rattle.jt_position.specs.Views.{owned};
 ghost use Rattle.jt_text.specs.PositionFields.{batch_fields, batch_item_text, item_text, motion_text, place_text, position_fields, region_text};
 ghost use Rattle.jt_text.specs.Times.{time_text};
@@ -12,7 +13,7 @@ ghost use Rattle.jt_text.specs.Values.{byte_digits};
 use crate::line::Line;
 use crate::times::names_moment;
 use crate::values::{push_digits, push_number, push_octets};
-use jt_position::{Batch, Fixed, Item, ItemView, Items, Position};
+use jt_position::{Batch, Fixed, Item, ItemView, Items, Position, PositionView, Positions};
 use std::alloc::AllocError;
 use std::fmt::Write;
 
@@ -182,6 +183,7 @@ fn push_item(text: &mut String, line: &mut Line, item: &ItemView<'_>) -> Result<
 }
 
 /// The items of a position that is read in place, at the end of a text. `line` is room that is used again.
+#[inline(always)]
 pub(crate) fn push_item_views(
     text: &mut String,
     line: &mut Line,
@@ -191,6 +193,35 @@ pub(crate) fn push_item_views(
 {
     for item in items {
         push_item(text, line, &item)?;
+    }
+    Ok(())
+}
+
+#[tactic(auto, using(std::proofs::Common::append_assoc), unfolding(crate::specs::PositionFields::batch_item_text, crate::specs::PositionFields::position_fields))]
+fn push_position_view(
+    text: &mut String,
+    line: &mut Line,
+    view: PositionView<'_>,
+) -> Result<(), AllocError>
+    ensures { OnOk result (string_bytes text.new ≡ string_bytes text.old ++ batch_item_text (positioned view.entry)) }
+{
+    line.clear();
+    put_fixed(line, &view.fixed);
+    line.put_named_number(" length=", view.size() as u64);
+    line.push_to(text)?;
+    push_item_views(text, line, view.items)
+}
+
+/// The positions of a batch that is read in place, at the end of a text. `line` is room that is used again.
+pub(crate) fn push_position_views(
+    text: &mut String,
+    line: &mut Line,
+    positions: Positions<'_>,
+) -> Result<(), AllocError>
+    ensures { OnOk result (string_bytes text.new ≡ string_bytes text.old ++ flat_map batch_item_text positions.entry) }
+{
+    for view in positions {
+        push_position_view(text, line, view)?;
     }
     Ok(())
 }

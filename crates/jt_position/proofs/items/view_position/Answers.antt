@@ -6,4 +6,4 @@ use Rattle.jt_position.proofs.ItemLaws.{position_law}
 use Rattle.jt_position.proofs.items.view_position.Goals as goal
 
 pub returns : goal.returns
-returns c = record { position = answers_plainly position position_law (λ (view : PositionView). record { fixed = view.fixed; items = view.items }) c.args.octets.now c.view_in.result (λ i. omega (arith, c.type_inv.octets i)) c.view_in.ensures }
+returns c = record { position = answers_plainly position position_law (λ (view : PositionView). record { fixed = view.fixed; items = view.items }) c.args.octets.now c.read_from.result (λ i. omega (arith, c.type_inv.octets i)) (rw c.new.ensures at c.read_from.ensures) }

@@ -36,7 +36,7 @@ invariant_of-result c =
     let le = rw c.loop-ahead.invariant.octets at (c.is_at_end.ensures.0 c.loop-ahead-test.false) in
     let so_far = c.loop-ahead.invariant.so_far in
     let done = all_done item.read c.args.reader.now.octets so_far.0 c.loop-ahead.ahead.place (read_to_the_end item.read c.args.reader.now.octets c.args.reader.now.place) le so_far.1 in
-    rw (c.ahead.ensures, done) refl
+    rw (c.ahead.ensures, done) (refl, c.requires)
 
 pub returns : goal.returns
 returns c =

@@ -11,17 +11,19 @@ returns-then-is_at_end-clause-steps c =
 pub invariant_of-self : goal.invariant_of-self
 invariant_of-self c =
     let at = c.self.inside.reader in
-    let lt = more_left c.is_at_end.result at.place (length at.octets) c.is_at_end.ensures c.if-is_at_end.false in
-    (stepped at.octets at.place c.read.new.reader.octets c.read.new.reader.place c.args.self.now c.read.result c.ok.result c.read.ensures.octets lt c.read.ensures.value c.self.invariant c.self.view_is c.ok.ensures.value).0
+    let lt = more_left c.is_at_end.result at.place (length at.octets) c.is_at_end.ensures c.if-is_at_end.false in (
+      (stepped at.octets at.place c.read.new.reader.octets c.read.new.reader.place c.args.self.now c.read.result c.ok.result c.read.ensures.octets lt c.read.ensures.value c.self.invariant.0 c.self.view_is c.ok.ensures.value).0,
+      rw c.read.ensures.octets c.self.invariant.1,
+    )
 
 pub returns-clause-steps : goal.returns-clause-steps
 returns-clause-steps c =
     let at = c.self.inside.reader in
     let lt = more_left c.is_at_end.result at.place (length at.octets) c.is_at_end.ensures c.if-is_at_end.false in
-    (stepped at.octets at.place c.read.new.reader.octets c.read.new.reader.place c.args.self.now c.read.result c.ok.result c.read.ensures.octets lt c.read.ensures.value c.self.invariant c.self.view_is c.ok.ensures.value).1
+    (stepped at.octets at.place c.read.new.reader.octets c.read.new.reader.place c.args.self.now c.read.result c.ok.result c.read.ensures.octets lt c.read.ensures.value c.self.invariant.0 c.self.view_is c.ok.ensures.value).1
 
 pub returns-clause-goes : goal.returns-clause-goes
 returns-clause-goes c =
     let at = c.self.inside.reader in
     let lt = more_left c.is_at_end.result at.place (length at.octets) c.is_at_end.ensures c.if-is_at_end.false in
-    progress c.args.self.now _ c.ok.result (stepped at.octets at.place c.read.new.reader.octets c.read.new.reader.place c.args.self.now c.read.result c.ok.result c.read.ensures.octets lt c.read.ensures.value c.self.invariant c.self.view_is c.ok.ensures.value).1
+    progress c.args.self.now _ c.ok.result (stepped at.octets at.place c.read.new.reader.octets c.read.new.reader.place c.args.self.now c.read.result c.ok.result c.read.ensures.octets lt c.read.ensures.value c.self.invariant.0 c.self.view_is c.ok.ensures.value).1
