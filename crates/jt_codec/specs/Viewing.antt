@@ -1,18 +1,32 @@
 -- Messages that are read in place. To be believed.
-use Rattle.std.specs.Prelude.{ℕ, Bool, false, ◌==◌, ◌||◌, Option, Some, None}
+use Rattle.std.specs.Prelude.{ℕ, Bool, ◌==◌, ◌||◌, ◌⊎◌, List, Option, Some, None, IsTrue}
+use Rattle.jt_value.specs.declared.phone.Edition.{Edition}
 use Rattle.jt_header.specs.declared.header.Packet.{Packet}
+use Rattle.jt_codec.specs.Bodies.{body}
 use Rattle.jt_codec.specs.declared.message.Message.{Message}
 use Rattle.jt_codec.specs.declared.message.Message.TheVariants as message
 use Rattle.jt_codec.specs.declared.viewing.MessageView.{MessageView}
 use Rattle.jt_codec.specs.declared.viewing.MessageView.TheVariants as view
 
--- heartbeats, positions and batches, where they are no packets
-abbrev pub is_viewed : Option Packet → ℕ → Bool
-is_viewed None id = (id == 0x0002) || (id == 0x0200) || (id == 0x0704)
-is_viewed (Some packet) id = false
+-- the ids of heartbeats, general responses, positions and batches
+abbrev pub is_sent_most : ℕ → Bool
+is_sent_most id = (id == 0x0002) || (id == 0x0001) || (id == 0x8001) || (id == 0x0200) || (id == 0x0704)
+
+-- one of these, or octets under an id without a row of the edition
+abbrev pub IsReadInPlace : Edition → ℕ → List ℕ → Type 0
+IsReadInPlace edition id octets = IsTrue (is_sent_most id) ⊎ (body edition id).Fits (message.Opaque id octets)
+
+-- the same behind a header; the body of a packet is not read at all
+abbrev pub IsViewed : Option Packet → Edition → ℕ → List ℕ → Type 0
+IsViewed None edition id octets = IsReadInPlace edition id octets
+IsViewed (Some packet) edition id octets = Unit {0}
 
 -- the message that a view is of
 abbrev pub viewed : MessageView → Message
 viewed view.Heartbeat = message.Heartbeat
+viewed (view.TerminalAck reply id result) = message.TerminalAck reply id result
+viewed (view.PlatformAck reply id result) = message.PlatformAck reply id result
 viewed (view.Position position) = message.Position (record { fixed = position.fixed; items = position.items })
 viewed (view.Batch batch) = message.Batch (record { kind = batch.kind; fixes = batch.fixes })
+viewed (view.Opaque id body) = message.Opaque id body.now
+viewed (view.Part octets) = message.Part octets.now

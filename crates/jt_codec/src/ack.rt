@@ -1,17 +1,19 @@
 //! General responses.
 
-ghost use Rattle.std.specs.Prelude.{◌≡◌, ◌++◌, IfOk};
+ghost use Rattle.std.specs.Prelude.{◌≡◌, ◌++◌, IfOk, MatchResult};
 ghost use Rattle.jt_layout.specs.Answer.{Answers};
-ghost use Rattle.jt_layout.specs.Reading.{Gives};
+ghost use Rattle.jt_layout.specs.Layout.{Fills};
+ghost use Rattle.jt_layout.specs.Reading.{Finds, Gives};
 ghost use Rattle.jt_codec.specs.Layouts.{ack};
 
 use jt_layout::{Reader, Writer};
-use jt_value::{CodecError, Memory, Octets};
+use jt_value::{CodecError, Memory, Octets, Refusal};
 use std::alloc::Global;
 
+#[inline(always)]
 #[tactic(auto, unfolding(crate::specs::Layouts::ack))]
-fn ack_in(octets: &[u8]) -> Result<(u16, u16, u8), CodecError>
-    ensures { Gives (λ fields. fields) result (ack.read octets.now 0) }
+fn fields_in(octets: &[u8]) -> Result<(u16, u16, u8), Refusal>
+    ensures { Finds (λ fields. fields) result (ack.read octets.now 0) }
 {
     let mut reader = Reader::new(octets);
     let reply = reader.word()?;
@@ -19,6 +21,20 @@ fn ack_in(octets: &[u8]) -> Result<(u16, u16, u8), CodecError>
     let answer = reader.byte()?;
     reader.end()?;
     Ok((reply, id, answer))
+}
+
+fn ack_in(octets: &[u8]) -> Result<(u16, u16, u8), CodecError>
+    ensures { Gives (λ fields. fields) result (ack.read octets.now 0) }
+{
+    Ok(fields_in(octets)?)
+}
+
+// The same as `read_ack`, which never wants memory.
+#[inline(always)]
+pub(crate) fn view_ack(octets: &[u8]) -> Result<(u16, u16, u8), Refusal>
+    ensures { MatchResult result (Fills ack octets.now 0) (λ refusal. ack.Refuses octets.now 0 refusal) }
+{
+    fields_in(octets)
 }
 
 // The serial and the id that are answered, and the result.

@@ -1,9 +1,9 @@
 //! Bodies judged.
 
-ghost use Rattle.std.specs.Prelude.{◌≡◌, ◌⊎◌, ◌<◌, ◌^◌, length, IfOk, IsOk, IsSome, IsTrue};
+ghost use Rattle.std.specs.Prelude.{◌≡◌, ◌<◌, ◌^◌, length, IfOk, IsOk};
 ghost use Rattle.std.specs.Result.{result_err};
 ghost use Rattle.jt_codec.specs.Parsing.{message_read};
-ghost use Rattle.jt_codec.specs.Viewing.{is_viewed};
+ghost use Rattle.jt_codec.specs.Viewing.{IsViewed};
 
 use crate::frame::read_message;
 use crate::viewing::view_message;
@@ -26,20 +26,18 @@ fn judge_made(alloc: Global, header: &Header, body: &[u8]) -> Result<Option<Refu
 }
 
 /// The first reason against the body behind this header, of at most 1,023 octets, with its offset in the content and `at`
-/// 0, or None where `read_message` has a message of it. Heartbeats, positions, batches and packets are judged in place and
-/// take no memory; of every other body a message is made and dropped.
+/// 0, or None where `read_message` has a message of it. What `view_message` views is judged in place and takes no memory; of
+/// every other body a message is made and dropped.
 #[inline(always)]
 pub fn judge_message(alloc: Global, header: &Header, body: &[u8]) -> Result<Option<Refusal>, Memory>
     requires { length body.now < 2 ^ 10 }
     ensures refusal { IfOk result (λ refusal. refusal
         ≡ result_err (message_read header.now.packet header.now.edition header.now.id body.now)) }
-    ensures no_memory { IsTrue (is_viewed header.now.packet header.now.id) ⊎ IsSome header.now.packet → IsOk result }
+    ensures no_memory { IsViewed header.now.packet header.now.edition header.now.id body.now → IsOk result }
 {
     match view_message(header, body) {
         Some(Ok(_)) => Ok(None),
         Some(Err(refusal)) => Ok(Some(refusal)),
-        // A part of a message is not read.
-        None if header.packet.is_some() => Ok(None),
         None => judge_made(alloc, header, body),
     }
 }

@@ -291,7 +291,7 @@ fn control_fits(command: u8, text: &Octets) -> bool
 
 // Whether the table has no row of the edition for the id, so that these octets are opaque.
 #[tactic(auto, unfolding(crate::specs::Bodies::body, jt_layout::specs::Layout::rest))]
-fn is_opaque(edition: Edition, id: u16, octets: &[u8]) -> bool
+pub(crate) fn is_opaque(edition: Edition, id: u16, octets: &[u8]) -> bool
     ensures { IsTrue result ↔ (body edition id).Fits (message.Opaque id octets.now) }
 {
     match (edition, id) {

@@ -274,7 +274,62 @@ fn views(rt: HostRuntime) {
         }
         _ => panic!(rt; "a batch"),
     }
+    let no_kind = Refusal {
+        at: 0,
+        inside: 14,
+        why: Why::Truncated,
+    };
+    let refused = view_message(&header(0x0704, 0, None), &[0, 0]);
+    assert!(rt; matches!(&refused, Some(Err(refusal)) if *refusal == no_kind));
     assert!(rt; view_message(&header(0x0003, 0, None), &[]).is_none());
+}
+
+#[test]
+fn views_of_responses_and_octets(rt: HostRuntime) {
+    let response = view_message(&header(0x0001, 0, None), &[0, 7, 0x81, 0x03, 1]);
+    assert!(rt;
+        matches!(
+            &response,
+            Some(Ok(MessageView::TerminalAck {
+                reply: 7,
+                id: 0x8103,
+                result: 1
+            }))
+        )
+    );
+    let response = view_message(&header(0x8001, 0, None), &[0, 7, 2, 0, 0]);
+    assert!(rt;
+        matches!(
+            &response,
+            Some(Ok(MessageView::PlatformAck {
+                reply: 7,
+                id: 0x0200,
+                result: 0
+            }))
+        )
+    );
+    let trailing = Refusal {
+        at: 0,
+        inside: 17,
+        why: Why::Trailing,
+    };
+    let refused = view_message(&header(0x8001, 0, None), &[0, 7, 2, 0, 0, 0]);
+    assert!(rt; matches!(&refused, Some(Err(refusal)) if *refusal == trailing));
+    match view_message(&header(0x0900, 0, None), &[0x41, 1]) {
+        Some(Ok(MessageView::Opaque { id, body })) => {
+            assert_eq!(rt; id, 0x0900);
+            assert_eq!(rt; body, [0x41, 1].as_slice());
+        }
+        _ => panic!(rt; "an opaque body"),
+    }
+    let packet = Packet {
+        total: 3,
+        number: 2,
+    };
+    match view_message(&header(0x0200, 0, Some(packet)), &[9]) {
+        Some(Ok(MessageView::Part(body))) => assert_eq!(rt; body, [9].as_slice()),
+        _ => panic!(rt; "a part"),
+    }
 }
 
 #[test]

@@ -5,24 +5,33 @@ ghost use Rattle.jt_header.specs.Content.{header_len};
 ghost use Rattle.jt_layout.specs.Layout.{Fills, empty};
 ghost use Rattle.jt_layout.specs.Reading.{Finds};
 ghost use Rattle.jt_codec.specs.Parsing.{message_read};
-ghost use Rattle.jt_codec.specs.Viewing.{is_viewed, viewed};
+ghost use Rattle.jt_codec.specs.Viewing.{IsReadInPlace, IsViewed, viewed};
 
+use crate::ack::view_ack;
 use crate::frame::{in_content, start_of_body};
-use crate::message::{BATCH, HEARTBEAT, POSITION};
+use crate::message::{BATCH, HEARTBEAT, PLATFORM_ACK, POSITION, TERMINAL_ACK, is_opaque};
 use jt_header::Header;
 use jt_layout::Reader;
 use jt_position::{BatchView, PositionView, view_batch, view_position};
 use jt_value::Refusal;
 
-/// A message that is read in place: one of those that terminals send most.
+/// A message that is read in place: one of those that are sent most, or octets that are not read further.
 #[derive(Drop)]
 pub enum MessageView<'a> {
     /// A heartbeat, which has no fields.
     Heartbeat,
+    /// A terminal's general response: the serial and the id that it answers, and the result.
+    TerminalAck { reply: u16, id: u16, result: u8 },
+    /// The platform's general response, with the same fields.
+    PlatformAck { reply: u16, id: u16, result: u8 },
     /// A position, whose items stand in the body.
     Position(PositionView<'a>),
     /// A batch, whose positions stand in the body.
     Batch(BatchView<'a>),
+    /// A body under an id that has no row of the edition.
+    Opaque { id: u16, body: &'a [u8] },
+    /// The body of a packet.
+    Part(&'a [u8]),
 }
 
 #[inline(always)]
@@ -52,6 +61,38 @@ fn view_of_heartbeat<'a>(header: &Header, body: &'a [u8]) -> Result<MessageView<
 {
     match view_empty(body) {
         Ok(()) => Ok(MessageView::Heartbeat),
+        Err(refusal) => Err(in_content(start_of_body(header.edition), refusal)),
+    }
+}
+
+// The view of a terminal's response, or the reason against its body.
+#[inline(always)]
+fn view_of_terminal_ack<'a>(header: &Header, body: &'a [u8]) -> Result<MessageView<'a>, Refusal>
+    requires whole { IsNone header.now.packet }
+    requires id { header.now.id ≡ 0x0001 }
+    requires short { length body.now < 2 ^ 10 }
+    ensures { MatchResult result
+        (λ view. message_read header.now.packet header.now.edition header.now.id body.now ≡ Ok (viewed view))
+        (λ refusal. message_read header.now.packet header.now.edition header.now.id body.now ≡ Err refusal) }
+{
+    match view_ack(body) {
+        Ok((reply, id, result)) => Ok(MessageView::TerminalAck { reply, id, result }),
+        Err(refusal) => Err(in_content(start_of_body(header.edition), refusal)),
+    }
+}
+
+// The view of a platform's response, or the reason against its body.
+#[inline(always)]
+fn view_of_platform_ack<'a>(header: &Header, body: &'a [u8]) -> Result<MessageView<'a>, Refusal>
+    requires whole { IsNone header.now.packet }
+    requires id { header.now.id ≡ 0x8001 }
+    requires short { length body.now < 2 ^ 10 }
+    ensures { MatchResult result
+        (λ view. message_read header.now.packet header.now.edition header.now.id body.now ≡ Ok (viewed view))
+        (λ refusal. message_read header.now.packet header.now.edition header.now.id body.now ≡ Err refusal) }
+{
+    match view_ack(body) {
+        Ok((reply, id, result)) => Ok(MessageView::PlatformAck { reply, id, result }),
         Err(refusal) => Err(in_content(start_of_body(header.edition), refusal)),
     }
 }
@@ -87,24 +128,41 @@ fn view_of_batch<'a>(header: &Header, body: &'a [u8]) -> Result<MessageView<'a>,
     }
 }
 
+// The view of a body that is no packet, by its id.
+#[inline(always)]
+fn view_of_body<'a>(header: &Header, body: &'a [u8]) -> Option<Result<MessageView<'a>, Refusal>>
+    requires whole { IsNone header.now.packet }
+    requires short { length body.now < 2 ^ 10 }
+    ensures some { IsSome result ↔ IsReadInPlace header.now.edition header.now.id body.now }
+    ensures answer { IfSome result (λ answer. MatchResult answer
+        (λ view. message_read header.now.packet header.now.edition header.now.id body.now ≡ Ok (viewed view))
+        (λ refusal. message_read header.now.packet header.now.edition header.now.id body.now ≡ Err refusal)) }
+{
+    match header.id {
+        HEARTBEAT => Some(view_of_heartbeat(header, body)),
+        TERMINAL_ACK => Some(view_of_terminal_ack(header, body)),
+        PLATFORM_ACK => Some(view_of_platform_ack(header, body)),
+        POSITION => Some(view_of_position(header, body)),
+        BATCH => Some(view_of_batch(header, body)),
+        id if is_opaque(header.edition, id, body) => Some(Ok(MessageView::Opaque { id, body })),
+        _ => None,
+    }
+}
+
 /// The message of the body behind this header, of at most 1,023 octets, read in place, or the first reason against the body,
-/// with its offset in the content and `at` 0: what `read_message` answers. It is there for heartbeats, positions and batches
-/// that are no packets, and None says that the header is of a packet or of another message. No memory is taken.
+/// with its offset in the content and `at` 0: what `read_message` answers. It is there for packets, heartbeats, general
+/// responses, positions, batches and ids without a row, and None says that the header is of another message. No memory is
+/// taken.
 #[inline(always)]
 pub fn view_message<'a>(header: &Header, body: &'a [u8]) -> Option<Result<MessageView<'a>, Refusal>>
     requires { length body.now < 2 ^ 10 }
-    ensures some { IsSome result ↔ IsTrue (is_viewed header.now.packet header.now.id) }
+    ensures some { IsSome result ↔ IsViewed header.now.packet header.now.edition header.now.id body.now }
     ensures answer { IfSome result (λ answer. MatchResult answer
         (λ view. message_read header.now.packet header.now.edition header.now.id body.now ≡ Ok (viewed view))
         (λ refusal. message_read header.now.packet header.now.edition header.now.id body.now ≡ Err refusal)) }
 {
     if header.packet.is_some() {
-        return None;
+        return Some(Ok(MessageView::Part(body)));
     }
-    match header.id {
-        HEARTBEAT => Some(view_of_heartbeat(header, body)),
-        POSITION => Some(view_of_position(header, body)),
-        BATCH => Some(view_of_batch(header, body)),
-        _ => None,
-    }
+    view_of_body(header, body)
 }

@@ -13,7 +13,7 @@ use jt_value::{Refusal, Why};
 use memchr::{memchr, memchr2};
 use std::marker::Model;
 
-// Escapes with fewer octets than this between them are near one another.
+// Escapes with fewer octets than this between them are near one another: a search takes about as long as so many octets.
 const NEAR: usize = 8;
 
 /// Where in its stream a splitter stands.
@@ -431,7 +431,8 @@ impl Splitter {
         (run + 1, split)
     }
 
-    // Takes octets of a content up to the first flag or escape, and it, or all.
+    // Takes octets of a content up to the first flag, or some of them, whole runs of plain octets at once, and those between
+    // escapes that stand near one another one by one.
     #[inline(always)]
     fn take_content(&mut self, octets: &[u8]) -> (usize, Split)
         requires some { 0 < length octets.now }
@@ -464,7 +465,7 @@ impl Splitter {
         self.take_behind(octets, run)
     }
 
-    // Takes a frame up to the first flag or escape in it, or one octet where none begins.
+    // Takes a frame up to its last flag, or some of it, or one octet where none begins.
     #[inline(always)]
     fn take_frame(&mut self, octets: &[u8]) -> (usize, Split)
         requires some { 0 < length octets.now }
@@ -484,7 +485,7 @@ impl Splitter {
         (1 + count, split)
     }
 
-    // Takes octets up to the first that brings an event, or some of them, whole runs of plain octets at once.
+    // Takes octets up to the first that brings an event, or some of them.
     #[inline(always)]
     fn take_some(&mut self, octets: &[u8]) -> (usize, Split)
         requires some { 0 < length octets.now }

@@ -72,9 +72,9 @@ stepped s p t q left (Ok view) o same lt found h was is =
 stepped s p t q left (Err r) o same lt found h was is = absurd (not_refused s p r lt found h)
 
 -- and fewer are left
-pub progress : (left after : List Item) (o : Option ItemView) → YieldsFirstBy owned (λ left. left) left o after → MakesProgress (λ s. Unit {0}) (item_count (λ left. left)) left o after
-progress left after None h = search rules
-progress left after (Some view) h = let shorter = ap length h in search rules
+pub progress : {A V : Type 0} (view : V → A) (left after : List A) (o : Option V) → YieldsFirstBy view (λ left. left) left o after → MakesProgress (λ s. Unit {0}) (item_count (λ left. left)) left o after
+progress view left after None h = search rules
+progress view left after (Some taken) h = let shorter = ap length h in search rules
 
 -- the items take all octets that are left
 sized : (s : List ℕ) (p : ℕ) (r : Result (List Item) Refusal) → AreOctets s → p ≤ length s → read_to_the_end item.read s p ≡ r → IsTrue (is_ok r) → length (flat_map item.spell (result_unwrap_or r [])) ≡ length s - p

@@ -6,9 +6,9 @@ use Rattle.jt_position.specs.declared.position.Position.{Position}
 use Rattle.jt_position.specs.declared.items.PositionView.{PositionView}
 use Rattle.jt_position.specs.Positions.{position}
 
--- the position of these fixed fields and items
-abbrev pub positioned : PositionView → Position
-positioned view = record { fixed = view.fixed; items = view.items }
+-- the position that a view is of
+abbrev pub viewed_position : PositionView → Position
+viewed_position view = record { fixed = view.fixed; items = view.items }
 
 -- from p on there are so many positions, each behind its length
 abbrev pub reads_positions : ℕ → List ℕ → ℕ → Bool

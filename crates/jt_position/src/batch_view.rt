@@ -64,11 +64,11 @@ impl<'a> Positions<'a> {
 
 impl<'a> Iterator for Positions<'a> {
     ghost use Rattle.std.specs.Iterator.{YieldsFirstBy, item_count};
-    ghost use Rattle.jt_position.specs.BatchViews.{positioned};
+    ghost use Rattle.jt_position.specs.BatchViews.{viewed_position};
 
     type Item = PositionView<'a>;
 
-    ghost next_gives = { YieldsFirstBy positioned (λ left. left) };
+    ghost next_gives = { YieldsFirstBy viewed_position (λ left. left) };
 
     ghost remaining = { item_count (λ left. left) };
 
@@ -101,7 +101,7 @@ fn view_in(octets: &[u8]) -> Result<BatchView<'_>, Refusal>
 }
 
 /// Reads a batch's body in place: the kind and the positions that `read_batch` gives, raw values being the slices of the
-/// octets where they stand. Errors are those of `read_batch`.
+/// octets where they stand. Refusals are those of `read_batch`.
 pub fn view_batch(octets: &[u8]) -> Result<BatchView<'_>, Refusal>
     ensures batch { MatchResult result
         (λ view. Fills batch octets.now 0 (record { kind = view.kind; fixes = view.fixes }))

@@ -101,7 +101,7 @@ impl<'a> PositionView<'a> {
         28 + self.items.size()
     }
 
-    // Reads the position that the octets are from where the reader stands up to their end.
+    // Reads a position from where the reader stands up to its end.
     #[inline(always)]
     #[tactic(auto, unfolding(crate::specs::Positions::position))]
     fn read_from(mut reader: Reader<'a>) -> Result<PositionView<'a>, Refusal>

@@ -8,17 +8,16 @@ ghost use Rattle.jt_codec.specs.declared.message.Message.TheVariants as message;
 ghost use Rattle.jt_text.specs.Frames.{bit15_text, frame_start, header_fields, packet_text, version_text, view_line, year};
 ghost use Rattle.jt_text.specs.Names.{id_name, name_of, naming_id};
 
-use crate::fields::{push_fields, push_item_views, push_position_views, put_fixed};
+use crate::fields::push_fields;
 use crate::line::Line;
 use jt_codec::Message;
 use jt_header::{Header, Packet};
-use jt_position::{BatchView, PositionView};
 use jt_value::{Edition, Memory, Octets, Phone};
 use std::alloc::{AllocError, Global};
 
 // The name of a message id of 2013.
 #[tactic(auto, unfolding(crate::specs::Names::id_name))]
-fn id_name(id: u16) -> &'static str
+pub(crate) fn id_name(id: u16) -> &'static str
     ensures name { result.now ≡ id_name id }
     ensures short { length result.now ≤ 17 }
 {
@@ -174,7 +173,7 @@ fn put_frame_start(line: &mut Line, place: u64, header: &Header, name: &str)
 
 // What stands before the fields.
 #[inline(always)]
-fn put_front(line: &mut Line, place: u64, header: &Header, name: &str, body_len: u16)
+pub(crate) fn put_front(line: &mut Line, place: u64, header: &Header, name: &str, body_len: u16)
     requires line { length line.old ≤ 230 }
     requires name { length name.now ≤ 17 }
     ensures text { line.new ≡ frame_start place header.now name.now ++ (header_fields header.now body_len ++ line.old) }
@@ -182,89 +181,6 @@ fn put_front(line: &mut Line, place: u64, header: &Header, name: &str, body_len:
 {
     put_header_fields(line, header, body_len);
     put_frame_start(line, place, header, name);
-}
-
-/// Puts the line of a frame whose body is a position, read in place, at the end of a text, `place` being that of its opening
-/// flag and `body_len` the octets of its body. `line` is room that is used again.
-#[tactic(auto, using(std::proofs::Common::append_assoc), unfolding(crate::specs::Frames::view_line, crate::specs::Names::id_name, crate::specs::PositionFields::position_fields))]
-pub fn push_position_line(
-    text: &mut String,
-    line: &mut Line,
-    place: u64,
-    header: &Header,
-    view: PositionView<'_>,
-    body_len: u16,
-) -> Result<(), AllocError>
-    ensures { OnOk result (string_bytes text.new ≡ string_bytes text.old
-        ++ view_line place header.now (message.Position (record { fixed = view.entry.fixed; items = view.entry.items })) body_len) }
-{
-    line.clear();
-    put_fixed(line, &view.fixed);
-    put_front(line, place, header, "position", body_len);
-    line.push_to(text)?;
-    push_item_views(text, line, view.items)?;
-    text.push_str("\n")?;
-    Ok(())
-}
-
-/// Puts the line of a frame whose body is a batch, read in place, at the end of a text, `place` being that of its opening flag
-/// and `body_len` the octets of its body. `line` is room that is used again.
-#[tactic(auto, using(std::proofs::Common::append_assoc), unfolding(crate::specs::Frames::view_line, crate::specs::Names::id_name, crate::specs::PositionFields::batch_fields))]
-pub fn push_batch_line(
-    text: &mut String,
-    line: &mut Line,
-    place: u64,
-    header: &Header,
-    view: BatchView<'_>,
-    body_len: u16,
-) -> Result<(), AllocError>
-    ensures { OnOk result (string_bytes text.new ≡ string_bytes text.old
-        ++ view_line place header.now (message.Batch (record { kind = view.entry.kind; fixes = view.entry.fixes })) body_len) }
-{
-    line.clear();
-    line.put_named_number(" kind=", view.kind as u64);
-    line.put_named_number(" count=", view.fixes.left() as u64);
-    put_front(line, place, header, "batch", body_len);
-    line.push_to(text)?;
-    push_position_views(text, line, view.fixes)?;
-    text.push_str("\n")?;
-    Ok(())
-}
-
-// The line of a frame without fields, with one push.
-#[tactic(auto, using(std::proofs::Common::append_assoc))]
-#[inline(always)]
-fn push_bare_line(
-    text: &mut String,
-    line: &mut Line,
-    place: u64,
-    header: &Header,
-    name: &str,
-    body_len: u16,
-) -> Result<(), AllocError>
-    requires { length name.now ≤ 17 }
-    ensures { OnOk result (string_bytes text.new ≡ string_bytes text.old
-        ++ (frame_start place header.now name.now ++ (header_fields header.now body_len ++ codes "\n"))) }
-{
-    line.clear();
-    line.put_str("\n");
-    put_front(line, place, header, name, body_len);
-    line.push_to(text)
-}
-
-/// Puts the line of a heartbeat at the end of a text, `place` being that of its opening flag and `body_len` the octets of its
-/// body. `line` is room that is used again.
-#[tactic(auto, using(std::proofs::Common::append_assoc), unfolding(crate::specs::Frames::view_line, crate::specs::Names::id_name))]
-pub fn push_heartbeat_line(
-    text: &mut String,
-    line: &mut Line,
-    place: u64,
-    header: &Header,
-    body_len: u16,
-) -> Result<(), AllocError>
-    ensures { OnOk result (string_bytes text.new ≡ string_bytes text.old ++ view_line place header.now message.Heartbeat body_len) }
-{
-    push_bare_line(text, line, place, header, "heartbeat", body_len)
 }
 
 /// Puts the line of a frame at the end of a text, as `push_view_line`. `line` is room that is used again.

@@ -8,14 +8,13 @@ mod line;
 mod refusal;
 mod times;
 mod values;
+mod views;
 
-pub use frame::{
-    push_batch_line, push_heartbeat_line, push_message_line, push_position_line, push_view_line,
-    view_line,
-};
+pub use frame::{push_message_line, push_view_line, view_line};
 pub use laws::law_of_times;
 pub use line::Line;
 pub use refusal::{push_refusal_line, refusal_line};
+pub use views::push_message_view_line;
 
 #[cfg(test)]
 mod tests;

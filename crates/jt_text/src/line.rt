@@ -44,6 +44,25 @@ fn write_octets(text: &[u8], room: &mut [u8], end: usize) -> usize
     at
 }
 
+// Writes the digits of octets, the last octet first, so that they end at `end`, and returns where they start.
+#[inline(always)]
+fn write_pairs(octets: &[u8], room: &mut [u8], end: usize) -> usize
+    requires { (2 * length octets.now ≤ end) × (end ≤ length room.old) }
+    ensures start { result + 2 * length octets.now ≡ end }
+    ensures written { drop result room.new ≡ encode_lower octets.now ++ drop end room.old }
+{
+    let mut at = end;
+    let mut left = octets.len();
+    while left > 0 {
+        at -= 2;
+        left -= 1;
+        let (high, low) = digits(octets[left]);
+        room[at] = high;
+        room[at + 1] = low;
+    }
+    at
+}
+
 /// Text that is put together from its end, in a room of 512 octets, so that it is pushed to a text at once. In clauses it is
 /// the list of its octets. A call of this crate that is handed a line drops what it held, and does not say what it holds
 /// afterwards: it is handed on to save making it anew.
@@ -137,11 +156,7 @@ impl Line {
         ensures text { self.new ≡ encode_lower octets.now ++ self.old }
         ensures room { length self.new ≡ length self.old + 2 * length octets.now }
     {
-        let mut left = octets.len();
-        while left > 0 {
-            left -= 1;
-            self.put_octet(octets[left]);
-        }
+        self.start = write_pairs(octets, &mut self.octets, self.start);
     }
 
     // A number in decimal behind its name, both in front.

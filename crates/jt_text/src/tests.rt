@@ -1,5 +1,5 @@
 use super::*;
-use jt_codec::{Message, read_body};
+use jt_codec::{Message, MessageView, read_body};
 use jt_header::{Header, Packet};
 use jt_position::{view_batch, view_position};
 use jt_register::{Auth, AuthTail};
@@ -306,7 +306,8 @@ fn a_batch_in_place(rt: HostRuntime) -> Result<(), Fail> {
     let body =
         b"\0\x02\x01\0\x21\0\0\0\0\0\0\0\x03\x01\x31\x2d\0\x06\xbc\x3e\x40\0\0\0\0\0\0\0\0\0\0\0\0\x01\x03\0\0\x0a\0\x1c\0\0\0\0\0\0\0\x03\x01\x31\x2d\0\x06\xbc\x3e\x40\0\x0a\0\0\0\0\x24\x03\x05\x12\x34\x56";
     let view = view_batch(body).expect(&rt, "a batch");
-    push_batch_line(&mut text, &mut line, 7, &header(0x0704, None), view, 68)?;
+    let view = MessageView::Batch(view);
+    push_message_view_line(&mut text, &mut line, 7, &header(0x0704, None), view, 68)?;
     let refusal = Refusal {
         at: 90,
         inside: 0,
@@ -320,6 +321,39 @@ fn a_batch_in_place(rt: HostRuntime) -> Result<(), Fail> {
     Ok(())
 }
 
+// Responses, a body under an id without a row, and a packet.
+#[test]
+fn views_in_one_room(rt: HostRuntime) -> Result<(), Fail> {
+    let mut line = Line::new();
+    let mut text = String::new(rt.alloc());
+    let response = MessageView::TerminalAck {
+        reply: 65_535,
+        id: 0x8103,
+        result: 3,
+    };
+    push_message_view_line(&mut text, &mut line, 0, &header(0x0001, None), response, 5)?;
+    let response = MessageView::PlatformAck {
+        reply: 9,
+        id: 0x0200,
+        result: 0,
+    };
+    push_message_view_line(&mut text, &mut line, 20, &header(0x8001, None), response, 5)?;
+    let body = b"\x41\0\x7f\xff\x10\x11\x12\x13\x14\x15\x16\x17\x18\x19\x1a\x1b\x1c\x1d";
+    let opaque = MessageView::Opaque { id: 0x0900, body };
+    push_message_view_line(&mut text, &mut line, 40, &header(0x0900, None), opaque, 18)?;
+    let packet = Some(Packet {
+        total: 3,
+        number: 2,
+    });
+    let part = MessageView::Part(&[]);
+    push_message_view_line(&mut text, &mut line, 73, &header(0x0104, packet), part, 0)?;
+    assert_eq!(rt;
+        text.as_str(),
+        "0 2013 0x0001 terminal-ack phone=013912345678 serial=3 body=5 reply=65535 id=0x8103 result=3\n20 2013 0x8001 platform-ack phone=013912345678 serial=3 body=5 reply=9 id=0x0200 result=0\n40 2013 0x0900 opaque phone=013912345678 serial=3 body=18 body-octets=41007fff101112131415161718191a1b1c1d\n73 2013 0x0104 params phone=013912345678 serial=3 packet=2/3 body=0 part=-\n"
+    );
+    Ok(())
+}
+
 // A position read in place and a message without fields, one after the other in one room.
 #[test]
 fn lines_in_one_room(rt: HostRuntime) -> Result<(), Fail> {
@@ -329,8 +363,17 @@ fn lines_in_one_room(rt: HostRuntime) -> Result<(), Fail> {
     let body =
         b"\0\0\0\0\0\0\0\x03\x01\x31\x2d\0\x06\xbc\x3e\x40\0\0\0\0\0\0\x24\x03\x05\x12\x34\x56\x01\x04\0\0\0\x0a\x30\x01\x19\x01\x03\0\0\x0a";
     let view = view_position(body).expect(&rt, "a position");
-    push_position_line(&mut text, &mut line, 0, &header(0x0200, None), view, 42)?;
-    push_heartbeat_line(&mut text, &mut line, 57, &header(0x0002, None), 0)?;
+    let view = MessageView::Position(view);
+    push_message_view_line(&mut text, &mut line, 0, &header(0x0200, None), view, 42)?;
+    let heartbeat = MessageView::Heartbeat;
+    push_message_view_line(
+        &mut text,
+        &mut line,
+        57,
+        &header(0x0002, None),
+        heartbeat,
+        0,
+    )?;
     let deregister = Message::Deregister;
     push_message_line(
         &mut text,

@@ -6,11 +6,15 @@ ghost use Rattle.std.specs.Str.{IsUtf8};
 ghost use Rattle.hex.specs.Hex.{encode_lower};
 ghost use Rattle.jt_text.specs.Values.{octets_text};
 
+use crate::line::Line;
 use itoa::write_digits;
 use std::alloc::AllocError;
 
-// Octets whose digits are made at a time.
+// A few octets, whose digits go into a small room.
 const PIECE: usize = 16;
+
+// Octets whose digits are put together at a time where there are more: half the room of a line.
+const LONG_PIECE: usize = 256;
 
 // Octets of a name that is put together with its value.
 const NAME: usize = 16;
@@ -45,10 +49,13 @@ pub(crate) fn push_hex(text: &mut String, octets: &[u8]) -> Result<(), AllocErro
     if octets.len() <= PIECE {
         return push_piece(text, octets);
     }
+    let mut line = Line::new();
     let mut left = octets;
     while !left.is_empty() {
-        let (piece, others) = left.split_at(left.len().min(PIECE));
-        push_piece(text, piece)?;
+        let (piece, others) = left.split_at(left.len().min(LONG_PIECE));
+        line.clear();
+        line.put_digits(piece);
+        line.push_to(text)?;
         left = others;
     }
     Ok(())

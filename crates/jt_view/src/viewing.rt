@@ -10,37 +10,13 @@ ghost use Rattle.jt_view.specs.Entry.{entry_of};
 ghost use Rattle.jt_view.specs.Reporting.{ViewsEntry, ViewsTold};
 
 use crate::judged::Judged;
-use jt_codec::{MessageView, read_message, view_message};
+use jt_codec::{read_message, view_message};
 use jt_escape::Split;
 use jt_header::Header;
 use jt_stream::{Stream, placed};
-use jt_text::{
-    Line, push_batch_line, push_heartbeat_line, push_message_line, push_position_line,
-    push_refusal_line,
-};
+use jt_text::{Line, push_message_line, push_message_view_line, push_refusal_line};
 use jt_value::{CodecError, Memory, Refusal};
-use std::alloc::{AllocError, Global};
-
-// The line of a message that is read in place.
-#[inline(always)]
-fn push_view(
-    text: &mut String,
-    line: &mut Line,
-    place: u64,
-    header: &Header,
-    view: MessageView<'_>,
-    body_len: u16,
-) -> Result<(), AllocError>
-    ensures { OnOk result (string_bytes text.new ≡ string_bytes text.old ++ view_line place header.now (viewed view.entry) body_len) }
-{
-    match view {
-        MessageView::Heartbeat => push_heartbeat_line(text, line, place, header, body_len),
-        MessageView::Position(view) => {
-            push_position_line(text, line, place, header, view, body_len)
-        }
-        MessageView::Batch(view) => push_batch_line(text, line, place, header, view, body_len),
-    }
-}
+use std::alloc::Global;
 
 #[inline(never)]
 fn view_refusal(text: &mut String, line: &mut Line, refusal: Refusal) -> Result<Judged, Memory>
@@ -88,7 +64,7 @@ fn view_body(
 {
     match view_message(header, body) {
         Some(Ok(view)) => {
-            push_view(text, line, place, header, view, body.len() as u16)?;
+            push_message_view_line(text, line, place, header, view, body.len() as u16)?;
             Ok(Judged::Frame)
         }
         Some(Err(refusal)) => view_refusal(text, line, placed(place, refusal)),

@@ -6,12 +6,12 @@ mod position;
 mod regions;
 mod registration;
 
-ghost use Rattle.std.specs.Prelude.{◌≡◌, ◌++◌, string_bytes, OnOk};
+ghost use Rattle.std.specs.Prelude.{◌≡◌, ◌+◌, ◌≤◌, ◌++◌, length, string_bytes, OnOk};
 ghost use Rattle.jt_text.specs.Fields.{ack_fields, fields_of};
 ghost use Rattle.jt_codec.specs.declared.message.Message.TheVariants as message;
 
 use crate::line::Line;
-use crate::values::{push_digits, push_number, push_octets};
+use crate::values::{push_number, push_octets};
 use jt_codec::Message;
 use jt_params::Param;
 use jt_position::Position;
@@ -23,13 +23,31 @@ use regions::{push_circles, push_deletion, push_polygon, push_rectangles, push_r
 use registration::{push_auth, push_register, push_register_reply};
 use std::alloc::AllocError;
 
+/// The fields of a general response, in front of a line.
 #[tactic(auto, using(std::proofs::Common::append_assoc), unfolding(crate::specs::Fields::ack_fields))]
-fn push_ack(text: &mut String, reply: u16, id: u16, answer: u8) -> Result<(), AllocError>
+#[inline(always)]
+pub(crate) fn put_ack(line: &mut Line, reply: u16, id: u16, answer: u8)
+    requires { length line.old ≤ 400 }
+    ensures text { line.new ≡ ack_fields reply id answer ++ line.old }
+    ensures room { length line.new ≤ length line.old + 65 }
+{
+    line.put_named_number(" result=", answer as u64);
+    line.put_named_digits(" id=0x", id.to_be_bytes().as_slice());
+    line.put_named_number(" reply=", reply as u64);
+}
+
+fn push_ack(
+    text: &mut String,
+    line: &mut Line,
+    reply: u16,
+    id: u16,
+    answer: u8,
+) -> Result<(), AllocError>
     ensures { OnOk result (string_bytes text.new ≡ string_bytes text.old ++ ack_fields reply id answer) }
 {
-    push_number(text, " reply=", reply as u64)?;
-    push_digits(text, " id=0x", id.to_be_bytes().as_slice())?;
-    push_number(text, " result=", answer as u64)
+    line.clear();
+    put_ack(line, reply, id, answer);
+    line.push_to(text)
 }
 
 #[tactic(auto, using(std::proofs::Common::append_assoc))]
@@ -64,7 +82,7 @@ pub(crate) fn push_fields(
 {
     match message {
         Message::TerminalAck { reply, id, result } | Message::PlatformAck { reply, id, result } => {
-            push_ack(text, *reply, *id, *result)
+            push_ack(text, line, *reply, *id, *result)
         }
         Message::Heartbeat | Message::Deregister | Message::QueryParams | Message::QueryPosition =>
             Ok(()),

@@ -4,7 +4,7 @@ ghost use Rattle.std.specs.Prelude.{◌≡◌, ◌+◌, ◌≤◌, ◌++◌, len
 ghost use Rattle.std.specs.List.{flat_map};
 ghost use Rattle.std.specs.Fmt.{decimal};
 ghost use Rattle.jt_position.specs.declared.item.Item.TheVariants as items;
-ghost use Rattle.jt_position.specs.BatchViews.{positioned};
+ghost use Rattle.jt_position.specs.BatchViews.{viewed_position};
 ghost use Rattle.jt_position.specs.Views.{owned};
 ghost use Rattle.jt_text.specs.PositionFields.{batch_fields, batch_item_text, item_text, motion_text, place_text, position_fields, region_text};
 ghost use Rattle.jt_text.specs.Times.{time_text};
@@ -203,7 +203,7 @@ fn push_position_view(
     line: &mut Line,
     view: PositionView<'_>,
 ) -> Result<(), AllocError>
-    ensures { OnOk result (string_bytes text.new ≡ string_bytes text.old ++ batch_item_text (positioned view.entry)) }
+    ensures { OnOk result (string_bytes text.new ≡ string_bytes text.old ++ batch_item_text (viewed_position view.entry)) }
 {
     line.clear();
     put_fixed(line, &view.fixed);

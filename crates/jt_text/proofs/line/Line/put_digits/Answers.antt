@@ -1,13 +1,16 @@
-use Rattle.std.proofs.Common.{arith}
-use Rattle.jt_text.proofs.Lines.{no_digits, one_more}
+use Rattle.std.proofs.Common.{drop, arith}
+use Rattle.hex.specs.Hex.{encode_lower}
+use Rattle.jt_text.proofs.HexPieces.{utf8_digits}
+use Rattle.jt_text.proofs.Lines.{utf8_in_front, room_before}
 use Rattle.jt_text.proofs.line.Line.put_digits.Goals as goal
 
-pub loop-left-init : goal.loop-left-init
-loop-left-init c = record { within = omega arith; text = no_digits c.args.octets.now c.args.self.now; room = omega arith }
+pub write_pairs-self-inside-requires : goal.write_pairs-self-inside-requires
+write_pairs-self-inside-requires c =
+    let room = room_before c.self.inside.start c.self.inside.octets c.args.self.now c.self.told c.self.invariant.0 c.self.view_is in
+    (omega (arith, room), omega arith)
 
-pub loop-left-preserved : goal.loop-left-preserved
-loop-left-preserved c = record {
-  within = omega arith;
-  text = one_more c.args.octets.now c.args.self.now c.loop-left.self c.put_octet.new.self c.loop-left.left c.loop-left-test.true c.loop-left.invariant.within c.loop-left.invariant.text c.put_octet.ensures.text;
-  room = omega arith;
-}
+pub invariant_of-self : goal.invariant_of-self
+invariant_of-self c = (
+  omega (arith, c.write_pairs-self-inside.ensures.start),
+  utf8_in_front (encode_lower c.args.octets.now) (drop c.self.inside.start c.self.inside.octets) _ c.write_pairs-self-inside.ensures.written (utf8_digits c.args.octets.now) c.self.invariant.1,
+)
