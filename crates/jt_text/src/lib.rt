@@ -13,7 +13,7 @@ mod views;
 pub use frame::{push_message_line, push_view_line, view_line};
 pub use laws::law_of_times;
 pub use line::Line;
-pub use refusal::{push_refusal_line, refusal_line};
+pub use refusal::{push_refusal_line, push_refusal_line_with, refusal_line};
 pub use views::push_message_view_line;
 
 #[cfg(test)]

@@ -62,8 +62,8 @@ fn put_refusal(line: &mut Line, refusal: &Refusal)
     line.put_number(refusal.at);
 }
 
-/// Puts the line of a refusal at the end of a text: its place, its offset and its reason. `line` is room that is used again.
-pub fn push_refusal_line(
+/// Puts the line of a refusal at the end of a text, as `push_refusal_line`. `line` is room that is used again.
+pub fn push_refusal_line_with(
     text: &mut String,
     line: &mut Line,
     refusal: &Refusal,
@@ -75,11 +75,18 @@ pub fn push_refusal_line(
     line.push_to(text)
 }
 
+/// Puts the line of a refusal at the end of a text: its place, its offset and its reason.
+pub fn push_refusal_line(text: &mut String, refusal: &Refusal) -> Result<(), AllocError>
+    ensures { OnOk result (string_bytes text.new ≡ string_bytes text.old ++ refusal_line refusal.now) }
+{
+    push_refusal_line_with(text, &mut Line::new(), refusal)
+}
+
 /// The line of a refusal, as a text of its own.
 pub fn refusal_line(alloc: Global, refusal: &Refusal) -> Result<Octets, Memory>
     ensures { IfOk result (λ line. line ≡ refusal_line refusal.now) }
 {
     let mut text = String::new(alloc);
-    push_refusal_line(&mut text, &mut Line::new(), refusal)?;
+    push_refusal_line(&mut text, refusal)?;
     Ok(Octets::from_vec(text.into_bytes()))
 }

@@ -313,7 +313,7 @@ fn a_batch_in_place(rt: HostRuntime) -> Result<(), Fail> {
         inside: 0,
         why: Why::Stray,
     };
-    push_refusal_line(&mut text, &mut line, &refusal)?;
+    push_refusal_line_with(&mut text, &mut line, &refusal)?;
     assert_eq!(rt;
         text.as_str(),
         "7 2013 0x0704 batch phone=013912345678 serial=3 body=68 count=2 kind=1 length=33 alarm=0x00000000 status=0x00000003 lat=20000000 lon=113000000 altitude=0 speed=0 direction=0 time=- item=0x01:00000a length=28 alarm=0x00000000 status=0x00000003 lat=20000000 lon=113000000 altitude=10 speed=0 direction=0 time=2024-03-05T12:34:56+08:00\n90+0 refused Stray\n"

@@ -41,7 +41,7 @@ fn check(alloc: Global, tally: &mut Tally, octets: &[u8], text: &mut String) -> 
         at += count;
         match refusal {
             Some(refusal) => {
-                push_refusal_line(text, &mut Line::new(), &refusal)?;
+                push_refusal_line(text, &refusal)?;
                 return Ok(true);
             }
             None => {}
@@ -76,7 +76,7 @@ fn push_end(text: &mut String, end: Option<Refusal>) -> Result<(), AllocError>
     ensures { OnOk result (string_bytes text.new ≡ string_bytes text.old ++ lines (end_entries end)) }
 {
     match end {
-        Some(refusal) => push_refusal_line(text, &mut Line::new(), &refusal),
+        Some(refusal) => push_refusal_line(text, &refusal),
         None => Ok(()),
     }
 }
@@ -123,7 +123,7 @@ fn close_check(tally: &Tally, text: &mut String) -> Result<Status, Memory>
 {
     match tally.finish() {
         Some(refusal) => {
-            push_refusal_line(text, &mut Line::new(), &refusal)?;
+            push_refusal_line(text, &refusal)?;
             Ok(Status::Refused)
         }
         None => {

@@ -14,7 +14,7 @@ use jt_codec::{read_message, view_message};
 use jt_escape::Split;
 use jt_header::Header;
 use jt_stream::{Stream, placed};
-use jt_text::{Line, push_message_line, push_message_view_line, push_refusal_line};
+use jt_text::{Line, push_message_line, push_message_view_line, push_refusal_line_with};
 use jt_value::{CodecError, Memory, Refusal};
 use std::alloc::Global;
 
@@ -22,7 +22,7 @@ use std::alloc::Global;
 fn view_refusal(text: &mut String, line: &mut Line, refusal: Refusal) -> Result<Judged, Memory>
     ensures { IfOk result (λ judgement. ViewsEntry (entries.Refused refusal) judgement (string_bytes text.old) (string_bytes text.new)) }
 {
-    push_refusal_line(text, line, &refusal)?;
+    push_refusal_line_with(text, line, &refusal)?;
     Ok(Judged::Refused(refusal))
 }
 
