@@ -232,6 +232,25 @@ kept_runs old new octets count room inside plain within least fits e =
     subst (λ (state : State). Runs old state (take count octets) []) (sym e)
     (keeps_all_plain old (take count octets) inside (subst IsPlain (take-take count room octets short) plain) (omega (arith, short, fits, length-take-le count octets (omega (arith, short, least)))))
 
+-- an opening flag, and content octets behind it that stand for themselves
+pub begins : (old opened kept : State) (piece : List ℕ) (count : ℕ) → (old.mode ≡ modes.Outside) ⊎ (old.mode ≡ modes.Straying) → count ≤ 1045 → count + 1 ≤ length piece
+    → get_or piece 0 0 ≡ 0x7E → IsPlain (slice_range piece 1 (count + 1)) → opened ≡ opening old → kept ≡ keeping_all opened (slice_range piece 1 (count + 1))
+    → Runs old kept (take (count + 1) piece) []
+begins old opened kept piece count mode short within flag plain e f =
+    let begun = opens_frame old (get_or piece 0 0) mode flag in
+    let rest : List ℕ = drop 1 piece in
+    let content : List ℕ = slice_range piece 1 (count + 1) in
+    let len : length content ≡ count = length-take-le (count + 1 - 1) rest (omega (arith, within, length-drop 1 piece)) ∙ omega arith in
+    let fewer : count + 1 - 1 ≡ count = omega arith in
+    let whole : slice_range piece 1 (length piece) ≡ rest = take_all (length piece - 1) rest (omega (arith, length-drop 1 piece)) in
+    let front : content ≡ take count (slice_range piece 1 (length piece)) = ap (λ (n : ℕ). take n rest) fewer ∙ ap (take count) (sym whole) in
+    let none : length opened.content ≡ 0 = ap (λ (state : State). length state.content) e in
+    let runs : Runs opened kept content [] =
+    subst (λ (state : State). Runs opened state content []) (sym f) (keeps_all_plain opened content (ap (λ (state : State). state.mode) e) plain (omega (arith, none, len, short))) in
+    let total : 1 + count ≡ count + 1 = omega arith in
+    subst (λ (n : ℕ). Runs old kept (take n piece) []) total
+    (Runs-first old opened kept piece count [] (omega (arith, within)) (e ∙ sym begun.0) begun.1 (subst (λ (octets : List ℕ). Runs opened kept octets []) front runs))
+
 -- in this mode an octet other than a flag is passed over
 abbrev Passes : Mode → Type 0
 Passes mode =

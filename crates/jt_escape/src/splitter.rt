@@ -1,6 +1,6 @@
 //! Contents and refusals of a stream that comes octet by octet, or in pieces.
 
-ghost use Rattle.std.specs.Prelude.{◌≡◌, ◌⊎◌, ◌<◌, ◌≤◌, ◌+◌, ◌-◌, ◌^◌, [], ◌∷◌, List, ℕ, length, take, slice_index, slice_range, IfSome, IfNone};
+ghost use Rattle.std.specs.Prelude.{◌≡◌, ◌⊎◌, ◌<◌, ◌≤◌, ◌+◌, ◌-◌, ◌^◌, [], ◌∷◌, List, ℕ, length, take, slice_index, slice_range, IsTrue, IfSome};
 ghost use Rattle.jt_value.specs.declared.refusal.Refusal.{Refusal};
 ghost use Rattle.jt_escape.specs.declared.splitter.Mode.TheVariants.{Outside, Straying, Inside, Escaping, Skipping};
 ghost use Rattle.jt_escape.specs.Span.{Ends, HasNoFlag, IsContent, refusal_at};
@@ -108,22 +108,25 @@ fn unescaped(code: u8) -> Option<u8>
     }
 }
 
-// How many octets the content has, where the piece begins with a whole frame that has no escape. The search goes no further
-// than the longest content.
+// How many octets stand behind the opening flag before the next flag or escape. The search goes no further than the longest
+// content.
 #[inline(always)]
-fn plain_frame(piece: &[u8]) -> Option<usize>
-    ensures length { IfSome result (λ count. (0 < count) × (count ≤ 1045) × (count + 2 ≤ length piece.now)) }
-    ensures flags { IfSome result (λ count. (slice_index piece.now 0 ≡ 0x7E) × (slice_index piece.now (count + 1) ≡ 0x7E)) }
-    ensures plain { IfSome result (λ count. IsPlain (slice_range piece.now 1 (count + 1))) }
+fn plain_front(piece: &[u8]) -> usize
+    requires { 0 < length piece.now }
+    ensures short { result ≤ 1045 }
+    ensures within { result + 1 ≤ length piece.now }
+    ensures plain { IsPlain (slice_range piece.now 1 (result + 1)) }
 {
-    if piece.len() < 3 || piece[0] != FLAG {
-        return None;
-    }
-    let count = plain_len(&piece[1..piece.len().min(CONTENT_LIMIT + 1)]);
-    if count == 0 || count + 1 == piece.len() || piece[count + 1] != FLAG {
-        return None;
-    }
-    Some(count)
+    plain_len(&piece[1..piece.len().min(CONTENT_LIMIT + 1)])
+}
+
+// Whether a flag stands behind so many octets of content.
+#[inline(always)]
+fn is_closed(piece: &[u8], count: usize) -> bool
+    requires { count + 1 ≤ length piece.now }
+    ensures { IsTrue result → (0 < count) × (count + 2 ≤ length piece.now) × (slice_index piece.now (count + 1) ≡ 0x7E) }
+{
+    count > 0 && count + 1 < piece.len() && piece[count + 1] == FLAG
 }
 
 impl Splitter {
@@ -199,7 +202,7 @@ impl Splitter {
         }
     }
 
-    #[inline(never)]
+    #[inline(always)]
     fn take_escaped(&mut self, octet: u8) -> Split
         requires place { self.old.place < 2 ^ 63 }
         requires mode { self.old.mode ≡ Escaping }
@@ -227,6 +230,7 @@ impl Splitter {
         }
     }
 
+    #[inline(always)]
     fn take_outside(&mut self, octet: u8) -> Split
         requires { self.old.place < 2 ^ 63 }
         ensures next { self.new ≡ after_in Outside self.old octet }
@@ -370,6 +374,7 @@ impl Splitter {
     fn gather_near(&mut self, octets: &[u8]) -> usize
         requires { self.old.mode ≡ Inside }
         ensures within { result ≤ length octets.now }
+        ensures mode { self.new.mode ≡ Inside }
         ensures place { self.new.place ≡ self.old.place }
         ensures runs { Runs self.old (standing self.new (self.old.place + result)) (take result octets.now) [] }
     {
@@ -392,10 +397,87 @@ impl Splitter {
         requires mode { self.old.mode ≡ Inside }
         ensures within { result ≤ length octets.now }
         ensures place { self.new.place ≡ self.old.place + result }
+        ensures mode { self.new.mode ≡ Inside }
         ensures runs { Runs self.old self.new (take result octets.now) [] }
     {
         let taken = self.gather_near(octets);
         self.place += taken as u64;
+        taken
+    }
+
+    // Keeps the octet that an escape at the front stands for, where it is whole and a right one: how many octets were taken.
+    #[inline(always)]
+    fn keep_escape(&mut self, octets: &[u8]) -> usize
+        requires place { self.old.place + length octets.now < 2 ^ 63 }
+        requires mode { self.old.mode ≡ Inside }
+        requires some { 0 < length octets.now }
+        requires escape { slice_index octets.now 0 ≡ 0x7D }
+        ensures within { result ≤ length octets.now }
+        ensures place { self.new.place ≡ self.old.place + result }
+        ensures mode { self.new.mode ≡ Inside }
+        ensures runs { Runs self.old self.new (take result octets.now) [] }
+    {
+        if self.content.is_full() {
+            return 0;
+        }
+        let taken = self.gather_escape(octets);
+        self.place += taken as u64;
+        taken
+    }
+
+    // Keeps a run of content octets, and what follows a short one as long as escapes stand near one another: how many octets
+    // were taken.
+    #[inline(always)]
+    fn keep_plain(&mut self, octets: &[u8]) -> usize
+        requires place { self.old.place + length octets.now < 2 ^ 63 }
+        requires mode { self.old.mode ≡ Inside }
+        ensures within { result ≤ length octets.now }
+        ensures place { self.new.place ≡ self.old.place + result }
+        ensures mode { self.new.mode ≡ Inside }
+        ensures runs { Runs self.old self.new (take result octets.now) [] }
+    {
+        let run = self.keep_run(octets);
+        if run >= NEAR {
+            return run;
+        }
+        run + self.keep_near(&octets[run..])
+    }
+
+    // Keeps the next octets of a content, if they are such and there is room: how many were taken.
+    #[inline(always)]
+    fn keep_next(&mut self, octets: &[u8]) -> usize
+        requires place { self.old.place + length octets.now < 2 ^ 63 }
+        requires mode { self.old.mode ≡ Inside }
+        requires some { 0 < length octets.now }
+        ensures within { result ≤ length octets.now }
+        ensures place { self.new.place ≡ self.old.place + result }
+        ensures mode { self.new.mode ≡ Inside }
+        ensures runs { Runs self.old self.new (take result octets.now) [] }
+    {
+        match octets[0] {
+            FLAG => 0,
+            ESCAPE => self.keep_escape(octets),
+            _ => self.keep_plain(octets),
+        }
+    }
+
+    // Keeps content octets up to the flag, or to the first that are none or find no room: how many were taken.
+    #[inline(always)]
+    fn keep_content(&mut self, octets: &[u8]) -> usize
+        requires place { self.old.place + length octets.now < 2 ^ 63 }
+        requires mode { self.old.mode ≡ Inside }
+        ensures within { result ≤ length octets.now }
+        ensures place { self.new.place ≡ self.old.place + result }
+        ensures runs { Runs self.old self.new (take result octets.now) [] }
+    {
+        let mut taken = 0;
+        while taken < octets.len() {
+            let count = self.keep_next(&octets[taken..]);
+            if count == 0 {
+                return taken;
+            }
+            taken += count;
+        }
         taken
     }
 
@@ -431,8 +513,7 @@ impl Splitter {
         (run + 1, split)
     }
 
-    // Takes octets of a content up to the first flag, or some of them, whole runs of plain octets at once, and those between
-    // escapes that stand near one another one by one.
+    // Takes octets of a content, and the one behind them, or all.
     #[inline(always)]
     fn take_content(&mut self, octets: &[u8]) -> (usize, Split)
         requires some { 0 < length octets.now }
@@ -444,13 +525,12 @@ impl Splitter {
         ensures runs { Runs self.old self.new (take result.0 octets.now) (told result.1 self.new) }
         ensures content { result.1 ≡ Split.Content → 0 < length self.new.content }
     {
-        let run = self.keep_run(octets);
-        let near = self.keep_near(&octets[run..]);
-        self.take_behind(octets, run + near)
+        let run = self.keep_content(octets);
+        self.take_behind(octets, run)
     }
 
     // Takes octets that are in no frame up to the next flag, and it, or all.
-    #[inline(never)]
+    #[inline(always)]
     fn take_passed(&mut self, octets: &[u8]) -> (usize, Split)
         requires some { 0 < length octets.now }
         requires place { self.old.place + length octets.now < 2 ^ 63 }
@@ -465,26 +545,6 @@ impl Splitter {
         self.take_behind(octets, run)
     }
 
-    // Takes a frame up to its last flag, or some of it, or one octet where none begins.
-    #[inline(always)]
-    fn take_frame(&mut self, octets: &[u8]) -> (usize, Split)
-        requires some { 0 < length octets.now }
-        requires place { self.old.place + length octets.now < 2 ^ 63 }
-        requires mode { self.old.mode ≡ Outside }
-        ensures some { 0 < result.0 }
-        ensures within { result.0 ≤ length octets.now }
-        ensures place { self.new.place ≡ self.old.place + result.0 }
-        ensures runs { Runs self.old self.new (take result.0 octets.now) (told result.1 self.new) }
-        ensures content { result.1 ≡ Split.Content → 0 < length self.new.content }
-    {
-        if octets.len() == 1 || octets[0] != FLAG {
-            return self.take_behind(octets, 0);
-        }
-        self.open();
-        let (count, split) = self.take_content(&octets[1..]);
-        (1 + count, split)
-    }
-
     // Takes octets up to the first that brings an event, or some of them.
     #[inline(always)]
     fn take_some(&mut self, octets: &[u8]) -> (usize, Split)
@@ -497,10 +557,9 @@ impl Splitter {
         ensures content { result.1 ≡ Split.Content → 0 < length self.new.content }
     {
         match self.mode {
-            Mode::Outside => self.take_frame(octets),
             Mode::Inside => self.take_content(octets),
             Mode::Straying | Mode::Skipping => self.take_passed(octets),
-            Mode::Escaping => self.take_behind(octets, 0),
+            Mode::Outside | Mode::Escaping => self.take_behind(octets, 0),
         }
     }
 
@@ -560,41 +619,77 @@ impl Splitter {
         }
     }
 
-    // Takes a frame that stands whole and without escapes at the front of the piece, and leaves its content there: how many
-    // octets were taken, or None where there is no such frame.
+    // Whether a frame opens with the first octet.
     #[inline(always)]
-    fn take_plain(&mut self, piece: &[u8]) -> Option<usize>
-        requires { self.old.place + length piece.now < 2 ^ 63 }
-        ensures within { IfSome result (λ taken. (0 < taken) × (taken ≤ length piece.now)) }
-        ensures place { IfSome result (λ taken. self.new.place ≡ self.old.place + taken) }
-        ensures runs { IfSome result (λ taken. RunsInPlace self.old self.new (take taken piece.now)
-            (told_in_place Split.Content self.new (take taken piece.now))) }
-        ensures content { IfSome result (λ taken. IsContent (lent self.new (take taken piece.now))) }
-        ensures none { IfNone result (self.new ≡ self.old) }
+    fn opens(&self, piece: &[u8]) -> bool
+        ensures some { IsTrue result → (0 < length piece.now) × (slice_index piece.now 0 ≡ 0x7E) }
+        ensures mode { IsTrue result → (self.now.mode ≡ Outside) ⊎ (self.now.mode ≡ Straying) }
     {
-        if !matches!(self.mode, Mode::Outside | Mode::Straying) {
-            return None;
-        }
-        let count = plain_frame(piece)?;
-        self.lend(count);
-        Some(count + 2)
+        matches!(self.mode, Mode::Outside | Mode::Straying) && !piece.is_empty() && piece[0] == FLAG
     }
 
-    // Takes octets up to the first that brings an event, or all, and keeps each content.
-    fn take_kept(&mut self, piece: &[u8]) -> (usize, Split)
-        requires { self.old.place + length piece.now < 2 ^ 63 }
-        ensures within { result.0 ≤ length piece.now }
-        ensures some { 0 < length piece.now → 0 < result.0 }
+    // Takes what is left of a piece, of which so many octets were taken, up to the first octet that brings an event, or all,
+    // and keeps each content.
+    #[inline(never)]
+    fn take_kept(&mut self, piece: &[u8], taken: usize) -> (usize, Split)
+        requires taken { taken ≤ length piece.now }
+        requires place { self.old.place + (length piece.now - taken) < 2 ^ 63 }
+        ensures within { (taken ≤ result.0) × (result.0 ≤ length piece.now) }
+        ensures some { taken < length piece.now → taken < result.0 }
+        ensures place { self.new.place + taken ≡ self.old.place + result.0 }
+        ensures runs { (before : State) → Runs before self.old (take taken piece.now) []
+            → RunsInPlace before self.new (take result.0 piece.now) (told_in_place result.1 self.new (take result.0 piece.now)) }
+        ensures more { result.1 ≡ Split.More → result.0 ≡ length piece.now }
+        ensures content { result.1 ≡ Split.Content → IsContent (lent self.new (take result.0 piece.now)) }
+    {
+        let (count, split) = self.take_all(&piece[taken..]);
+        // The place of a content has no more room, which callers could not know.
+        prove!(self.content.len() <= CONTENT_LIMIT);
+        (taken + count, split)
+    }
+
+    // Takes the opening flag and so many octets of content behind it, and then what follows, and keeps each content.
+    #[inline(always)]
+    fn take_begun(&mut self, piece: &[u8], count: usize) -> (usize, Split)
+        requires place { self.old.place + length piece.now < 2 ^ 63 }
+        requires mode { (self.old.mode ≡ Outside) ⊎ (self.old.mode ≡ Straying) }
+        requires short { count ≤ 1045 }
+        requires within { count + 1 ≤ length piece.now }
+        requires flag { slice_index piece.now 0 ≡ 0x7E }
+        requires plain { IsPlain (slice_range piece.now 1 (count + 1)) }
+        ensures within { (0 < result.0) × (result.0 ≤ length piece.now) }
         ensures place { self.new.place ≡ self.old.place + result.0 }
         ensures runs { RunsInPlace self.old self.new (take result.0 piece.now)
             (told_in_place result.1 self.new (take result.0 piece.now)) }
         ensures more { result.1 ≡ Split.More → result.0 ≡ length piece.now }
         ensures content { result.1 ≡ Split.Content → IsContent (lent self.new (take result.0 piece.now)) }
     {
-        let answer = self.take_all(piece);
-        // The place of a content has no more room, which callers could not know.
-        prove!(self.content.len() <= CONTENT_LIMIT);
-        answer
+        self.open();
+        self.keep_all(&piece[1..count + 1]);
+        self.take_kept(piece, count + 1)
+    }
+
+    // Takes a frame that opens with the first octet, or what there is of it up to the first octet that brings an event. Its
+    // content stays where it stands if it is whole and has no escapes.
+    #[inline(always)]
+    fn take_frame(&mut self, piece: &[u8]) -> (usize, Split)
+        requires place { self.old.place + length piece.now < 2 ^ 63 }
+        requires mode { (self.old.mode ≡ Outside) ⊎ (self.old.mode ≡ Straying) }
+        requires some { 0 < length piece.now }
+        requires flag { slice_index piece.now 0 ≡ 0x7E }
+        ensures within { (0 < result.0) × (result.0 ≤ length piece.now) }
+        ensures place { self.new.place ≡ self.old.place + result.0 }
+        ensures runs { RunsInPlace self.old self.new (take result.0 piece.now)
+            (told_in_place result.1 self.new (take result.0 piece.now)) }
+        ensures more { result.1 ≡ Split.More → result.0 ≡ length piece.now }
+        ensures content { result.1 ≡ Split.Content → IsContent (lent self.new (take result.0 piece.now)) }
+    {
+        let count = plain_front(piece);
+        if !is_closed(piece, count) {
+            return self.take_begun(piece, count);
+        }
+        self.lend(count);
+        (count + 2, Split::Content)
     }
 
     /// Takes the stream's next octets as `take` does, and `content_in` then gives the content. Where the piece begins, outside
@@ -613,10 +708,10 @@ impl Splitter {
         ensures first { (count : ℕ) → count < result.0 → IsSilentInPlace self.old (take count piece.now) }
         ensures content { result.1 ≡ Split.Content → IsContent (lent self.new (take result.0 piece.now)) }
     {
-        match self.take_plain(piece) {
-            Some(taken) => (taken, Split::Content),
-            None => self.take_kept(piece),
+        if self.opens(piece) {
+            return self.take_frame(piece);
         }
+        self.take_kept(piece, 0)
     }
 
     /// The content that the last `take_in_place` completed, `taken` being the octets that it took. It stands in the piece or

@@ -1,11 +1,14 @@
-use Rattle.std.proofs.Common.{sym, ◌∙◌, get_or, inl}
-use Rattle.jt_escape.proofs.Runs.{Runs-none, Runs-first, opens_frame}
+use Rattle.std.proofs.Common.{◌+◌, take}
+use Rattle.jt_escape.proofs.Lending.{InPlace, in_place}
 use Rattle.jt_escape.proofs.splitter.Splitter.take_frame.Goals as goal
 
-pub returns-then-octets-eq1-clause-runs : goal.returns-then-octets-eq1-clause-runs
-returns-then-octets-eq1-clause-runs c = c.take_behind.ensures.runs _ (Runs-none _)
+lent_so : (c : goal.After-lend) → InPlace c.args.self.now c.lend.new.self (take (c.plain_front-count.result + 2) c.args.piece.now)
+lent_so c =
+    let closed = c.is_closed.ensures c.if-not-is_closed.false in
+    in_place c.args.self.now c.lend.new.self c.args.piece.now c.plain_front-count.result c.requires.mode c.lend.ensures closed.0 c.plain_front-count.ensures.short closed.1 c.requires.flag closed.2 c.plain_front-count.ensures.plain
 
 pub returns-clause-runs : goal.returns-clause-runs
-returns-clause-runs c =
-    let opened = opens_frame c.args.self.now (get_or c.args.octets.now 0 0) (inl c.requires.mode) c.if-octets-ne-FLAG.false in
-    Runs-first _ c.open.new.self _ c.args.octets.now c.take_content-count.result.0 _ c.requires.some (c.open.ensures ∙ sym opened.0) opened.1 c.take_content-count.ensures.runs
+returns-clause-runs c = (lent_so c).runs
+
+pub returns-clause-content : goal.returns-clause-content
+returns-clause-content c = λ _. (lent_so c).content
