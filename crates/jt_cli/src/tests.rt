@@ -346,6 +346,21 @@ fn hexadecimal_inputs_and_checks(rt: HostRuntime) -> Result<(), Fail> {
     Ok(())
 }
 
+// An authentication, and a reply to a registration with an octet too many.
+#[test]
+fn checks_of_other_bodies(rt: HostRuntime) -> Result<(), Fail> {
+    let alloc = rt.alloc();
+    let authentication = b"\x7e\x01\x02\0\x02\x01\x39\x12\x34\x56\x78\0\0\x41\x42\x32\x7e";
+    let reply = b"\x7e\x81\0\0\x04\x01\x39\x12\x34\x56\x78\0\0\0\x05\x03\x41\xf2\x7e";
+    for (octets, status, written) in [
+        (authentication.as_slice(), Status::Done, "ok frames=1\n"),
+        (reply.as_slice(), Status::Refused, "0+15 refused Trailing\n"),
+    ] {
+        expect(&rt, alloc, &["check"], octets, (0, 0), status, written)?;
+    }
+    Ok(())
+}
+
 // Nothing is read: the first read would fail.
 fn expect_usage(rt: &impl Abort, alloc: Global, words: &[&str]) -> Result<(), Fail> {
     expect(rt, alloc, words, HEARTBEAT, (1, 0), Status::Usage, USAGE)
