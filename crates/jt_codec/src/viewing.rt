@@ -1,7 +1,6 @@
 //! Messages that are read in place.
 
-ghost use Rattle.std.specs.Prelude.{◌≡◌, ◌≤◌, ◌<◌, ◌+◌, ◌^◌, ◌↔◌, false, Ok, Err, length, IsNone, IsSome, IsTrue, IfSome, MatchResult};
-ghost use Rattle.jt_header.specs.Content.{header_len};
+ghost use Rattle.std.specs.Prelude.{◌≡◌, ◌<◌, ◌^◌, ◌↔◌, Ok, Err, length, IsSome, IfSome, MatchResult};
 ghost use Rattle.jt_layout.specs.Layout.{Fills};
 ghost use Rattle.jt_codec.specs.Bodies.{body};
 ghost use Rattle.jt_codec.specs.Parsing.{message_read};
