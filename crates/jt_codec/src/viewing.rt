@@ -14,8 +14,7 @@ use jt_header::Header;
 use jt_position::{BatchView, PositionView, view_batch, view_position};
 use jt_value::{Edition, Refusal};
 
-/// A message that is read in place: a heartbeat, a general response, a position or a batch; or octets that are
-/// kept unread.
+/// A message that is read in place: a heartbeat, a general response, a position or a batch; or octets that are kept unread.
 #[derive(Drop)]
 pub enum MessageView<'a> {
     /// A heartbeat, which has no fields.
@@ -34,7 +33,8 @@ pub enum MessageView<'a> {
     Part(&'a [u8]),
 }
 
-// The view of a body that is no packet's, by the row of its id, or the row's reason against it.
+// The view of a body that is no packet's, by the row of its id, or the row's reason against it. `Result::map` in place of a
+// `match` copies the view of a position.
 #[inline(always)]
 #[tactic(auto, unfolding(crate::specs::Bodies::body, jt_layout::specs::Layout::rest), using(jt_layout::proofs::Answering::answers_case))]
 fn view_row<'a>(
@@ -48,19 +48,26 @@ fn view_row<'a>(
         (λ refusal. (body edition id).Refuses octets.now 0 refusal)) }
 {
     match id {
-        HEARTBEAT => Some(view_empty(octets).map(|_| MessageView::Heartbeat)),
-        POSITION => Some(view_position(octets).map(MessageView::Position)),
-        TERMINAL_ACK => Some(view_ack(octets).map(|(reply, id, answer)| MessageView::TerminalAck {
-            reply,
-            id,
-            result: answer,
-        })),
-        PLATFORM_ACK => Some(view_ack(octets).map(|(reply, id, answer)| MessageView::PlatformAck {
-            reply,
-            id,
-            result: answer,
-        })),
-        BATCH => Some(view_batch(octets).map(MessageView::Batch)),
+        HEARTBEAT => match view_empty(octets) {
+            Ok(()) => Some(Ok(MessageView::Heartbeat)),
+            Err(refusal) => Some(Err(refusal)),
+        },
+        POSITION => match view_position(octets) {
+            Ok(view) => Some(Ok(MessageView::Position(view))),
+            Err(refusal) => Some(Err(refusal)),
+        },
+        TERMINAL_ACK => match view_ack(octets) {
+            Ok((reply, id, result)) => Some(Ok(MessageView::TerminalAck { reply, id, result })),
+            Err(refusal) => Some(Err(refusal)),
+        },
+        PLATFORM_ACK => match view_ack(octets) {
+            Ok((reply, id, result)) => Some(Ok(MessageView::PlatformAck { reply, id, result })),
+            Err(refusal) => Some(Err(refusal)),
+        },
+        BATCH => match view_batch(octets) {
+            Ok(view) => Some(Ok(MessageView::Batch(view))),
+            Err(refusal) => Some(Err(refusal)),
+        },
         _ if is_opaque(edition, id, octets) => Some(Ok(MessageView::Opaque { id, body: octets })),
         _ => None,
     }
