@@ -1,4 +1,3 @@
 pub mod AckLaws
 pub mod BodyLaws
 pub mod FrameLaws
-pub mod ViewingLaws

@@ -2,21 +2,22 @@
 use Rattle.std.specs.Prelude.{ℕ, Bool, ◌==◌, ◌||◌, ◌⊎◌, List, Option, Some, None, IsTrue}
 use Rattle.jt_value.specs.declared.phone.Edition.{Edition}
 use Rattle.jt_header.specs.declared.header.Packet.{Packet}
+use Rattle.jt_position.specs.BatchViews.{viewed_position}
 use Rattle.jt_codec.specs.Bodies.{body}
 use Rattle.jt_codec.specs.declared.message.Message.{Message}
 use Rattle.jt_codec.specs.declared.message.Message.TheVariants as message
 use Rattle.jt_codec.specs.declared.viewing.MessageView.{MessageView}
 use Rattle.jt_codec.specs.declared.viewing.MessageView.TheVariants as view
 
--- the ids of heartbeats, general responses, positions and batches
-abbrev pub is_sent_most : ℕ → Bool
-is_sent_most id = (id == 0x0002) || (id == 0x0001) || (id == 0x8001) || (id == 0x0200) || (id == 0x0704)
+-- the ids of heartbeats, general responses, positions and batches, whose messages have a view each
+abbrev pub has_view : ℕ → Bool
+has_view id = (id == 0x0002) || (id == 0x0001) || (id == 0x8001) || (id == 0x0200) || (id == 0x0704)
 
--- one of these, or octets under an id without a row of the edition
+-- one of these messages, or octets under an id without a row of the edition, which are kept unread
 abbrev pub IsReadInPlace : Edition → ℕ → List ℕ → Type 0
-IsReadInPlace edition id octets = IsTrue (is_sent_most id) ⊎ (body edition id).Fits (message.Opaque id octets)
+IsReadInPlace edition id octets = IsTrue (has_view id) ⊎ (body edition id).Fits (message.Opaque id octets)
 
--- the same behind a header; the body of a packet is not read at all
+-- what `view_message` has a view of: the messages of `IsReadInPlace`, and every packet, whose body is kept unread
 abbrev pub IsViewed : Option Packet → Edition → ℕ → List ℕ → Type 0
 IsViewed None edition id octets = IsReadInPlace edition id octets
 IsViewed (Some packet) edition id octets = Unit {0}
@@ -26,7 +27,7 @@ abbrev pub viewed : MessageView → Message
 viewed view.Heartbeat = message.Heartbeat
 viewed (view.TerminalAck reply id result) = message.TerminalAck reply id result
 viewed (view.PlatformAck reply id result) = message.PlatformAck reply id result
-viewed (view.Position position) = message.Position (record { fixed = position.fixed; items = position.items })
+viewed (view.Position position) = message.Position (viewed_position position)
 viewed (view.Batch batch) = message.Batch (record { kind = batch.kind; fixes = batch.fixes })
 viewed (view.Opaque id body) = message.Opaque id body.now
 viewed (view.Part octets) = message.Part octets.now

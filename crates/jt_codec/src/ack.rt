@@ -3,7 +3,7 @@
 ghost use Rattle.std.specs.Prelude.{◌≡◌, ◌++◌, IfOk, MatchResult};
 ghost use Rattle.jt_layout.specs.Answer.{Answers};
 ghost use Rattle.jt_layout.specs.Layout.{Fills};
-ghost use Rattle.jt_layout.specs.Reading.{Finds, Gives};
+ghost use Rattle.jt_layout.specs.Reading.{Finds};
 ghost use Rattle.jt_codec.specs.Layouts.{ack};
 
 use jt_layout::{Reader, Writer};
@@ -23,13 +23,7 @@ fn fields_in(octets: &[u8]) -> Result<(u16, u16, u8), Refusal>
     Ok((reply, id, answer))
 }
 
-fn ack_in(octets: &[u8]) -> Result<(u16, u16, u8), CodecError>
-    ensures { Gives (λ fields. fields) result (ack.read octets.now 0) }
-{
-    Ok(fields_in(octets)?)
-}
-
-// The same as `read_ack`, which never wants memory.
+// The serial and the id that are answered, and the result.
 #[inline(always)]
 pub(crate) fn view_ack(octets: &[u8]) -> Result<(u16, u16, u8), Refusal>
     ensures { MatchResult result (Fills ack octets.now 0) (λ refusal. ack.Refuses octets.now 0 refusal) }
@@ -37,11 +31,11 @@ pub(crate) fn view_ack(octets: &[u8]) -> Result<(u16, u16, u8), Refusal>
     fields_in(octets)
 }
 
-// The serial and the id that are answered, and the result.
+// The same beside readers that may want memory.
 pub(crate) fn read_ack(octets: &[u8]) -> Result<(u16, u16, u8), CodecError>
     ensures { Answers ack octets.now result }
 {
-    ack_in(octets)
+    Ok(view_ack(octets)?)
 }
 
 #[tactic(auto, using(std::proofs::Common::append_assoc), unfolding(crate::specs::Layouts::ack))]

@@ -3,14 +3,13 @@
 ghost use Rattle.std.specs.Prelude.{◌≡◌, Some, None, Ok, Err, IfOk, IfErr, IsSomeAnd};
 ghost use Rattle.jt_value.specs.declared.refusal.Refusal.{Refusal};
 ghost use Rattle.jt_layout.specs.Answer.{Answers};
-ghost use Rattle.jt_layout.specs.Layout.{empty};
-ghost use Rattle.jt_layout.specs.Reading.{Gives};
 ghost use Rattle.jt_codec.specs.Answer.{IsUnlessMemory};
 ghost use Rattle.jt_codec.specs.Bodies.{Fits, HasBody, IsInside, body, body_octets, id_of};
 ghost use Rattle.jt_codec.specs.declared.message.Message.{Message};
 ghost use Rattle.jt_codec.specs.declared.message.Message.TheVariants as message;
 
 use crate::ack::{read_ack, write_ack};
+use crate::empty::read_empty;
 use crate::message::{
     AUTH, BATCH, CIRCLES, CONTROL, DELETE_CIRCLES, DELETE_POLYGONS, DELETE_RECTANGLES,
     DELETE_ROUTES, DEREGISTER, HEARTBEAT, Message, PARAMS, PLATFORM_ACK, POLYGON, POSITION,
@@ -21,7 +20,6 @@ use crate::position_reply::{read_position_reply, write_position_reply};
 use crate::regions::write_region_ids;
 use crate::text::{read_octet_and_text, write_octet_and_text};
 use crate::track::{read_track, write_track};
-use jt_layout::Reader;
 use jt_params::{
     Param, read_params, read_params_reply, read_query_some, write_params, write_params_reply,
     write_query_some,
@@ -36,20 +34,6 @@ use jt_register::{
 };
 use jt_value::{CodecError, Edition, Memory, Octets, Seq};
 use std::alloc::Global;
-
-fn empty_in(octets: &[u8]) -> Result<(), CodecError>
-    ensures { Gives (λ end. end) result (empty.read octets.now 0) }
-{
-    Reader::new(octets).end()?;
-    Ok(())
-}
-
-// A body without fields.
-pub(crate) fn read_empty(octets: &[u8]) -> Result<(), CodecError>
-    ensures { Answers empty octets.now result }
-{
-    empty_in(octets)
-}
 
 fn params_message(fields: (u16, Seq<Param>)) -> Message
     ensures { result ≡ message.Params fields.0 fields.1 }

@@ -3,6 +3,7 @@
 
 mod ack;
 mod body;
+mod empty;
 mod frame;
 mod judging;
 mod laws;

@@ -332,28 +332,43 @@ fn views_of_responses_and_octets(rt: HostRuntime) {
     }
 }
 
+// Of a registration's reply a message is made; all others are judged in place.
 #[test]
 fn judgements(rt: HostRuntime) -> Result<(), Fail> {
-    let response = header(0x8001, 0, None);
-    let truncated = |inside| Refusal {
-        at: 0,
-        inside,
-        why: Why::Truncated,
+    let good: [(u16, &[u8]); 5] = [
+        (0x0002, b""),
+        (0x0200, &POSITION),
+        (0x8001, b"\0\x07\0\x02\0"),
+        (0x0900, b"A\x01"),
+        (0x8100, b"\0\x05\x04"),
+    ];
+    for (id, body) in good {
+        assert!(rt; body.len() < 1024);
+        assert_eq!(rt;
+            judge_message(rt.alloc(), &header(id, 0, None), body)?,
+            None
+        );
+    }
+    let refused: [(u16, &[u8], u64, Why); 4] = [
+        (0x0002, b"\x07", 12, Why::Trailing),
+        (0x0200, &POSITION[..27], 34, Why::Truncated),
+        (0x8001, b"\0\x07\0\x02", 16, Why::Truncated),
+        (0x8100, b"\0\x05\x03A", 15, Why::Trailing),
+    ];
+    for (id, body, inside, why) in refused {
+        assert!(rt; body.len() < 1024);
+        let refusal = Refusal { at: 0, inside, why };
+        assert_eq!(rt;
+            judge_message(rt.alloc(), &header(id, 0, None), body)?,
+            Some(refusal)
+        );
+    }
+    let packet = Packet {
+        total: 3,
+        number: 2,
     };
-    let position = header(0x0200, 0, None);
-    assert_eq!(rt; judge_message(rt.alloc(), &position, &POSITION)?, None);
-    assert_eq!(rt;
-        judge_message(rt.alloc(), &position, &POSITION[..27])?,
-        Some(truncated(34))
-    );
-    assert_eq!(rt;
-        judge_message(rt.alloc(), &response, &[0, 7, 0, 2, 0])?,
-        None
-    );
-    assert_eq!(rt;
-        judge_message(rt.alloc(), &response, &[0, 7, 0, 2])?,
-        Some(truncated(16))
-    );
+    let part = header(0x0002, 0, Some(packet));
+    assert_eq!(rt; judge_message(rt.alloc(), &part, &[7])?, None);
     Ok(())
 }
 

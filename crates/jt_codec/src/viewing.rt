@@ -1,21 +1,20 @@
 //! Messages that are read in place.
 
-ghost use Rattle.std.specs.Prelude.{◌≡◌, ◌≤◌, ◌<◌, ◌+◌, ◌^◌, ◌↔◌, false, Ok, Err, length, IsNone, IsSome, IsTrue, IfSome, MatchResult};
-ghost use Rattle.jt_header.specs.Content.{header_len};
-ghost use Rattle.jt_layout.specs.Layout.{Fills, empty};
-ghost use Rattle.jt_layout.specs.Reading.{Finds};
+ghost use Rattle.std.specs.Prelude.{◌≡◌, ◌<◌, ◌^◌, ◌↔◌, Ok, Err, length, IsSome, IfSome, MatchResult};
+ghost use Rattle.jt_layout.specs.Layout.{Fills};
+ghost use Rattle.jt_codec.specs.Bodies.{body};
 ghost use Rattle.jt_codec.specs.Parsing.{message_read};
 ghost use Rattle.jt_codec.specs.Viewing.{IsReadInPlace, IsViewed, viewed};
 
 use crate::ack::view_ack;
+use crate::empty::view_empty;
 use crate::frame::{in_content, start_of_body};
 use crate::message::{BATCH, HEARTBEAT, PLATFORM_ACK, POSITION, TERMINAL_ACK, is_opaque};
 use jt_header::Header;
-use jt_layout::Reader;
 use jt_position::{BatchView, PositionView, view_batch, view_position};
-use jt_value::Refusal;
+use jt_value::{Edition, Refusal};
 
-/// A message that is read in place: one of those that are sent most, or octets that are not read further.
+/// A message that is read in place: a heartbeat, a general response, a position or a batch; or octets that are kept unread.
 #[derive(Drop)]
 pub enum MessageView<'a> {
     /// A heartbeat, which has no fields.
@@ -34,117 +33,42 @@ pub enum MessageView<'a> {
     Part(&'a [u8]),
 }
 
+// The view of a body that is no packet's, by the row of its id, or the row's reason against it. `Result::map` in place of a
+// `match` copies the view of a position.
 #[inline(always)]
-fn end_in(body: &[u8]) -> Result<(), Refusal>
-    ensures { Finds (λ end. end) result (empty.read body.now 0) }
-{
-    Reader::new(body).end()
-}
-
-// A body without fields.
-#[inline(always)]
-fn view_empty(body: &[u8]) -> Result<(), Refusal>
-    ensures { MatchResult result (Fills empty body.now 0) (λ refusal. empty.Refuses body.now 0 refusal) }
-{
-    end_in(body)
-}
-
-// The view of a heartbeat, or the reason against its body.
-#[inline(always)]
-fn view_of_heartbeat<'a>(header: &Header, body: &'a [u8]) -> Result<MessageView<'a>, Refusal>
-    requires whole { IsNone header.now.packet }
-    requires id { header.now.id ≡ 0x0002 }
-    requires short { length body.now < 2 ^ 10 }
-    ensures { MatchResult result
-        (λ view. message_read header.now.packet header.now.edition header.now.id body.now ≡ Ok (viewed view))
-        (λ refusal. message_read header.now.packet header.now.edition header.now.id body.now ≡ Err refusal) }
-{
-    match view_empty(body) {
-        Ok(()) => Ok(MessageView::Heartbeat),
-        Err(refusal) => Err(in_content(start_of_body(header.edition), refusal)),
-    }
-}
-
-// The view of a terminal's response, or the reason against its body.
-#[inline(always)]
-fn view_of_terminal_ack<'a>(header: &Header, body: &'a [u8]) -> Result<MessageView<'a>, Refusal>
-    requires whole { IsNone header.now.packet }
-    requires id { header.now.id ≡ 0x0001 }
-    requires short { length body.now < 2 ^ 10 }
-    ensures { MatchResult result
-        (λ view. message_read header.now.packet header.now.edition header.now.id body.now ≡ Ok (viewed view))
-        (λ refusal. message_read header.now.packet header.now.edition header.now.id body.now ≡ Err refusal) }
-{
-    match view_ack(body) {
-        Ok((reply, id, result)) => Ok(MessageView::TerminalAck { reply, id, result }),
-        Err(refusal) => Err(in_content(start_of_body(header.edition), refusal)),
-    }
-}
-
-// The view of a platform's response, or the reason against its body.
-#[inline(always)]
-fn view_of_platform_ack<'a>(header: &Header, body: &'a [u8]) -> Result<MessageView<'a>, Refusal>
-    requires whole { IsNone header.now.packet }
-    requires id { header.now.id ≡ 0x8001 }
-    requires short { length body.now < 2 ^ 10 }
-    ensures { MatchResult result
-        (λ view. message_read header.now.packet header.now.edition header.now.id body.now ≡ Ok (viewed view))
-        (λ refusal. message_read header.now.packet header.now.edition header.now.id body.now ≡ Err refusal) }
-{
-    match view_ack(body) {
-        Ok((reply, id, result)) => Ok(MessageView::PlatformAck { reply, id, result }),
-        Err(refusal) => Err(in_content(start_of_body(header.edition), refusal)),
-    }
-}
-
-// The view of a position, or the reason against its body.
-#[inline(always)]
-fn view_of_position<'a>(header: &Header, body: &'a [u8]) -> Result<MessageView<'a>, Refusal>
-    requires whole { IsNone header.now.packet }
-    requires id { header.now.id ≡ 0x0200 }
-    requires short { length body.now < 2 ^ 10 }
-    ensures { MatchResult result
-        (λ view. message_read header.now.packet header.now.edition header.now.id body.now ≡ Ok (viewed view))
-        (λ refusal. message_read header.now.packet header.now.edition header.now.id body.now ≡ Err refusal) }
-{
-    match view_position(body) {
-        Ok(view) => Ok(MessageView::Position(view)),
-        Err(refusal) => Err(in_content(start_of_body(header.edition), refusal)),
-    }
-}
-
-// The view of a batch, or the reason against its body.
-fn view_of_batch<'a>(header: &Header, body: &'a [u8]) -> Result<MessageView<'a>, Refusal>
-    requires whole { IsNone header.now.packet }
-    requires id { header.now.id ≡ 0x0704 }
-    requires short { length body.now < 2 ^ 10 }
-    ensures { MatchResult result
-        (λ view. message_read header.now.packet header.now.edition header.now.id body.now ≡ Ok (viewed view))
-        (λ refusal. message_read header.now.packet header.now.edition header.now.id body.now ≡ Err refusal) }
-{
-    match view_batch(body) {
-        Ok(view) => Ok(MessageView::Batch(view)),
-        Err(refusal) => Err(in_content(start_of_body(header.edition), refusal)),
-    }
-}
-
-// The view of a body that is no packet, by its id.
-#[inline(always)]
-fn view_of_body<'a>(header: &Header, body: &'a [u8]) -> Option<Result<MessageView<'a>, Refusal>>
-    requires whole { IsNone header.now.packet }
-    requires short { length body.now < 2 ^ 10 }
-    ensures some { IsSome result ↔ IsReadInPlace header.now.edition header.now.id body.now }
+#[tactic(auto, unfolding(crate::specs::Bodies::body, jt_layout::specs::Layout::rest), using(jt_layout::proofs::Answering::answers_case))]
+fn view_row<'a>(
+    edition: Edition,
+    id: u16,
+    octets: &'a [u8],
+) -> Option<Result<MessageView<'a>, Refusal>>
+    ensures some { IsSome result ↔ IsReadInPlace edition id octets.now }
     ensures answer { IfSome result (λ answer. MatchResult answer
-        (λ view. message_read header.now.packet header.now.edition header.now.id body.now ≡ Ok (viewed view))
-        (λ refusal. message_read header.now.packet header.now.edition header.now.id body.now ≡ Err refusal)) }
+        (λ view. Fills (body edition id) octets.now 0 (viewed view))
+        (λ refusal. (body edition id).Refuses octets.now 0 refusal)) }
 {
-    match header.id {
-        HEARTBEAT => Some(view_of_heartbeat(header, body)),
-        TERMINAL_ACK => Some(view_of_terminal_ack(header, body)),
-        PLATFORM_ACK => Some(view_of_platform_ack(header, body)),
-        POSITION => Some(view_of_position(header, body)),
-        BATCH => Some(view_of_batch(header, body)),
-        id if is_opaque(header.edition, id, body) => Some(Ok(MessageView::Opaque { id, body })),
+    match id {
+        HEARTBEAT => match view_empty(octets) {
+            Ok(()) => Some(Ok(MessageView::Heartbeat)),
+            Err(refusal) => Some(Err(refusal)),
+        },
+        POSITION => match view_position(octets) {
+            Ok(view) => Some(Ok(MessageView::Position(view))),
+            Err(refusal) => Some(Err(refusal)),
+        },
+        TERMINAL_ACK => match view_ack(octets) {
+            Ok((reply, id, result)) => Some(Ok(MessageView::TerminalAck { reply, id, result })),
+            Err(refusal) => Some(Err(refusal)),
+        },
+        PLATFORM_ACK => match view_ack(octets) {
+            Ok((reply, id, result)) => Some(Ok(MessageView::PlatformAck { reply, id, result })),
+            Err(refusal) => Some(Err(refusal)),
+        },
+        BATCH => match view_batch(octets) {
+            Ok(view) => Some(Ok(MessageView::Batch(view))),
+            Err(refusal) => Some(Err(refusal)),
+        },
+        _ if is_opaque(edition, id, octets) => Some(Ok(MessageView::Opaque { id, body: octets })),
         _ => None,
     }
 }
@@ -164,5 +88,8 @@ pub fn view_message<'a>(header: &Header, body: &'a [u8]) -> Option<Result<Messag
     if header.packet.is_some() {
         return Some(Ok(MessageView::Part(body)));
     }
-    view_of_body(header, body)
+    match view_row(header.edition, header.id, body)? {
+        Ok(view) => Some(Ok(view)),
+        Err(refusal) => Some(Err(in_content(start_of_body(header.edition), refusal))),
+    }
 }
