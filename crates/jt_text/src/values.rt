@@ -16,7 +16,7 @@ const NAME: usize = 16;
 // Octets of such a name and the longest number.
 const ROOM: usize = NAME + 20;
 
-// Octets whose digits go into the room of a line with such a name in front.
+// Octets whose digits fill the room of a line behind such a name.
 const BEHIND_NAME: usize = HALF_ROOM - NAME / 2;
 
 // Octets that are a text, which is proved and not tested at run time.
@@ -29,8 +29,8 @@ pub(crate) fn push_text(text: &mut String, octets: &[u8]) -> Result<(), AllocErr
     text.push_str(unsafe { str::from_utf8_unchecked(octets) })
 }
 
-/// Lower-case hexadecimal digits, two an octet. `line` is room that is used again.
-pub(crate) fn push_hex(text: &mut String, line: &mut Line, octets: &[u8]) -> Result<(), AllocError>
+// Lower-case hexadecimal digits, two an octet, a room full of them at a time.
+fn push_hex(text: &mut String, line: &mut Line, octets: &[u8]) -> Result<(), AllocError>
     ensures { OnOk result (string_bytes text.new ≡ string_bytes text.old ++ encode_lower octets.now) }
 {
     let mut left = octets;

@@ -51,7 +51,7 @@ fn push_heartbeat_line(
     push_behind_front(text, line, place, header, "heartbeat", body_len)
 }
 
-// Has the line hold what stands behind the front of a general response's.
+// Makes the line hold what a general response's has behind its front: the fields and the line's end.
 #[tactic(auto, using(std::proofs::Common::append_assoc))]
 #[inline(always)]
 fn hold_response(line: &mut Line, reply: u16, id: u16, answer: u8)
