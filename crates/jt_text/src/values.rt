@@ -70,7 +70,6 @@ pub(crate) fn push_number(text: &mut String, name: &str, number: u64) -> Result<
 }
 
 /// The digits of octets behind a name. `line` is room that is used again.
-#[tactic(auto, using(std::proofs::Common::append_assoc))]
 #[inline(always)]
 pub(crate) fn push_digits(
     text: &mut String,

@@ -52,7 +52,6 @@ fn push_heartbeat_line(
 }
 
 // Makes the line hold what a general response's has behind its front: the fields and the line's end.
-#[tactic(auto, using(std::proofs::Common::append_assoc))]
 #[inline(always)]
 fn hold_response(line: &mut Line, reply: u16, id: u16, answer: u8)
     ensures text { line.new ≡ ack_fields reply id answer ++ codes "\n" }
@@ -145,7 +144,6 @@ fn push_part_line(
 
 /// Puts the line of a frame whose message is read in place at the end of a text, `place` being that of its opening flag and
 /// `body_len` the octets of its body. `line` is room that is used again.
-#[tactic(auto, using(std::proofs::Common::append_assoc), unfolding(crate::specs::Frames::view_line, crate::specs::Names::id_name))]
 #[inline(always)]
 pub fn push_message_view_line(
     text: &mut String,
