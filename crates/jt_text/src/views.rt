@@ -165,13 +165,13 @@ pub fn push_message_view_line(
             hold_response(line, reply, id, result);
             push_behind_front(text, line, place, header, "platform-ack", body_len)
         }
-        MessageView::Position(view) => push_position_line(
-            text, line, place, header, view, body_len,
-        ),
+        MessageView::Position(view) => {
+            push_position_line(text, line, place, header, view, body_len)
+        }
         MessageView::Batch(view) => push_batch_line(text, line, place, header, view, body_len),
-        MessageView::Opaque { body, .. } => push_opaque_line(
-            text, line, place, header, body, body_len,
-        ),
+        MessageView::Opaque { body, .. } => {
+            push_opaque_line(text, line, place, header, body, body_len)
+        }
         MessageView::Part(part) => push_part_line(text, line, place, header, part, body_len),
     }
 }

@@ -96,12 +96,9 @@ pub(crate) fn push_fields(
         Message::Auth(auth) => push_auth(text, line, auth),
         Message::SetParams(params) => push_params(text, line, params.as_slice()),
         Message::QuerySome(ids) => push_query_some(text, line, ids.as_slice()),
-        Message::Params { reply, params } => push_params_reply(
-            text,
-            line,
-            *reply,
-            params.as_slice(),
-        ),
+        Message::Params { reply, params } => {
+            push_params_reply(text, line, *reply, params.as_slice())
+        }
         Message::Position(position) => push_position(text, line, position),
         Message::PositionReply { reply, position } => push_position_reply(
             text, line, *reply, position,
@@ -118,12 +115,9 @@ pub(crate) fn push_fields(
             text: octets,
         } => push_control(text, line, *command, octets.as_slice()),
         Message::Circles { setting, list } => push_circles(text, line, *setting, list.as_slice()),
-        Message::Rectangles { setting, list } => push_rectangles(
-            text,
-            line,
-            *setting,
-            list.as_slice(),
-        ),
+        Message::Rectangles { setting, list } => {
+            push_rectangles(text, line, *setting, list.as_slice())
+        }
         Message::Polygon(polygon) => push_polygon(text, line, polygon),
         Message::Route(route) => push_route(text, line, route),
         Message::Delete { ids, .. } => push_deletion(text, line, ids.as_slice()),
