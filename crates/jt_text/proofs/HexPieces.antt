@@ -1,6 +1,6 @@
 -- Digits of octets that are printed piece by piece.
 use Rattle.std.proofs.Common.{◌≡◌, ℕ, suc, lit<, true, length, List, [], ◌∷◌, ◌++◌, refl, sym, ap, ◌∙◌, append_assoc}
-use Rattle.std.specs.Prelude.{◌==◌, codes, Result, Ok, Err, MatchResult, IsOk}
+use Rattle.std.specs.Prelude.{◌==◌, codes}
 use Rattle.std.proofs.lemmas.Bool.{eqb-true}
 use Rattle.std.proofs.lemmas.List.{append-nil}
 use Rattle.std.specs.Str.{IsAscii, IsUtf8}
@@ -28,11 +28,6 @@ printed old text after piece others whole left so_far split put =
 pub all_printed : (old text whole left : List ℕ) → text ++ encode_lower left ≡ old ++ encode_lower whole → left ≡ [] → text ≡ old ++ encode_lower whole
 unfolding encode_with
 all_printed old text whole left so_far none = sym (append-nil text) ∙ rw none at so_far
-
--- octets that are a text are taken as one
-pub is_text : {A E : Type 0} (r : Result A E) (P : A → Type 0) (Q : E → Type 0) (octets : List ℕ) → MatchResult r P (λ e. (IsUtf8 octets → ⊥) × Q e) → IsUtf8 octets → IsOk r
-is_text (Ok a) P Q octets h is = refl
-is_text (Err e) P Q octets h is = absurd (h.0 is)
 
 pub is_nil : (xs : List ℕ) → (length xs == 0) ≡ true → xs ≡ []
 is_nil [] e = refl

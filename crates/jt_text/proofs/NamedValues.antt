@@ -1,28 +1,12 @@
--- A value that is put behind its name in one room.
-use Rattle.std.proofs.Common.{◌≡◌, ℕ, ◌+◌, ◌-◌, ◌*◌, ◌^◌, ◌<◌, ◌≤◌, length, take, drop, List, [], ◌++◌, refl, sym, ap, ◌∙◌, arith, length-append, length-take-le, length-drop, take_all, drop-drop}
+-- A number that is put behind its name in one room.
+use Rattle.std.proofs.Common.{◌≡◌, ℕ, ◌+◌, ◌-◌, ◌^◌, ◌<◌, ◌≤◌, length, take, drop, List, [], ◌++◌, refl, sym, ap, ◌∙◌, arith, length-append, length-take-le, length-drop, take_all, drop-drop}
 use Rattle.std.specs.Str.{IsUtf8}
 use Rattle.std.specs.Fmt.{decimal}
-use Rattle.std.proofs.Math.Seq.{take-append_seam, drop-append_seam}
+use Rattle.std.proofs.Math.Seq.{drop-append_seam}
 use Rattle.std.proofs.lemmas.Fmt.{IsAscii-decimal, length-decimal-le}
 use Rattle.std.proofs.lemmas.List.{append-nil}
-use Rattle.std.proofs.lemmas.Slice.{take-put_mid}
 use Rattle.std.proofs.lemmas.Str.{IsUtf8-append, IsUtf8-from_ascii}
-use Rattle.hex.specs.Hex.{encode_lower}
-use Rattle.hex.proofs.HexLemmas.{length-encode_with}
-use Rattle.jt_text.proofs.HexPieces.{utf8_digits}
 use borrow.Rule.Slice.PartMut.{put_mid, post_of}
-
--- the digits of octets behind a name
-pub digits_behind : (name copied room out octets : List ℕ) → copied ≡ name → out ≡ encode_lower octets
-    → take (length name + 2 * length octets) (put_mid (length name) (length name + 2 * length octets - length name) (copied ++ room) out) ≡ name ++ encode_lower octets
-digits_behind name copied room out octets same written =
-    let two : length out ≡ 2 * length octets = ap length written ∙ length-encode_with _ octets in
-    take-put_mid (length name) (length name + 2 * length octets - length name) (copied ++ room) out (length name + 2 * length octets) (omega (arith, two)) (omega (arith, length-append copied room, ap length same))
-    ∙ ap (λ (front : List ℕ). front ++ out) (ap (λ (n : ℕ). take n (copied ++ room)) (sym (ap length same)) ∙ take-append_seam copied room)
-    ∙ rw (same, written) refl
-
-pub utf8_behind : (name octets : List ℕ) → IsUtf8 name → IsUtf8 (name ++ encode_lower octets)
-utf8_behind name octets text = IsUtf8-append name (encode_lower octets) text (utf8_digits octets)
 
 pub utf8_number : (name : List ℕ) (n : ℕ) → IsUtf8 name → n < 2 ^ 64 → IsUtf8 (name ++ decimal n)
 utf8_number name n text fits = IsUtf8-append name (decimal n) text (IsUtf8-from_ascii (decimal n) (IsAscii-decimal n fits))

@@ -4,7 +4,6 @@ ghost use Rattle.std.specs.Prelude.{◌≡◌, ◌+◌, ◌≤◌, ◌++◌, len
 ghost use Rattle.std.specs.Fmt.{decimal};
 ghost use Rattle.hex.specs.Hex.{encode_lower};
 ghost use Rattle.jt_value.specs.Phone.{field_of};
-ghost use Rattle.jt_codec.specs.declared.message.Message.TheVariants as message;
 ghost use Rattle.jt_text.specs.Frames.{bit15_text, frame_start, header_fields, packet_text, version_text, view_line, year};
 ghost use Rattle.jt_text.specs.Names.{id_name, name_of, naming_id};
 

@@ -10,8 +10,12 @@ use itoa::write_digits;
 use std::alloc::AllocError;
 use std::marker::Model;
 
-// Octets of the room. The front part of a line is shorter.
+// Octets of the room. The front of a frame's line, with the fields of a position or a response, is shorter, and so are an item
+// and a refusal's line. The digits of long octets fill it, a piece at a time.
 const ROOM: usize = 512;
+
+/// Octets whose digits fill the room.
+pub(crate) const HALF_ROOM: usize = ROOM / 2;
 
 // The digits of every octet, two for each.
 static PAIRS: [u8; 512] =
@@ -142,11 +146,7 @@ impl Line {
         ensures text { self.new ≡ byte_digits octet ++ self.old }
         ensures room { length self.new ≡ length self.old + 2 }
     {
-        let start = self.start - 2;
-        let (high, low) = digits(octet);
-        self.octets[start] = high;
-        self.octets[start + 1] = low;
-        self.start = start;
+        self.put_digits(&[octet]);
     }
 
     // The digits of octets in front.

@@ -241,7 +241,7 @@ fn an_authentication_with_a_tail(rt: HostRuntime) -> Result<(), Fail> {
     Ok(())
 }
 
-// A packet has the name of its id, and prints its octets. 17 octets are more than one piece.
+// A packet has the name of its id, and prints its octets. Digits of 257 octets do not fit into a line's room.
 #[test]
 fn parts_and_opaque_bodies(rt: HostRuntime) -> Result<(), Fail> {
     let alloc = rt.alloc();
@@ -249,11 +249,13 @@ fn parts_and_opaque_bodies(rt: HostRuntime) -> Result<(), Fail> {
         total: 3,
         number: 1,
     });
-    let part = Message::Part(Octets::from_vec(Vec::from_slice(alloc, &[0xAB; 17])?));
-    let line = view_line(alloc, 5, &header(0x8606, packet), &part, 17)?;
+    let octets =
+        b"AAAAAAAAAAAAAAAAAAAAAAAAAAAAAAAAAAAAAAAAAAAAAAAAAAAAAAAAAAAAAAAAAAAAAAAAAAAAAAAAAAAAAAAAAAAAAAAAAAAAAAAAAAAAAAAAAAAAAAAAAAAAAAAAAAAAAAAAAAAAAAAAAAAAAAAAAAAAAAAAAAAAAAAAAAAAAAAAAAAAAAAAAAAAAAAAAAAAAAAAAAAAAAAAAAAAAAAAAAAAAAAAAAAAAAAAAAAAAAAAAAAAAAAAAAAAAAAAB".as_slice();
+    let part = Message::Part(Octets::from_vec(Vec::from_slice(alloc, octets)?));
+    let line = view_line(alloc, 5, &header(0x8606, packet), &part, 257)?;
     assert_eq!(rt;
         line.as_slice(),
-        b"5 2013 0x8606 route phone=013912345678 serial=3 packet=1/3 body=17 part=ababababababababababababababababab\n".as_slice()
+        b"5 2013 0x8606 route phone=013912345678 serial=3 packet=1/3 body=257 part=4141414141414141414141414141414141414141414141414141414141414141414141414141414141414141414141414141414141414141414141414141414141414141414141414141414141414141414141414141414141414141414141414141414141414141414141414141414141414141414141414141414141414141414141414141414141414141414141414141414141414141414141414141414141414141414141414141414141414141414141414141414141414141414141414141414141414141414141414141414141414141414141414141414141414141414141414141414141414141414141414141414141414141414141414141414142\n".as_slice()
     );
     let opaque = Message::Opaque {
         id: 0x8003,
@@ -321,9 +323,8 @@ fn a_batch_in_place(rt: HostRuntime) -> Result<(), Fail> {
     Ok(())
 }
 
-// Responses, a body under an id without a row, and a packet.
 #[test]
-fn views_in_one_room(rt: HostRuntime) -> Result<(), Fail> {
+fn lines_of_responses_and_unread_octets(rt: HostRuntime) -> Result<(), Fail> {
     let mut line = Line::new();
     let mut text = String::new(rt.alloc());
     let response = MessageView::TerminalAck {
@@ -345,11 +346,11 @@ fn views_in_one_room(rt: HostRuntime) -> Result<(), Fail> {
         total: 3,
         number: 2,
     });
-    let part = MessageView::Part(&[]);
-    push_message_view_line(&mut text, &mut line, 73, &header(0x0104, packet), part, 0)?;
+    let part = MessageView::Part(b"\xc0\x0d\x7e");
+    push_message_view_line(&mut text, &mut line, 73, &header(0x0104, packet), part, 3)?;
     assert_eq!(rt;
         text.as_str(),
-        "0 2013 0x0001 terminal-ack phone=013912345678 serial=3 body=5 reply=65535 id=0x8103 result=3\n20 2013 0x8001 platform-ack phone=013912345678 serial=3 body=5 reply=9 id=0x0200 result=0\n40 2013 0x0900 opaque phone=013912345678 serial=3 body=18 body-octets=41007fff101112131415161718191a1b1c1d\n73 2013 0x0104 params phone=013912345678 serial=3 packet=2/3 body=0 part=-\n"
+        "0 2013 0x0001 terminal-ack phone=013912345678 serial=3 body=5 reply=65535 id=0x8103 result=3\n20 2013 0x8001 platform-ack phone=013912345678 serial=3 body=5 reply=9 id=0x0200 result=0\n40 2013 0x0900 opaque phone=013912345678 serial=3 body=18 body-octets=41007fff101112131415161718191a1b1c1d\n73 2013 0x0104 params phone=013912345678 serial=3 packet=2/3 body=3 part=c00d7e\n"
     );
     Ok(())
 }

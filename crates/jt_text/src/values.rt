@@ -6,21 +6,18 @@ ghost use Rattle.std.specs.Str.{IsUtf8};
 ghost use Rattle.hex.specs.Hex.{encode_lower};
 ghost use Rattle.jt_text.specs.Values.{octets_text};
 
-use crate::line::Line;
+use crate::line::{HALF_ROOM, Line};
 use itoa::write_digits;
 use std::alloc::AllocError;
-
-// A few octets, whose digits go into a small room.
-const PIECE: usize = 16;
-
-// Octets whose digits are put together at a time where there are more: half the room of a line.
-const LONG_PIECE: usize = 256;
 
 // Octets of a name that is put together with its value.
 const NAME: usize = 16;
 
-// Octets of such a name and the longest value.
-const ROOM: usize = NAME + 2 * PIECE;
+// Octets of such a name and the longest number.
+const ROOM: usize = NAME + 20;
+
+// Octets whose digits fill the room of a line behind such a name.
+const BEHIND_NAME: usize = HALF_ROOM - NAME / 2;
 
 // Octets that are a text, which is proved and not tested at run time.
 #[inline(always)]
@@ -32,27 +29,13 @@ pub(crate) fn push_text(text: &mut String, octets: &[u8]) -> Result<(), AllocErr
     text.push_str(unsafe { str::from_utf8_unchecked(octets) })
 }
 
-fn push_piece(text: &mut String, octets: &[u8]) -> Result<(), AllocError>
-    requires { length octets.now ≤ 16 }
+// Lower-case hexadecimal digits, two an octet, a room full of them at a time.
+fn push_hex(text: &mut String, line: &mut Line, octets: &[u8]) -> Result<(), AllocError>
     ensures { OnOk result (string_bytes text.new ≡ string_bytes text.old ++ encode_lower octets.now) }
 {
-    let mut room = [0; 2 * PIECE];
-    let digits = &mut room[..2 * octets.len()];
-    hex::encode_to_slice(octets, digits).unwrap();
-    push_text(text, digits)
-}
-
-/// Lower-case hexadecimal digits, two an octet.
-pub(crate) fn push_hex(text: &mut String, octets: &[u8]) -> Result<(), AllocError>
-    ensures { OnOk result (string_bytes text.new ≡ string_bytes text.old ++ encode_lower octets.now) }
-{
-    if octets.len() <= PIECE {
-        return push_piece(text, octets);
-    }
-    let mut line = Line::new();
     let mut left = octets;
     while !left.is_empty() {
-        let (piece, others) = left.split_at(left.len().min(LONG_PIECE));
+        let (piece, others) = left.split_at(left.len().min(HALF_ROOM));
         line.clear();
         line.put_digits(piece);
         line.push_to(text)?;
@@ -86,40 +69,38 @@ pub(crate) fn push_number(text: &mut String, name: &str, number: u64) -> Result<
     push_named_number(text, "", number)
 }
 
-// The digits of a few octets behind a short name, in one piece.
+/// The digits of octets behind a name. `line` is room that is used again.
 #[inline(always)]
-fn push_named_digits(text: &mut String, name: &str, octets: &[u8]) -> Result<(), AllocError>
-    requires name { length name.now ≤ 16 }
-    requires octets { length octets.now ≤ 16 }
+pub(crate) fn push_digits(
+    text: &mut String,
+    line: &mut Line,
+    name: &str,
+    octets: &[u8],
+) -> Result<(), AllocError>
     ensures { OnOk result (string_bytes text.new ≡ string_bytes text.old ++ (name.now ++ encode_lower octets.now)) }
 {
-    let mut room = [0; ROOM];
-    let start = name.len();
-    let end = start + 2 * octets.len();
-    room[..start].copy_from_slice(name.as_bytes());
-    hex::encode_to_slice(octets, &mut room[start..end]).unwrap();
-    push_text(text, &room[..end])
-}
-
-/// The digits of octets behind a name.
-#[inline(always)]
-pub(crate) fn push_digits(text: &mut String, name: &str, octets: &[u8]) -> Result<(), AllocError>
-    ensures { OnOk result (string_bytes text.new ≡ string_bytes text.old ++ (name.now ++ encode_lower octets.now)) }
-{
-    if name.len() <= NAME && octets.len() <= PIECE {
-        return push_named_digits(text, name, octets);
+    if name.len() <= NAME && octets.len() <= BEHIND_NAME {
+        line.clear();
+        line.put_digits(octets);
+        line.put_copy(name);
+        return line.push_to(text);
     }
     text.push_str(name)?;
-    push_hex(text, octets)
+    push_hex(text, line, octets)
 }
 
-/// A field of octets behind its name.
-pub(crate) fn push_octets(text: &mut String, name: &str, octets: &[u8]) -> Result<(), AllocError>
+/// A field of octets behind its name. `line` is room that is used again.
+pub(crate) fn push_octets(
+    text: &mut String,
+    line: &mut Line,
+    name: &str,
+    octets: &[u8],
+) -> Result<(), AllocError>
     ensures { OnOk result (string_bytes text.new ≡ string_bytes text.old ++ (name.now ++ octets_text octets.now)) }
 {
-    text.push_str(name)?;
     if octets.is_empty() {
+        text.push_str(name)?;
         return text.push_str("-");
     }
-    push_hex(text, octets)
+    push_digits(text, line, name, octets)
 }

@@ -1,10 +1,10 @@
 //! The lines of frames whose messages are read in place.
 
-ghost use Rattle.std.specs.Prelude.{◌≡◌, ◌≤◌, ◌++◌, length, string_bytes, codes, OnOk};
+ghost use Rattle.std.specs.Prelude.{◌≡◌, ℕ, ◌≤◌, ◌++◌, length, string_bytes, codes, OnOk};
 ghost use Rattle.jt_codec.specs.declared.message.Message.TheVariants as message;
 ghost use Rattle.jt_codec.specs.Viewing.{viewed};
+ghost use Rattle.jt_text.specs.Fields.{ack_fields};
 ghost use Rattle.jt_text.specs.Frames.{frame_start, header_fields, view_line};
-ghost use Rattle.jt_text.specs.Values.{octets_text};
 
 use crate::fields::{push_item_views, push_position_views, put_ack, put_fixed};
 use crate::frame::{id_name, put_front};
@@ -15,7 +15,7 @@ use jt_header::Header;
 use jt_position::{BatchView, PositionView};
 use std::alloc::AllocError;
 
-// What the line holds, behind what stands before the fields, with one push.
+// Pushes the front of a frame's line, and behind it what the line holds.
 #[tactic(auto, using(std::proofs::Common::append_assoc))]
 #[inline(always)]
 fn push_behind_front(
@@ -37,7 +37,7 @@ fn push_behind_front(
 
 #[tactic(auto, using(std::proofs::Common::append_assoc), unfolding(crate::specs::Frames::view_line, crate::specs::Names::id_name))]
 #[inline(always)]
-fn push_heartbeat(
+fn push_heartbeat_line(
     text: &mut String,
     line: &mut Line,
     place: u64,
@@ -51,9 +51,20 @@ fn push_heartbeat(
     push_behind_front(text, line, place, header, "heartbeat", body_len)
 }
 
+// Makes the line hold what a general response's has behind its front: the fields and the line's end.
+#[inline(always)]
+fn hold_response(line: &mut Line, reply: u16, id: u16, answer: u8)
+    ensures text { line.new ≡ ack_fields reply id answer ++ codes "\n" }
+    ensures room { length line.new ≤ 66 }
+{
+    line.clear();
+    line.put_str("\n");
+    put_ack(line, reply, id, answer);
+}
+
 #[tactic(auto, using(std::proofs::Common::append_assoc), unfolding(crate::specs::Frames::view_line, crate::specs::Names::id_name, crate::specs::PositionFields::position_fields))]
 #[inline(always)]
-fn push_position(
+fn push_position_line(
     text: &mut String,
     line: &mut Line,
     place: u64,
@@ -66,15 +77,14 @@ fn push_position(
 {
     line.clear();
     put_fixed(line, &view.fixed);
-    put_front(line, place, header, "position", body_len);
-    line.push_to(text)?;
+    push_behind_front(text, line, place, header, "position", body_len)?;
     push_item_views(text, line, view.items)?;
     text.push_str("\n")?;
     Ok(())
 }
 
 #[tactic(auto, using(std::proofs::Common::append_assoc), unfolding(crate::specs::Frames::view_line, crate::specs::Names::id_name, crate::specs::PositionFields::batch_fields))]
-fn push_batch(
+fn push_batch_line(
     text: &mut String,
     line: &mut Line,
     place: u64,
@@ -88,36 +98,34 @@ fn push_batch(
     line.clear();
     line.put_named_number(" kind=", view.kind as u64);
     line.put_named_number(" count=", view.fixes.left() as u64);
-    put_front(line, place, header, "batch", body_len);
-    line.push_to(text)?;
+    push_behind_front(text, line, place, header, "batch", body_len)?;
     push_position_views(text, line, view.fixes)?;
     text.push_str("\n")?;
     Ok(())
 }
 
-// Octets that are not read further.
-#[tactic(auto, using(std::proofs::Common::append_assoc), unfolding(crate::specs::Frames::view_line, crate::specs::Names::id_name))]
-fn push_opaque(
+// Octets that are not read further, whatever their id.
+#[tactic(auto, using(std::proofs::Common::append_assoc), unfolding(crate::specs::Frames::view_line))]
+fn push_opaque_line(
     text: &mut String,
     line: &mut Line,
     place: u64,
     header: &Header,
-    id: u16,
     body: &[u8],
     body_len: u16,
 ) -> Result<(), AllocError>
-    ensures { OnOk result (string_bytes text.new ≡ string_bytes text.old ++ view_line place header.now (message.Opaque id body.now) body_len) }
+    ensures { (id : ℕ) → OnOk result (string_bytes text.new ≡ string_bytes text.old ++ view_line place header.now (message.Opaque id body.now) body_len) }
 {
     line.clear();
     push_behind_front(text, line, place, header, "opaque", body_len)?;
-    push_octets(text, " body-octets=", body)?;
+    push_octets(text, line, " body-octets=", body)?;
     text.push_str("\n")?;
     Ok(())
 }
 
 // The body of a packet, which has the name of its id.
 #[tactic(auto, using(std::proofs::Common::append_assoc), unfolding(crate::specs::Frames::view_line))]
-fn push_part(
+fn push_part_line(
     text: &mut String,
     line: &mut Line,
     place: u64,
@@ -129,50 +137,8 @@ fn push_part(
 {
     line.clear();
     push_behind_front(text, line, place, header, id_name(header.id), body_len)?;
-    push_octets(text, " part=", part)?;
+    push_octets(text, line, " part=", part)?;
     text.push_str("\n")?;
-    Ok(())
-}
-
-#[tactic(auto, using(std::proofs::Common::append_assoc), unfolding(crate::specs::Frames::view_line, crate::specs::Names::id_name))]
-#[inline(always)]
-fn push_terminal_ack(
-    text: &mut String,
-    line: &mut Line,
-    place: u64,
-    header: &Header,
-    fields: (u16, u16, u8),
-    body_len: u16,
-) -> Result<(), AllocError>
-    ensures { OnOk result (string_bytes text.new ≡ string_bytes text.old
-        ++ view_line place header.now (message.TerminalAck fields.0 fields.1 fields.2) body_len) }
-{
-    let (reply, id, answer) = fields;
-    line.clear();
-    line.put_str("\n");
-    put_ack(line, reply, id, answer);
-    push_behind_front(text, line, place, header, "terminal-ack", body_len)?;
-    Ok(())
-}
-
-#[tactic(auto, using(std::proofs::Common::append_assoc), unfolding(crate::specs::Frames::view_line, crate::specs::Names::id_name))]
-#[inline(always)]
-fn push_platform_ack(
-    text: &mut String,
-    line: &mut Line,
-    place: u64,
-    header: &Header,
-    fields: (u16, u16, u8),
-    body_len: u16,
-) -> Result<(), AllocError>
-    ensures { OnOk result (string_bytes text.new ≡ string_bytes text.old
-        ++ view_line place header.now (message.PlatformAck fields.0 fields.1 fields.2) body_len) }
-{
-    let (reply, id, answer) = fields;
-    line.clear();
-    line.put_str("\n");
-    put_ack(line, reply, id, answer);
-    push_behind_front(text, line, place, header, "platform-ack", body_len)?;
     Ok(())
 }
 
@@ -190,18 +156,22 @@ pub fn push_message_view_line(
     ensures { OnOk result (string_bytes text.new ≡ string_bytes text.old ++ view_line place header.now (viewed view.entry) body_len) }
 {
     match view {
-        MessageView::Heartbeat => push_heartbeat(text, line, place, header, body_len),
+        MessageView::Heartbeat => push_heartbeat_line(text, line, place, header, body_len),
         MessageView::TerminalAck { reply, id, result } => {
-            push_terminal_ack(text, line, place, header, (reply, id, result), body_len)
+            hold_response(line, reply, id, result);
+            push_behind_front(text, line, place, header, "terminal-ack", body_len)
         }
         MessageView::PlatformAck { reply, id, result } => {
-            push_platform_ack(text, line, place, header, (reply, id, result), body_len)
+            hold_response(line, reply, id, result);
+            push_behind_front(text, line, place, header, "platform-ack", body_len)
         }
-        MessageView::Position(view) => push_position(text, line, place, header, view, body_len),
-        MessageView::Batch(view) => push_batch(text, line, place, header, view, body_len),
-        MessageView::Opaque { id, body } => {
-            push_opaque(text, line, place, header, id, body, body_len)
+        MessageView::Position(view) => {
+            push_position_line(text, line, place, header, view, body_len)
         }
-        MessageView::Part(part) => push_part(text, line, place, header, part, body_len),
+        MessageView::Batch(view) => push_batch_line(text, line, place, header, view, body_len),
+        MessageView::Opaque { body, .. } => {
+            push_opaque_line(text, line, place, header, body, body_len)
+        }
+        MessageView::Part(part) => push_part_line(text, line, place, header, part, body_len),
     }
 }

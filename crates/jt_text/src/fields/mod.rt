@@ -64,11 +64,16 @@ fn push_position_reply(
 }
 
 #[tactic(auto, using(std::proofs::Common::append_assoc))]
-fn push_params_reply(text: &mut String, reply: u16, params: &[Param]) -> Result<(), AllocError>
+fn push_params_reply(
+    text: &mut String,
+    line: &mut Line,
+    reply: u16,
+    params: &[Param],
+) -> Result<(), AllocError>
     ensures { OnOk result (string_bytes text.new ≡ string_bytes text.old ++ fields_of (message.Params reply params.now)) }
 {
     push_number(text, " reply=", reply as u64)?;
-    push_params(text, params)
+    push_params(text, line, params)
 }
 
 /// Puts the fields of a message at the end of a text, in the order of its layout, each behind a blank. `line` is room that is
@@ -86,12 +91,14 @@ pub(crate) fn push_fields(
         }
         Message::Heartbeat | Message::Deregister | Message::QueryParams | Message::QueryPosition =>
             Ok(()),
-        Message::Register(register) => push_register(text, register),
-        Message::RegisterReply(reply) => push_register_reply(text, reply),
-        Message::Auth(auth) => push_auth(text, auth),
-        Message::SetParams(params) => push_params(text, params.as_slice()),
-        Message::QuerySome(ids) => push_query_some(text, ids.as_slice()),
-        Message::Params { reply, params } => push_params_reply(text, *reply, params.as_slice()),
+        Message::Register(register) => push_register(text, line, register),
+        Message::RegisterReply(reply) => push_register_reply(text, line, reply),
+        Message::Auth(auth) => push_auth(text, line, auth),
+        Message::SetParams(params) => push_params(text, line, params.as_slice()),
+        Message::QuerySome(ids) => push_query_some(text, line, ids.as_slice()),
+        Message::Params { reply, params } => {
+            push_params_reply(text, line, *reply, params.as_slice())
+        }
         Message::Position(position) => push_position(text, line, position),
         Message::PositionReply { reply, position } => push_position_reply(
             text, line, *reply, position,
@@ -102,17 +109,19 @@ pub(crate) fn push_fields(
             flag,
             kind,
             text: octets,
-        } => push_text(text, *flag, *kind, octets.as_slice()),
+        } => push_text(text, line, *flag, *kind, octets.as_slice()),
         Message::Control {
             command,
             text: octets,
-        } => push_control(text, *command, octets.as_slice()),
-        Message::Circles { setting, list } => push_circles(text, *setting, list.as_slice()),
-        Message::Rectangles { setting, list } => push_rectangles(text, *setting, list.as_slice()),
-        Message::Polygon(polygon) => push_polygon(text, polygon),
-        Message::Route(route) => push_route(text, route),
-        Message::Delete { ids, .. } => push_deletion(text, ids.as_slice()),
-        Message::Opaque { body, .. } => push_octets(text, " body-octets=", body.as_slice()),
-        Message::Part(octets) => push_octets(text, " part=", octets.as_slice()),
+        } => push_control(text, line, *command, octets.as_slice()),
+        Message::Circles { setting, list } => push_circles(text, line, *setting, list.as_slice()),
+        Message::Rectangles { setting, list } => {
+            push_rectangles(text, line, *setting, list.as_slice())
+        }
+        Message::Polygon(polygon) => push_polygon(text, line, polygon),
+        Message::Route(route) => push_route(text, line, route),
+        Message::Delete { ids, .. } => push_deletion(text, line, ids.as_slice()),
+        Message::Opaque { body, .. } => push_octets(text, line, " body-octets=", body.as_slice()),
+        Message::Part(octets) => push_octets(text, line, " part=", octets.as_slice()),
     }
 }

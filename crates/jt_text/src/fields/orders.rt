@@ -3,6 +3,7 @@
 ghost use Rattle.std.specs.Prelude.{◌≡◌, ◌++◌, string_bytes, codes, OnOk};
 ghost use Rattle.jt_text.specs.OrderFields.{control_fields, kind_text, number_text, text_fields, track_fields};
 
+use crate::line::Line;
 use crate::values::{push_number, push_octets};
 use std::alloc::AllocError;
 
@@ -40,6 +41,7 @@ fn push_kind(text: &mut String, kind: Option<u8>) -> Result<(), AllocError>
 #[tactic(auto, using(std::proofs::Common::append_assoc), unfolding(crate::specs::OrderFields::text_fields))]
 pub(super) fn push_text(
     text: &mut String,
+    line: &mut Line,
     flag: u8,
     kind: Option<u8>,
     octets: &[u8],
@@ -48,13 +50,18 @@ pub(super) fn push_text(
 {
     push_number(text, " flag=", flag as u64)?;
     push_kind(text, kind)?;
-    push_octets(text, " text=", octets)
+    push_octets(text, line, " text=", octets)
 }
 
 #[tactic(auto, using(std::proofs::Common::append_assoc), unfolding(crate::specs::OrderFields::control_fields))]
-pub(super) fn push_control(text: &mut String, command: u8, octets: &[u8]) -> Result<(), AllocError>
+pub(super) fn push_control(
+    text: &mut String,
+    line: &mut Line,
+    command: u8,
+    octets: &[u8],
+) -> Result<(), AllocError>
     ensures { OnOk result (string_bytes text.new ≡ string_bytes text.old ++ control_fields command octets.now) }
 {
     push_number(text, " command=", command as u64)?;
-    push_octets(text, " text=", octets)
+    push_octets(text, line, " text=", octets)
 }

@@ -73,11 +73,11 @@ pub(crate) fn put_fixed(line: &mut Line, fixed: &Fixed)
 }
 
 #[tactic(auto, using(std::proofs::Common::append_assoc), unfolding(crate::specs::PositionFields::item_text))]
-fn push_raw(text: &mut String, id: u8, value: &[u8]) -> Result<(), AllocError>
+fn push_raw(text: &mut String, line: &mut Line, id: u8, value: &[u8]) -> Result<(), AllocError>
     ensures { OnOk result (string_bytes text.new ≡ string_bytes text.old ++ item_text (items.Raw id value.now)) }
 {
-    push_digits(text, " item=0x", &[id])?;
-    push_octets(text, ":", value)
+    push_digits(text, line, " item=0x", &[id])?;
+    push_octets(text, line, ":", value)
 }
 
 // An item of one number.
@@ -178,7 +178,7 @@ fn push_item(text: &mut String, line: &mut Line, item: &ItemView<'_>) -> Result<
         ItemView::Analogue(quantities) => push_one(text, line, 0x2B, *quantities as u64),
         ItemView::Signal(strength) => push_one(text, line, 0x30, *strength as u64),
         ItemView::Satellites(count) => push_one(text, line, 0x31, *count as u64),
-        ItemView::Raw { id, value } => push_raw(text, *id, value),
+        ItemView::Raw { id, value } => push_raw(text, line, *id, value),
     }
 }
 

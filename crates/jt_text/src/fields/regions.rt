@@ -1,9 +1,10 @@
 //! The fields of regions and their deletion.
 
-ghost use Rattle.std.specs.Prelude.{◌≡◌, ℕ, List, ◌++◌, codes, string_bytes, OnOk};
+ghost use Rattle.std.specs.Prelude.{◌≡◌, ℕ, List, ◌++◌, string_bytes, OnOk};
 ghost use Rattle.std.specs.List.{flat_map};
 ghost use Rattle.jt_text.specs.RegionFields.{circles_fields, deletion_fields, limit_text, point_place, polygon_fields, rectangles_fields, region_start, route_fields, thresholds_text, times_text};
 
+use crate::line::Line;
 use crate::values::{push_digits, push_number};
 use jt_region_bodies::{Circle, Limit, Polygon, Rectangle, Route, RoutePoint, Vertex};
 use std::alloc::AllocError;
@@ -12,30 +13,34 @@ use std::alloc::AllocError;
 trait Shown {
     ghost shown: { Self → List ℕ };
 
-    /// Puts the text of the value at the end of a text, behind a blank.
-    fn push_to(&self, text: &mut String) -> Result<(), AllocError>
+    /// Puts the text of the value at the end of a text, behind a blank. `line` is room that is used again.
+    fn push_to(&self, text: &mut String, line: &mut Line) -> Result<(), AllocError>
         ensures { OnOk result (string_bytes text.new ≡ string_bytes text.old ++ shown self.now) };
 }
 
-fn push_all<T: Shown>(text: &mut String, list: &[T]) -> Result<(), AllocError>
+fn push_all<T: Shown>(text: &mut String, line: &mut Line, list: &[T]) -> Result<(), AllocError>
     ensures { OnOk result (string_bytes text.new ≡ string_bytes text.old ++ flat_map T.shown list.now) }
 {
     for item in list {
-        item.push_to(text)?;
+        item.push_to(text, line)?;
     }
     Ok(())
 }
 
 #[tactic(auto, using(std::proofs::Common::append_assoc))]
-fn push_times(text: &mut String, times: &Option<[u8; 12]>) -> Result<(), AllocError>
+fn push_times(
+    text: &mut String,
+    line: &mut Line,
+    times: &Option<[u8; 12]>,
+) -> Result<(), AllocError>
     ensures { OnOk result (string_bytes text.new ≡ string_bytes text.old ++ times_text times.now) }
 {
     match times {
         None => text.push_str(":-:-"),
         Some(times) => {
             let (start, end) = times.split_at(6);
-            push_digits(text, ":", start)?;
-            push_digits(text, ":", end)
+            push_digits(text, line, ":", start)?;
+            push_digits(text, line, ":", end)
         }
     }
 }
@@ -68,11 +73,17 @@ fn push_thresholds(text: &mut String, thresholds: &Option<(u16, u16)>) -> Result
 
 // The id and the attribute of a region behind a name.
 #[tactic(auto, using(std::proofs::Common::append_assoc), unfolding(crate::specs::RegionFields::region_start))]
-fn push_start(text: &mut String, name: &str, id: u32, attribute: u16) -> Result<(), AllocError>
+fn push_start(
+    text: &mut String,
+    line: &mut Line,
+    name: &str,
+    id: u32,
+    attribute: u16,
+) -> Result<(), AllocError>
     ensures { OnOk result (string_bytes text.new ≡ string_bytes text.old ++ (name.now ++ region_start id attribute)) }
 {
     push_number(text, name, id as u64)?;
-    push_digits(text, ":0x", attribute.to_be_bytes().as_slice())
+    push_digits(text, line, ":0x", attribute.to_be_bytes().as_slice())
 }
 
 impl Shown for Circle {
@@ -81,12 +92,12 @@ impl Shown for Circle {
     ghost shown = { circle_text };
 
     #[tactic(auto, using(std::proofs::Common::append_assoc), unfolding(crate::specs::RegionFields::circle_text))]
-    fn push_to(&self, text: &mut String) -> Result<(), AllocError> {
-        push_start(text, " circle=", self.id, self.attribute)?;
+    fn push_to(&self, text: &mut String, line: &mut Line) -> Result<(), AllocError> {
+        push_start(text, line, " circle=", self.id, self.attribute)?;
         push_number(text, ":", self.lat as u64)?;
         push_number(text, ":", self.lon as u64)?;
         push_number(text, ":", self.radius as u64)?;
-        push_times(text, &self.times)?;
+        push_times(text, line, &self.times)?;
         push_limit(text, &self.limit)?;
         Ok(())
     }
@@ -98,13 +109,13 @@ impl Shown for Rectangle {
     ghost shown = { rectangle_text };
 
     #[tactic(auto, using(std::proofs::Common::append_assoc), unfolding(crate::specs::RegionFields::rectangle_text))]
-    fn push_to(&self, text: &mut String) -> Result<(), AllocError> {
-        push_start(text, " rectangle=", self.id, self.attribute)?;
+    fn push_to(&self, text: &mut String, line: &mut Line) -> Result<(), AllocError> {
+        push_start(text, line, " rectangle=", self.id, self.attribute)?;
         push_number(text, ":", self.top as u64)?;
         push_number(text, ":", self.left as u64)?;
         push_number(text, ":", self.bottom as u64)?;
         push_number(text, ":", self.right as u64)?;
-        push_times(text, &self.times)?;
+        push_times(text, line, &self.times)?;
         push_limit(text, &self.limit)?;
         Ok(())
     }
@@ -116,7 +127,7 @@ impl Shown for Vertex {
     ghost shown = { vertex_text };
 
     #[tactic(auto, using(std::proofs::Common::append_assoc), unfolding(crate::specs::RegionFields::vertex_text))]
-    fn push_to(&self, text: &mut String) -> Result<(), AllocError> {
+    fn push_to(&self, text: &mut String, line: &mut Line) -> Result<(), AllocError> {
         push_number(text, " vertex=", self.lat as u64)?;
         push_number(text, ":", self.lon as u64)
     }
@@ -140,10 +151,10 @@ impl Shown for RoutePoint {
     ghost shown = { point_text };
 
     #[tactic(auto, using(std::proofs::Common::append_assoc), unfolding(crate::specs::RegionFields::point_text))]
-    fn push_to(&self, text: &mut String) -> Result<(), AllocError> {
+    fn push_to(&self, text: &mut String, line: &mut Line) -> Result<(), AllocError> {
         push_point_place(text, self)?;
         push_number(text, ":", self.width as u64)?;
-        push_digits(text, ":0x", &[self.attribute])?;
+        push_digits(text, line, ":0x", &[self.attribute])?;
         push_thresholds(text, &self.thresholds)?;
         push_limit(text, &self.limit)?;
         Ok(())
@@ -156,7 +167,7 @@ impl Shown for u32 {
 
     ghost shown = { deleted_id_text };
 
-    fn push_to(&self, text: &mut String) -> Result<(), AllocError> {
+    fn push_to(&self, text: &mut String, line: &mut Line) -> Result<(), AllocError> {
         push_number(text, " id=", *self as u64)
     }
 }
@@ -164,6 +175,7 @@ impl Shown for u32 {
 #[tactic(auto, using(std::proofs::Common::append_assoc), unfolding(crate::specs::RegionFields::circles_fields))]
 pub(super) fn push_circles(
     text: &mut String,
+    line: &mut Line,
     setting: u8,
     list: &[Circle],
 ) -> Result<(), AllocError>
@@ -171,12 +183,13 @@ pub(super) fn push_circles(
 {
     push_number(text, " setting=", setting as u64)?;
     push_number(text, " count=", list.len() as u64)?;
-    push_all(text, list)
+    push_all(text, line, list)
 }
 
 #[tactic(auto, using(std::proofs::Common::append_assoc), unfolding(crate::specs::RegionFields::rectangles_fields))]
 pub(super) fn push_rectangles(
     text: &mut String,
+    line: &mut Line,
     setting: u8,
     list: &[Rectangle],
 ) -> Result<(), AllocError>
@@ -184,34 +197,46 @@ pub(super) fn push_rectangles(
 {
     push_number(text, " setting=", setting as u64)?;
     push_number(text, " count=", list.len() as u64)?;
-    push_all(text, list)
+    push_all(text, line, list)
 }
 
 #[tactic(auto, using(std::proofs::Common::append_assoc), unfolding(crate::specs::RegionFields::polygon_fields))]
-pub(super) fn push_polygon(text: &mut String, polygon: &Polygon) -> Result<(), AllocError>
+pub(super) fn push_polygon(
+    text: &mut String,
+    line: &mut Line,
+    polygon: &Polygon,
+) -> Result<(), AllocError>
     ensures { OnOk result (string_bytes text.new ≡ string_bytes text.old ++ polygon_fields polygon.now) }
 {
-    push_start(text, " polygon=", polygon.id, polygon.attribute)?;
-    push_times(text, &polygon.times)?;
+    push_start(text, line, " polygon=", polygon.id, polygon.attribute)?;
+    push_times(text, line, &polygon.times)?;
     push_limit(text, &polygon.limit)?;
     push_number(text, " count=", polygon.vertices.len() as u64)?;
-    push_all(text, polygon.vertices.as_slice())
+    push_all(text, line, polygon.vertices.as_slice())
 }
 
 #[tactic(auto, using(std::proofs::Common::append_assoc), unfolding(crate::specs::RegionFields::route_fields))]
-pub(super) fn push_route(text: &mut String, route: &Route) -> Result<(), AllocError>
+pub(super) fn push_route(
+    text: &mut String,
+    line: &mut Line,
+    route: &Route,
+) -> Result<(), AllocError>
     ensures { OnOk result (string_bytes text.new ≡ string_bytes text.old ++ route_fields route.now) }
 {
-    push_start(text, " route=", route.id, route.attribute)?;
-    push_times(text, &route.times)?;
+    push_start(text, line, " route=", route.id, route.attribute)?;
+    push_times(text, line, &route.times)?;
     push_number(text, " count=", route.points.len() as u64)?;
-    push_all(text, route.points.as_slice())
+    push_all(text, line, route.points.as_slice())
 }
 
 #[tactic(auto, using(std::proofs::Common::append_assoc), unfolding(crate::specs::RegionFields::deletion_fields))]
-pub(super) fn push_deletion(text: &mut String, ids: &[u32]) -> Result<(), AllocError>
+pub(super) fn push_deletion(
+    text: &mut String,
+    line: &mut Line,
+    ids: &[u32],
+) -> Result<(), AllocError>
     ensures { OnOk result (string_bytes text.new ≡ string_bytes text.old ++ deletion_fields ids.now) }
 {
     push_number(text, " count=", ids.len() as u64)?;
-    push_all(text, ids)
+    push_all(text, line, ids)
 }

@@ -1,7 +1,0 @@
-use Rattle.jt_text.proofs.HexPieces.{utf8_digits}
-use Rattle.jt_text.proofs.values.push_piece.Goals as goal
-
-pub push_text-requires : goal.push_text-requires
-push_text-requires c =
-    let written = rw c.unwrap.ensures at c.encode_to_slice.ensures.written in
-    rw written (utf8_digits c.args.octets.now)
