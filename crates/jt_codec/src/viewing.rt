@@ -33,8 +33,8 @@ pub enum MessageView<'a> {
     Part(&'a [u8]),
 }
 
-// The view of a body that is no packet's, by the row of its id, or the row's reason against it. `Result::map` in place of a
-// `match` copies the view of a position.
+// The view of a body that is no packet's, by the row of its id, or the row's reason against it. Each arm matches, since
+// `map` would copy the view of a position.
 #[inline(always)]
 #[tactic(auto, unfolding(crate::specs::Bodies::body, jt_layout::specs::Layout::rest), using(jt_layout::proofs::Answering::answers_case))]
 fn view_row<'a>(
@@ -88,8 +88,9 @@ pub fn view_message<'a>(header: &Header, body: &'a [u8]) -> Option<Result<Messag
     if header.packet.is_some() {
         return Some(Ok(MessageView::Part(body)));
     }
-    match view_row(header.edition, header.id, body)? {
-        Ok(view) => Some(Ok(view)),
-        Err(refusal) => Some(Err(in_content(start_of_body(header.edition), refusal))),
+    match view_row(header.edition, header.id, body) {
+        Some(Ok(view)) => Some(Ok(view)),
+        Some(Err(refusal)) => Some(Err(in_content(start_of_body(header.edition), refusal))),
+        None => None,
     }
 }

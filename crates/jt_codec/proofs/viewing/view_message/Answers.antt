@@ -7,17 +7,17 @@ use Rattle.jt_codec.proofs.viewing.view_message.Goals as goal
 pub in_content-requires : goal.in_content-requires
 in_content-requires c =
     let h = c.args.header.now in
-    let refuses = rw c.in-Err.is at c.in_ok-view.ensures.answer in
-    let placed = (body_law h.edition h.id).placed c.args.body.now 0 c.in-Err.refusal (omega arith) refuses in
-    omega (arith, placed.1)
+    let refuses = rw c.in-Some-Err.field-0-is at c.in-Some-Err.ensures.answer in
+    omega (arith, ((body_law h.edition h.id).placed c.args.body.now 0 c.in-Some-Err.refusal (omega arith) refuses).1)
 
-pub returns-in-Ok-clause-answer : goal.returns-in-Ok-clause-answer
-returns-in-Ok-clause-answer c =
+pub returns-in-Some-Ok-clause-answer : goal.returns-in-Some-Ok-clause-answer
+returns-in-Some-Ok-clause-answer c =
     let h = c.args.header.now in
-    read_at h.packet h.edition h.id c.args.body.now _ c.if-is_some.ensures (rw c.in-Ok.is at c.in_ok-view.ensures.answer)
+    read_at h.packet h.edition h.id c.args.body.now _ c.if-is_some.ensures (rw c.in-Some-Ok.field-0-is at c.in-Some-Ok.ensures.answer)
 
-pub returns-in-Err-clause-answer : goal.returns-in-Err-clause-answer
-returns-in-Err-clause-answer c =
+pub returns-in-Some-Err-clause-answer : goal.returns-in-Some-Err-clause-answer
+returns-in-Some-Err-clause-answer c =
     let h = c.args.header.now in
-    refused_at h.packet h.edition h.id c.start_of_body.result c.args.body.now c.in-Err.refusal c.if-is_some.ensures (λ _. c.start_of_body.ensures.value) (rw c.in-Err.is at c.in_ok-view.ensures.answer)
+    let refuses = rw c.in-Some-Err.field-0-is at c.in-Some-Err.ensures.answer in
+    refused_at h.packet h.edition h.id c.start_of_body.result c.args.body.now c.in-Some-Err.refusal c.if-is_some.ensures (λ _. c.start_of_body.ensures.value) refuses
     ∙ ap (λ (r : Refusal). Err r) (sym c.in_content.ensures)
