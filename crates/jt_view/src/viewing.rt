@@ -1,10 +1,8 @@
 //! The lines of what a stream tells, each put at the end of a text.
 
-ghost use Rattle.std.specs.Prelude.{◌≡◌, ◌<◌, ◌≤◌, ◌^◌, ◌++◌, length, string_bytes, IfOk, OnOk};
-ghost use Rattle.jt_codec.specs.Viewing.{viewed};
+ghost use Rattle.std.specs.Prelude.{◌≡◌, ◌<◌, ◌≤◌, ◌^◌, length, string_bytes, IfOk};
 ghost use Rattle.jt_escape.specs.Splitter.{lent};
 ghost use Rattle.jt_stream.specs.Item.{Frame};
-ghost use Rattle.jt_text.specs.Frames.{view_line};
 ghost use Rattle.jt_view.specs.Entry as entries;
 ghost use Rattle.jt_view.specs.Entry.{entry_of};
 ghost use Rattle.jt_view.specs.Reporting.{ViewsEntry, ViewsTold};
