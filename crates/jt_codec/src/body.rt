@@ -16,75 +16,24 @@ use crate::message::{
     POSITION_REPLY, QUERY_PARAMS, QUERY_POSITION, QUERY_SOME, RECTANGLES, REGISTER, REGISTER_REPLY,
     ROUTE, SET_PARAMS, TERMINAL_ACK, TEXT, TRACK,
 };
-use crate::position_reply::{read_position_reply, write_position_reply};
+use crate::position_reply::write_position_reply;
 use crate::regions::write_region_ids;
-use crate::text::{read_octet_and_text, write_octet_and_text};
-use crate::track::{read_track, write_track};
-use jt_params::{
-    Param, read_params, read_params_reply, read_query_some, write_params, write_params_reply,
-    write_query_some,
+use crate::rows::{
+    auth_row, batch_row, circles_row, control_row, params_row, polygon_row, position_reply_row,
+    position_row, query_some_row, rectangles_row, register_reply_row, register_row, route_row,
+    set_params_row, text_row, track_row,
 };
-use jt_position::{Position, read_batch, read_position, write_batch, write_position};
+use crate::text::write_octet_and_text;
+use crate::track::write_track;
+use jt_params::{write_params, write_params_reply, write_query_some};
+use jt_position::{write_batch, write_position};
 use jt_region_bodies::{
-    Circle, Deletion, Rectangle, RegionKind, read_circles, read_deletion, read_polygon,
-    read_rectangles, read_route, write_circles, write_polygon, write_rectangles, write_route,
+    Deletion, RegionKind, read_deletion, write_circles, write_polygon, write_rectangles,
+    write_route,
 };
-use jt_register::{
-    read_auth, read_register, read_register_reply, write_auth, write_register, write_register_reply,
-};
-use jt_value::{CodecError, Edition, Memory, Octets, Seq};
+use jt_register::{write_auth, write_register, write_register_reply};
+use jt_value::{CodecError, Edition, Memory, Octets};
 use std::alloc::Global;
-
-fn params_message(fields: (u16, Seq<Param>)) -> Message
-    ensures { result ≡ message.Params fields.0 fields.1 }
-{
-    let (reply, params) = fields;
-    Message::Params { reply, params }
-}
-
-fn position_reply_message(fields: (u16, Position)) -> Message
-    ensures { result ≡ message.PositionReply fields.0 fields.1 }
-{
-    let (reply, position) = fields;
-    Message::PositionReply { reply, position }
-}
-
-fn track_message(fields: (u16, Option<u32>)) -> Message
-    ensures { result ≡ message.Track fields.0 fields.1 }
-{
-    let (interval, validity) = fields;
-    Message::Track { interval, validity }
-}
-
-// A text of 2013, which has no kind.
-fn text_message(fields: (u8, Octets)) -> Message
-    ensures { result ≡ message.Text fields.0 None fields.1 }
-{
-    let (flag, text) = fields;
-    let kind = None;
-    Message::Text { flag, kind, text }
-}
-
-fn control_message(fields: (u8, Octets)) -> Message
-    ensures { result ≡ message.Control fields.0 fields.1 }
-{
-    let (command, text) = fields;
-    Message::Control { command, text }
-}
-
-fn circles_message(fields: (u8, Seq<Circle>)) -> Message
-    ensures { result ≡ message.Circles fields.0 fields.1 }
-{
-    let (setting, list) = fields;
-    Message::Circles { setting, list }
-}
-
-fn rectangles_message(fields: (u8, Seq<Rectangle>)) -> Message
-    ensures { result ≡ message.Rectangles fields.0 fields.1 }
-{
-    let (setting, list) = fields;
-    Message::Rectangles { setting, list }
-}
 
 fn delete_message(kind: RegionKind, deletion: Deletion) -> Message
     ensures { result ≡ message.Delete kind deletion.ids }
@@ -115,30 +64,30 @@ fn read_row(alloc: Global, edition: Edition, id: u16, octets: &[u8]) -> Result<M
             read_empty(octets)?;
             Ok(Message::Deregister)
         }
-        (Edition::E2013, REGISTER) => Ok(Message::Register(read_register(alloc, edition, octets)?)),
-        (_, REGISTER_REPLY) => Ok(Message::RegisterReply(read_register_reply(alloc, octets)?)),
-        (Edition::E2013, AUTH) => Ok(Message::Auth(read_auth(alloc, edition, octets)?)),
-        (_, SET_PARAMS) => Ok(Message::SetParams(read_params(alloc, octets)?)),
+        (Edition::E2013, REGISTER) => register_row(alloc, octets),
+        (_, REGISTER_REPLY) => register_reply_row(alloc, octets),
+        (Edition::E2013, AUTH) => auth_row(alloc, octets),
+        (_, SET_PARAMS) => set_params_row(alloc, octets),
         (_, QUERY_PARAMS) => {
             read_empty(octets)?;
             Ok(Message::QueryParams)
         }
-        (_, QUERY_SOME) => Ok(Message::QuerySome(read_query_some(alloc, octets)?)),
-        (_, PARAMS) => Ok(params_message(read_params_reply(alloc, octets)?)),
-        (_, POSITION) => Ok(Message::Position(read_position(alloc, octets)?)),
-        (_, POSITION_REPLY) => Ok(position_reply_message(read_position_reply(alloc, octets)?)),
+        (_, QUERY_SOME) => query_some_row(alloc, octets),
+        (_, PARAMS) => params_row(alloc, octets),
+        (_, POSITION) => position_row(alloc, octets),
+        (_, POSITION_REPLY) => position_reply_row(alloc, octets),
         (_, QUERY_POSITION) => {
             read_empty(octets)?;
             Ok(Message::QueryPosition)
         }
-        (_, TRACK) => Ok(track_message(read_track(octets)?)),
-        (_, BATCH) => Ok(Message::Batch(read_batch(alloc, octets)?)),
-        (Edition::E2013, TEXT) => Ok(text_message(read_octet_and_text(alloc, octets)?)),
-        (_, CONTROL) => Ok(control_message(read_octet_and_text(alloc, octets)?)),
-        (Edition::E2013, CIRCLES) => Ok(circles_message(read_circles(alloc, octets)?)),
-        (Edition::E2013, RECTANGLES) => Ok(rectangles_message(read_rectangles(alloc, octets)?)),
-        (Edition::E2013, POLYGON) => Ok(Message::Polygon(read_polygon(alloc, octets)?)),
-        (Edition::E2013, ROUTE) => Ok(Message::Route(read_route(alloc, octets)?)),
+        (_, TRACK) => track_row(octets),
+        (_, BATCH) => batch_row(alloc, octets),
+        (Edition::E2013, TEXT) => text_row(alloc, octets),
+        (_, CONTROL) => control_row(alloc, octets),
+        (Edition::E2013, CIRCLES) => circles_row(alloc, octets),
+        (Edition::E2013, RECTANGLES) => rectangles_row(alloc, octets),
+        (Edition::E2013, POLYGON) => polygon_row(alloc, octets),
+        (Edition::E2013, ROUTE) => route_row(alloc, octets),
         (_, DELETE_CIRCLES) => Ok(delete_message(
             RegionKind::Circle,
             read_deletion(alloc, octets)?,

@@ -10,6 +10,7 @@ mod laws;
 mod message;
 mod position_reply;
 mod regions;
+mod rows;
 mod text;
 mod track;
 mod viewing;

@@ -1,0 +1,159 @@
+//! Rows of the body table. Each has a function of its own, since a function makes room for all that its branches may hold.
+
+ghost use Rattle.std.specs.Prelude.{◌≡◌, None};
+ghost use Rattle.jt_layout.specs.Answer.{Answers};
+ghost use Rattle.jt_layout.specs.Layout.{body_case};
+ghost use Rattle.jt_params.specs.Params.{params, params_reply, query_some};
+ghost use Rattle.jt_position.specs.Positions.{position, batch};
+ghost use Rattle.jt_region_bodies.specs.Regions.{circles, rectangles, polygon, route};
+ghost use Rattle.jt_register.specs.Registration.{register_2013, register_reply, auth_2013};
+ghost use Rattle.jt_codec.specs.Kinds.{register_of, register_reply_of, auth_of, set_params_of, query_some_of, params_of, position_of, position_reply_of, batch_of, track_of, text_of, control_of, circles_of, rectangles_of, polygon_of, route_of};
+ghost use Rattle.jt_codec.specs.Layouts.{position_reply, track, octet_and_text};
+ghost use Rattle.jt_codec.specs.declared.message.Message.TheVariants as message;
+
+use crate::message::Message;
+use crate::position_reply::read_position_reply;
+use crate::text::read_octet_and_text;
+use crate::track::read_track;
+use jt_params::{read_params, read_params_reply, read_query_some};
+use jt_position::{read_batch, read_position};
+use jt_region_bodies::{read_circles, read_polygon, read_rectangles, read_route};
+use jt_register::{read_auth, read_register, read_register_reply};
+use jt_value::{CodecError, Edition};
+use std::alloc::Global;
+
+#[inline(never)]
+#[tactic(auto, using(jt_layout::proofs::Answering::answers_case))]
+pub(crate) fn register_row(alloc: Global, octets: &[u8]) -> Result<Message, CodecError>
+    ensures { Answers (body_case register_2013 message.Register register_of) octets.now result }
+{
+    Ok(Message::Register(read_register(alloc, Edition::E2013, octets)?))
+}
+
+#[inline(never)]
+#[tactic(auto, using(jt_layout::proofs::Answering::answers_case))]
+pub(crate) fn register_reply_row(alloc: Global, octets: &[u8]) -> Result<Message, CodecError>
+    ensures { Answers (body_case register_reply message.RegisterReply register_reply_of) octets.now result }
+{
+    Ok(Message::RegisterReply(read_register_reply(alloc, octets)?))
+}
+
+#[inline(never)]
+#[tactic(auto, using(jt_layout::proofs::Answering::answers_case))]
+pub(crate) fn auth_row(alloc: Global, octets: &[u8]) -> Result<Message, CodecError>
+    ensures { Answers (body_case auth_2013 message.Auth auth_of) octets.now result }
+{
+    Ok(Message::Auth(read_auth(alloc, Edition::E2013, octets)?))
+}
+
+#[inline(never)]
+#[tactic(auto, using(jt_layout::proofs::Answering::answers_case))]
+pub(crate) fn set_params_row(alloc: Global, octets: &[u8]) -> Result<Message, CodecError>
+    ensures { Answers (body_case params message.SetParams set_params_of) octets.now result }
+{
+    Ok(Message::SetParams(read_params(alloc, octets)?))
+}
+
+#[inline(never)]
+#[tactic(auto, using(jt_layout::proofs::Answering::answers_case))]
+pub(crate) fn query_some_row(alloc: Global, octets: &[u8]) -> Result<Message, CodecError>
+    ensures { Answers (body_case query_some message.QuerySome query_some_of) octets.now result }
+{
+    Ok(Message::QuerySome(read_query_some(alloc, octets)?))
+}
+
+#[inline(never)]
+#[tactic(auto, using(jt_layout::proofs::Answering::answers_case))]
+pub(crate) fn params_row(alloc: Global, octets: &[u8]) -> Result<Message, CodecError>
+    ensures { Answers (body_case params_reply (λ x. message.Params x.0 x.1) params_of) octets.now result }
+{
+    let (reply, params) = read_params_reply(alloc, octets)?;
+    Ok(Message::Params { reply, params })
+}
+
+#[inline(never)]
+#[tactic(auto, using(jt_layout::proofs::Answering::answers_case))]
+pub(crate) fn position_row(alloc: Global, octets: &[u8]) -> Result<Message, CodecError>
+    ensures { Answers (body_case position message.Position position_of) octets.now result }
+{
+    Ok(Message::Position(read_position(alloc, octets)?))
+}
+
+#[inline(never)]
+#[tactic(auto, using(jt_layout::proofs::Answering::answers_case))]
+pub(crate) fn position_reply_row(alloc: Global, octets: &[u8]) -> Result<Message, CodecError>
+    ensures { Answers (body_case position_reply (λ x. message.PositionReply x.0 x.1) position_reply_of) octets.now result }
+{
+    let (reply, position) = read_position_reply(alloc, octets)?;
+    Ok(Message::PositionReply { reply, position })
+}
+
+#[tactic(auto, using(jt_layout::proofs::Answering::answers_case))]
+pub(crate) fn track_row(octets: &[u8]) -> Result<Message, CodecError>
+    ensures { Answers (body_case track (λ x. message.Track x.0 x.1) track_of) octets.now result }
+{
+    let (interval, validity) = read_track(octets)?;
+    Ok(Message::Track { interval, validity })
+}
+
+#[inline(never)]
+#[tactic(auto, using(jt_layout::proofs::Answering::answers_case))]
+pub(crate) fn batch_row(alloc: Global, octets: &[u8]) -> Result<Message, CodecError>
+    ensures { Answers (body_case batch message.Batch batch_of) octets.now result }
+{
+    Ok(Message::Batch(read_batch(alloc, octets)?))
+}
+
+// A text of 2013, which has no kind.
+#[inline(never)]
+#[tactic(auto, using(jt_layout::proofs::Answering::answers_case))]
+pub(crate) fn text_row(alloc: Global, octets: &[u8]) -> Result<Message, CodecError>
+    ensures { Answers (body_case octet_and_text (λ x. message.Text x.0 None x.1) text_of) octets.now result }
+{
+    let (flag, text) = read_octet_and_text(alloc, octets)?;
+    let kind = None;
+    Ok(Message::Text { flag, kind, text })
+}
+
+#[inline(never)]
+#[tactic(auto, using(jt_layout::proofs::Answering::answers_case))]
+pub(crate) fn control_row(alloc: Global, octets: &[u8]) -> Result<Message, CodecError>
+    ensures { Answers (body_case octet_and_text (λ x. message.Control x.0 x.1) control_of) octets.now result }
+{
+    let (command, text) = read_octet_and_text(alloc, octets)?;
+    Ok(Message::Control { command, text })
+}
+
+#[inline(never)]
+#[tactic(auto, using(jt_layout::proofs::Answering::answers_case))]
+pub(crate) fn circles_row(alloc: Global, octets: &[u8]) -> Result<Message, CodecError>
+    ensures { Answers (body_case circles (λ x. message.Circles x.0 x.1) circles_of) octets.now result }
+{
+    let (setting, list) = read_circles(alloc, octets)?;
+    Ok(Message::Circles { setting, list })
+}
+
+#[inline(never)]
+#[tactic(auto, using(jt_layout::proofs::Answering::answers_case))]
+pub(crate) fn rectangles_row(alloc: Global, octets: &[u8]) -> Result<Message, CodecError>
+    ensures { Answers (body_case rectangles (λ x. message.Rectangles x.0 x.1) rectangles_of) octets.now result }
+{
+    let (setting, list) = read_rectangles(alloc, octets)?;
+    Ok(Message::Rectangles { setting, list })
+}
+
+#[inline(never)]
+#[tactic(auto, using(jt_layout::proofs::Answering::answers_case))]
+pub(crate) fn polygon_row(alloc: Global, octets: &[u8]) -> Result<Message, CodecError>
+    ensures { Answers (body_case polygon message.Polygon polygon_of) octets.now result }
+{
+    Ok(Message::Polygon(read_polygon(alloc, octets)?))
+}
+
+#[inline(never)]
+#[tactic(auto, using(jt_layout::proofs::Answering::answers_case))]
+pub(crate) fn route_row(alloc: Global, octets: &[u8]) -> Result<Message, CodecError>
+    ensures { Answers (body_case route message.Route route_of) octets.now result }
+{
+    Ok(Message::Route(read_route(alloc, octets)?))
+}
