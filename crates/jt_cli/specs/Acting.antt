@@ -17,7 +17,7 @@ use Rattle.jt_view.specs.declared.status.Status.TheVariants.{ReadFault}
 -- a command tells of the source's octets
 pub record TellsOf (command : Command) (left left_now old now : Option (List ℕ)) (status : Status) : Type 0 where
   pub runs : Runs (answer_of command (2 ^ 40)) left left_now old now status
-  pub no_further : ReadsNoFurther command (2 ^ 40) (2 ^ 16) left left_now
+  pub no_further : ReadsNoFurther command (2 ^ 40) (2 ^ 14) left left_now
   pub prints_taken : status ≡ ReadFault → PrintsTaken command left left_now old now
 
 -- the source's script is rehearsed

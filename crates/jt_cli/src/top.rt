@@ -103,9 +103,9 @@ pub fn run<R, S: Source, K: Sink>(
         ((result.status ≡ (answer_of command (2 ^ 40) octets).status)
         × Appends (K.written outside.sink) (K.written result.outside.sink) (answer_of command (2 ^ 40) octets).text)) }
 
-    // The source is read no further than the piece of at most 2^16 octets that settles the report.
+    // The source is read no further than the piece of at most 2^14 octets that settles the report.
     ensures no_further { (command : Command) → map string_bytes words.now.items ≡ words_of command →
-        ReadsNoFurther command (2 ^ 40) (2 ^ 16) (S.left outside.source) (S.left result.outside.source) }
+        ReadsNoFurther command (2 ^ 40) (2 ^ 14) (S.left outside.source) (S.left result.outside.source) }
     // What is printed of a piece is written before the next is read, so it is there also where that read fails.
     ensures prints_taken { (command : Command) → map string_bytes words.now.items ≡ words_of command → result.status ≡ Status.ReadFault →
         PrintsTaken command (S.left outside.source) (S.left result.outside.source) (K.written outside.sink) (K.written result.outside.sink) }

@@ -17,7 +17,7 @@ use jt_value::Memory;
 use std::alloc::Global;
 
 // How many octets are read at once.
-const PIECE: usize = 1 << 16;
+const PIECE: usize = 1 << 14;
 
 // Takes a piece of the input, of which `most` octets may be read in all. The text is then what is printed of it, and a
 // status says that the report is settled and wholly printed.
@@ -126,7 +126,7 @@ pub fn report<S: Source, K: Sink>(
 ) -> Status
     requires { most ≤ 2 ^ 40 }
     ensures runs { Runs (answer_of command most) (S.left source.old) (S.left source.new) (K.written sink.old) (K.written sink.new) result }
-    ensures no_further { ReadsNoFurther command most (2 ^ 16) (S.left source.old) (S.left source.new) }
+    ensures no_further { ReadsNoFurther command most (2 ^ 14) (S.left source.old) (S.left source.new) }
     ensures prints_taken { result ≡ Status.ReadFault → PrintsTaken command (S.left source.old) (S.left source.new) (K.written sink.old) (K.written sink.new) }
     ensures to_the_end { result ≡ Status.Done → IsAtEnd (S.left source.new) }
     ensures read_fault { result ≡ Status.ReadFault → Rose (S.faults source.old) (S.faults source.new) }
