@@ -2,6 +2,7 @@
 
 ghost use Rattle.std.specs.Prelude.{◌≡◌, ◌<◌, ◌≤◌, ◌++◌, ◌↔◌, length, IsTrue, OnOk};
 ghost use Rattle.std.specs.List.{flat_map, AllByRecursion};
+ghost use Rattle.std.specs.Io.{StartsWith};
 ghost use Rattle.jt_value.specs.Octets.{AreOctets};
 ghost use Rattle.jt_layout.specs.Layout.{Part, times, to_the_end};
 ghost use Rattle.jt_layout.specs.Reading.{Gives};
@@ -25,10 +26,11 @@ pub trait Element: Drop {
         ensures octets { reader.new.octets ≡ reader.old.octets }
         ensures onward { OnOk result (reader.old.place < reader.new.place) };
 
-    /// Writes the value, of which the layout has octets.
+    /// Writes the value, of which the layout has octets. After Memory what was written before still stands in front.
     fn write(&self, alloc: Global, writer: &mut Writer) -> Result<(), Memory>
         requires { layout.Fits self.now }
-        ensures { OnOk result (writer.new ≡ writer.old ++ layout.spell self.now) };
+        ensures octets { OnOk result (writer.new ≡ writer.old ++ layout.spell self.now) }
+        ensures kept { StartsWith writer.new writer.old };
 }
 
 impl Element for u16 {
@@ -121,10 +123,11 @@ impl<'a> Reader<'a> {
 }
 
 impl Writer {
-    /// Writes elements one after the other.
+    /// Writes elements one after the other. After Memory what was written before still stands in front.
     pub fn list<T: Element>(&mut self, alloc: Global, list: &[T]) -> Result<(), Memory>
         requires { AllByRecursion T.layout.Fits list.now }
-        ensures { OnOk result (self.new ≡ self.old ++ flat_map T.layout.spell list.now) }
+        ensures octets { OnOk result (self.new ≡ self.old ++ flat_map T.layout.spell list.now) }
+        ensures kept { StartsWith self.new self.old }
     {
         for element in list {
             element.write(alloc, self)?;

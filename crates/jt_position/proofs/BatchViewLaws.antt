@@ -1,6 +1,6 @@
 -- What is left of a batch's positions as they are taken one by one.
-use Rattle.std.proofs.Common.{◌≡◌, ℕ, ◌-◌, ◌<◌, zero, suc, List, [], ◌∷◌, length, Option, Some, None, Result, Ok, Err, IsTrue, is_ok, refl, sym, ap, ◌∙◌, arith, rules}
-use Rattle.std.specs.Iterator.{YieldsFirstBy, MakesProgress, item_count}
+use Rattle.std.proofs.Common.{◌≡◌, ℕ, ◌-◌, ◌<◌, zero, suc, List, [], ◌∷◌, length, Option, Result, Ok, Err, IsTrue, is_ok, refl, sym, ap, ◌∙◌, arith}
+use Rattle.std.specs.Iterator.{YieldsFirstBy}
 use Rattle.std.specs.Result.{result_unwrap_or, result_ok}
 use Rattle.jt_value.specs.declared.refusal.Refusal.{Refusal}
 use Rattle.jt_layout.specs.Layout.{◌>>=◌, Reading, read_times, sized, word}

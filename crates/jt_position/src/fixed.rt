@@ -1,6 +1,7 @@
 //! What every position has.
 
 ghost use Rattle.std.specs.Prelude.{◌≡◌, ◌++◌, length, IsTrue, OnOk};
+ghost use Rattle.std.specs.Io.{StartsWith};
 ghost use Rattle.jt_layout.specs.Reading.{Finds};
 ghost use Rattle.jt_position.specs.Positions.{fixed};
 
@@ -77,7 +78,8 @@ impl Fixed {
     }
 
     pub(crate) fn write(&self, writer: &mut Writer) -> Result<(), Memory>
-        ensures { OnOk result (writer.new ≡ writer.old ++ fixed.spell self.now) }
+        ensures octets { OnOk result (writer.new ≡ writer.old ++ fixed.spell self.now) }
+        ensures kept { StartsWith writer.new writer.old }
     {
         writer.dword(self.alarm)?;
         writer.dword(self.status)?;

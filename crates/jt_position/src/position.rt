@@ -1,6 +1,7 @@
 //! Positions.
 
 ghost use Rattle.std.specs.Prelude.{◌≡◌, ◌<◌, ◌≤◌, ◌^◌, ◌↔◌, ◌++◌, length, IsTrue, IfOk, OnOk};
+ghost use Rattle.std.specs.Io.{StartsWith};
 ghost use Rattle.jt_layout.specs.Answer.{Answers, IsOneToOne};
 ghost use Rattle.jt_layout.specs.Reading.{Gives};
 ghost use Rattle.jt_position.specs.Positions as layouts;
@@ -64,11 +65,13 @@ impl Position {
         Ok(Position { fixed, items })
     }
 
-    /// Writes a position of which the table has octets behind what is written already.
+    /// Writes a position of which the table has octets behind what is written already, which still stands in front after
+    /// Memory.
     #[tactic(auto, using(std::proofs::Common::append_assoc), unfolding(crate::specs::Positions::position))]
     pub fn write_to(&self, alloc: Global, writer: &mut Writer) -> Result<(), Memory>
         requires { position.Fits self.now }
-        ensures { OnOk result (writer.new ≡ writer.old ++ position.spell self.now) }
+        ensures octets { OnOk result (writer.new ≡ writer.old ++ position.spell self.now) }
+        ensures kept { StartsWith writer.new writer.old }
     {
         self.fixed.write(writer)?;
         writer.list(alloc, self.items.as_slice())

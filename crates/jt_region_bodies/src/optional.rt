@@ -1,6 +1,7 @@
 //! Fields that are there only if a bit of an attribute is set.
 
 ghost use Rattle.std.specs.Prelude.{◌≡◌, ◌≤◌, ◌↔◌, ◌++◌, IsTrue, OnOk};
+ghost use Rattle.std.specs.Io.{StartsWith};
 ghost use Rattle.jt_layout.specs.Reading.{Finds};
 ghost use Rattle.jt_region_bodies.specs.Regions.{bit, times_of, limit_of, thresholds_of};
 
@@ -42,7 +43,8 @@ pub fn write_times(
     times: &Option<[u8; 12]>,
 ) -> Result<(), Memory>
     requires { (times_of attribute).Fits times.now }
-    ensures { OnOk result (writer.new ≡ writer.old ++ (times_of attribute).spell times.now) }
+    ensures octets { OnOk result (writer.new ≡ writer.old ++ (times_of attribute).spell times.now) }
+    ensures kept { StartsWith writer.new writer.old }
 {
     let _there = bit_0(attribute);
     match times {
@@ -79,7 +81,8 @@ pub fn read_limit(reader: &mut Reader<'_>, attribute: u16) -> Result<Option<Limi
 #[tactic(auto, using(std::proofs::Common::append_assoc), unfolding(jt_layout::specs::Layout::only_if, crate::specs::Regions::limit))]
 pub fn write_limit(writer: &mut Writer, attribute: u16, limit: &Option<Limit>) -> Result<(), Memory>
     requires { (limit_of attribute).Fits limit.now }
-    ensures { OnOk result (writer.new ≡ writer.old ++ (limit_of attribute).spell limit.now) }
+    ensures octets { OnOk result (writer.new ≡ writer.old ++ (limit_of attribute).spell limit.now) }
+    ensures kept { StartsWith writer.new writer.old }
 {
     let _there = bit_1(attribute);
     match limit {
@@ -130,7 +133,8 @@ pub fn write_thresholds(
     thresholds: &Option<(u16, u16)>,
 ) -> Result<(), Memory>
     requires { (thresholds_of attribute).Fits thresholds.now }
-    ensures { OnOk result (writer.new ≡ writer.old ++ (thresholds_of attribute).spell thresholds.now) }
+    ensures octets { OnOk result (writer.new ≡ writer.old ++ (thresholds_of attribute).spell thresholds.now) }
+    ensures kept { StartsWith writer.new writer.old }
 {
     let _there = bit_0(attribute);
     match thresholds {
