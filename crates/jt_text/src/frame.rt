@@ -2,6 +2,7 @@
 
 ghost use Rattle.std.specs.Prelude.{◌≡◌, ◌+◌, ◌≤◌, ◌++◌, length, string_bytes, codes, IfOk, OnOk};
 ghost use Rattle.std.specs.Fmt.{decimal};
+ghost use Rattle.std.specs.Io.{StartsWith};
 ghost use Rattle.hex.specs.Hex.{encode_lower};
 ghost use Rattle.jt_value.specs.Phone.{field_of};
 ghost use Rattle.jt_text.specs.Frames.{bit15_text, frame_start, header_fields, packet_text, version_text, view_line, year};
@@ -192,7 +193,8 @@ pub fn push_message_line(
     message: &Message,
     body_len: u16,
 ) -> Result<(), AllocError>
-    ensures { OnOk result (string_bytes text.new ≡ string_bytes text.old ++ view_line place header.now message.now body_len) }
+    ensures text { OnOk result (string_bytes text.new ≡ string_bytes text.old ++ view_line place header.now message.now body_len) }
+    ensures kept { StartsWith (string_bytes text.new) (string_bytes text.old) }
 {
     line.clear();
     put_front(line, place, header, name(header, message), body_len);
@@ -203,7 +205,7 @@ pub fn push_message_line(
 }
 
 /// Puts the line of a frame at the end of a text, `place` being that of its opening flag and `body_len` the octets of its
-/// body.
+/// body. Where memory is refused, the text still begins with what it held, and a part of the line may stand behind it.
 pub fn push_view_line(
     text: &mut String,
     place: u64,
@@ -211,7 +213,8 @@ pub fn push_view_line(
     message: &Message,
     body_len: u16,
 ) -> Result<(), AllocError>
-    ensures { OnOk result (string_bytes text.new ≡ string_bytes text.old ++ view_line place header.now message.now body_len) }
+    ensures text { OnOk result (string_bytes text.new ≡ string_bytes text.old ++ view_line place header.now message.now body_len) }
+    ensures kept { StartsWith (string_bytes text.new) (string_bytes text.old) }
 {
     push_message_line(text, &mut Line::new(), place, header, message, body_len)
 }

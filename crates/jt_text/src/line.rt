@@ -2,6 +2,7 @@
 
 ghost use Rattle.std.specs.Prelude.{◌≡◌, ◌+◌, ◌*◌, ◌/◌, ◌%◌, ◌≤◌, ◌++◌, [], length, drop, slice_index, string_bytes, OnOk};
 ghost use Rattle.std.specs.Fmt.{decimal};
+ghost use Rattle.std.specs.Io.{StartsWith};
 ghost use Rattle.hex.specs.Hex.{encode_lower, lower_digits};
 ghost use Rattle.jt_text.specs.Values.{byte_digits};
 
@@ -195,7 +196,8 @@ impl Line {
     // The text at the end of another.
     #[inline(always)]
     pub(crate) fn push_to(&self, text: &mut String) -> Result<(), AllocError>
-        ensures { OnOk result (string_bytes text.new ≡ string_bytes text.old ++ self.now) }
+        ensures text { OnOk result (string_bytes text.new ≡ string_bytes text.old ++ self.now) }
+        ensures kept { StartsWith (string_bytes text.new) (string_bytes text.old) }
     {
         push_text(text, &self.octets[self.start..])
     }

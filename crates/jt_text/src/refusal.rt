@@ -1,6 +1,7 @@
 //! The lines of refusals.
 
 ghost use Rattle.std.specs.Prelude.{◌≡◌, ◌+◌, ◌≤◌, ◌++◌, length, string_bytes, IfOk, OnOk};
+ghost use Rattle.std.specs.Io.{StartsWith};
 ghost use Rattle.jt_text.specs.Refusals.{refusal_line, why_name, why_values};
 
 use crate::line::Line;
@@ -68,16 +69,19 @@ pub fn push_refusal_line_with(
     line: &mut Line,
     refusal: &Refusal,
 ) -> Result<(), AllocError>
-    ensures { OnOk result (string_bytes text.new ≡ string_bytes text.old ++ refusal_line refusal.now) }
+    ensures text { OnOk result (string_bytes text.new ≡ string_bytes text.old ++ refusal_line refusal.now) }
+    ensures kept { StartsWith (string_bytes text.new) (string_bytes text.old) }
 {
     line.clear();
     put_refusal(line, refusal);
     line.push_to(text)
 }
 
-/// Puts the line of a refusal at the end of a text: its place, its offset and its reason.
+/// Puts the line of a refusal at the end of a text: its place, its offset and its reason. Where memory is refused, the text
+/// still begins with what it held.
 pub fn push_refusal_line(text: &mut String, refusal: &Refusal) -> Result<(), AllocError>
-    ensures { OnOk result (string_bytes text.new ≡ string_bytes text.old ++ refusal_line refusal.now) }
+    ensures text { OnOk result (string_bytes text.new ≡ string_bytes text.old ++ refusal_line refusal.now) }
+    ensures kept { StartsWith (string_bytes text.new) (string_bytes text.old) }
 {
     push_refusal_line_with(text, &mut Line::new(), refusal)
 }

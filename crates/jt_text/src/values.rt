@@ -3,6 +3,7 @@
 ghost use Rattle.std.specs.Prelude.{◌≡◌, ◌≤◌, ◌++◌, length, string_bytes, OnOk};
 ghost use Rattle.std.specs.Fmt.{decimal};
 ghost use Rattle.std.specs.Str.{IsUtf8};
+ghost use Rattle.std.specs.Io.{StartsWith};
 ghost use Rattle.hex.specs.Hex.{encode_lower};
 ghost use Rattle.jt_text.specs.Values.{octets_text};
 
@@ -23,7 +24,8 @@ const BEHIND_NAME: usize = HALF_ROOM - NAME / 2;
 #[inline(always)]
 pub(crate) fn push_text(text: &mut String, octets: &[u8]) -> Result<(), AllocError>
     requires { IsUtf8 octets.now }
-    ensures { OnOk result (string_bytes text.new ≡ string_bytes text.old ++ octets.now) }
+    ensures text { OnOk result (string_bytes text.new ≡ string_bytes text.old ++ octets.now) }
+    ensures kept { StartsWith (string_bytes text.new) (string_bytes text.old) }
 {
     // SAFETY: the octets are UTF-8, as is required.
     text.push_str(unsafe { str::from_utf8_unchecked(octets) })
@@ -31,7 +33,8 @@ pub(crate) fn push_text(text: &mut String, octets: &[u8]) -> Result<(), AllocErr
 
 // Lower-case hexadecimal digits, two an octet, a room full of them at a time.
 fn push_hex(text: &mut String, line: &mut Line, octets: &[u8]) -> Result<(), AllocError>
-    ensures { OnOk result (string_bytes text.new ≡ string_bytes text.old ++ encode_lower octets.now) }
+    ensures text { OnOk result (string_bytes text.new ≡ string_bytes text.old ++ encode_lower octets.now) }
+    ensures kept { StartsWith (string_bytes text.new) (string_bytes text.old) }
 {
     let mut left = octets;
     while !left.is_empty() {
@@ -48,7 +51,8 @@ fn push_hex(text: &mut String, line: &mut Line, octets: &[u8]) -> Result<(), All
 #[inline(always)]
 fn push_named_number(text: &mut String, name: &str, number: u64) -> Result<(), AllocError>
     requires { length name.now ≤ 16 }
-    ensures { OnOk result (string_bytes text.new ≡ string_bytes text.old ++ (name.now ++ decimal number)) }
+    ensures text { OnOk result (string_bytes text.new ≡ string_bytes text.old ++ (name.now ++ decimal number)) }
+    ensures kept { StartsWith (string_bytes text.new) (string_bytes text.old) }
 {
     let mut room = [0; ROOM];
     let digits = write_digits(number, &mut room, ROOM);
@@ -60,7 +64,8 @@ fn push_named_number(text: &mut String, name: &str, number: u64) -> Result<(), A
 /// A number in decimal behind its name.
 #[inline(always)]
 pub(crate) fn push_number(text: &mut String, name: &str, number: u64) -> Result<(), AllocError>
-    ensures { OnOk result (string_bytes text.new ≡ string_bytes text.old ++ (name.now ++ decimal number)) }
+    ensures text { OnOk result (string_bytes text.new ≡ string_bytes text.old ++ (name.now ++ decimal number)) }
+    ensures kept { StartsWith (string_bytes text.new) (string_bytes text.old) }
 {
     if name.len() <= NAME {
         return push_named_number(text, name, number);
@@ -77,7 +82,8 @@ pub(crate) fn push_digits(
     name: &str,
     octets: &[u8],
 ) -> Result<(), AllocError>
-    ensures { OnOk result (string_bytes text.new ≡ string_bytes text.old ++ (name.now ++ encode_lower octets.now)) }
+    ensures text { OnOk result (string_bytes text.new ≡ string_bytes text.old ++ (name.now ++ encode_lower octets.now)) }
+    ensures kept { StartsWith (string_bytes text.new) (string_bytes text.old) }
 {
     if name.len() <= NAME && octets.len() <= BEHIND_NAME {
         line.clear();
@@ -96,7 +102,8 @@ pub(crate) fn push_octets(
     name: &str,
     octets: &[u8],
 ) -> Result<(), AllocError>
-    ensures { OnOk result (string_bytes text.new ≡ string_bytes text.old ++ (name.now ++ octets_text octets.now)) }
+    ensures text { OnOk result (string_bytes text.new ≡ string_bytes text.old ++ (name.now ++ octets_text octets.now)) }
+    ensures kept { StartsWith (string_bytes text.new) (string_bytes text.old) }
 {
     if octets.is_empty() {
         text.push_str(name)?;

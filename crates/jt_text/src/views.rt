@@ -1,6 +1,7 @@
 //! The lines of frames whose messages are read in place.
 
 ghost use Rattle.std.specs.Prelude.{◌≡◌, ℕ, ◌≤◌, ◌++◌, length, string_bytes, codes, OnOk};
+ghost use Rattle.std.specs.Io.{StartsWith};
 ghost use Rattle.jt_codec.specs.declared.message.Message.TheVariants as message;
 ghost use Rattle.jt_codec.specs.Viewing.{viewed};
 ghost use Rattle.jt_text.specs.Fields.{ack_fields};
@@ -28,8 +29,9 @@ fn push_behind_front(
 ) -> Result<(), AllocError>
     requires line { length line.old ≤ 230 }
     requires name { length name.now ≤ 17 }
-    ensures { OnOk result (string_bytes text.new ≡ string_bytes text.old
+    ensures text { OnOk result (string_bytes text.new ≡ string_bytes text.old
         ++ (frame_start place header.now name.now ++ (header_fields header.now body_len ++ line.old))) }
+    ensures kept { StartsWith (string_bytes text.new) (string_bytes text.old) }
 {
     put_front(line, place, header, name, body_len);
     line.push_to(text)
@@ -44,7 +46,8 @@ fn push_heartbeat_line(
     header: &Header,
     body_len: u16,
 ) -> Result<(), AllocError>
-    ensures { OnOk result (string_bytes text.new ≡ string_bytes text.old ++ view_line place header.now message.Heartbeat body_len) }
+    ensures text { OnOk result (string_bytes text.new ≡ string_bytes text.old ++ view_line place header.now message.Heartbeat body_len) }
+    ensures kept { StartsWith (string_bytes text.new) (string_bytes text.old) }
 {
     line.clear();
     line.put_str("\n");
@@ -72,8 +75,9 @@ fn push_position_line(
     view: PositionView<'_>,
     body_len: u16,
 ) -> Result<(), AllocError>
-    ensures { OnOk result (string_bytes text.new ≡ string_bytes text.old
+    ensures text { OnOk result (string_bytes text.new ≡ string_bytes text.old
         ++ view_line place header.now (message.Position (record { fixed = view.entry.fixed; items = view.entry.items })) body_len) }
+    ensures kept { StartsWith (string_bytes text.new) (string_bytes text.old) }
 {
     line.clear();
     put_fixed(line, &view.fixed);
@@ -92,8 +96,9 @@ fn push_batch_line(
     view: BatchView<'_>,
     body_len: u16,
 ) -> Result<(), AllocError>
-    ensures { OnOk result (string_bytes text.new ≡ string_bytes text.old
+    ensures text { OnOk result (string_bytes text.new ≡ string_bytes text.old
         ++ view_line place header.now (message.Batch (record { kind = view.entry.kind; fixes = view.entry.fixes })) body_len) }
+    ensures kept { StartsWith (string_bytes text.new) (string_bytes text.old) }
 {
     line.clear();
     line.put_named_number(" kind=", view.kind as u64);
@@ -114,7 +119,8 @@ fn push_opaque_line(
     body: &[u8],
     body_len: u16,
 ) -> Result<(), AllocError>
-    ensures { (id : ℕ) → OnOk result (string_bytes text.new ≡ string_bytes text.old ++ view_line place header.now (message.Opaque id body.now) body_len) }
+    ensures text { (id : ℕ) → OnOk result (string_bytes text.new ≡ string_bytes text.old ++ view_line place header.now (message.Opaque id body.now) body_len) }
+    ensures kept { StartsWith (string_bytes text.new) (string_bytes text.old) }
 {
     line.clear();
     push_behind_front(text, line, place, header, "opaque", body_len)?;
@@ -133,7 +139,8 @@ fn push_part_line(
     part: &[u8],
     body_len: u16,
 ) -> Result<(), AllocError>
-    ensures { OnOk result (string_bytes text.new ≡ string_bytes text.old ++ view_line place header.now (message.Part part.now) body_len) }
+    ensures text { OnOk result (string_bytes text.new ≡ string_bytes text.old ++ view_line place header.now (message.Part part.now) body_len) }
+    ensures kept { StartsWith (string_bytes text.new) (string_bytes text.old) }
 {
     line.clear();
     push_behind_front(text, line, place, header, id_name(header.id), body_len)?;
@@ -143,7 +150,7 @@ fn push_part_line(
 }
 
 /// Puts the line of a frame whose message is read in place at the end of a text, `place` being that of its opening flag and
-/// `body_len` the octets of its body. `line` is room that is used again.
+/// `body_len` the octets of its body, as `push_view_line` does. `line` is room that is used again.
 #[inline(always)]
 pub fn push_message_view_line(
     text: &mut String,
@@ -153,7 +160,8 @@ pub fn push_message_view_line(
     view: MessageView<'_>,
     body_len: u16,
 ) -> Result<(), AllocError>
-    ensures { OnOk result (string_bytes text.new ≡ string_bytes text.old ++ view_line place header.now (viewed view.entry) body_len) }
+    ensures text { OnOk result (string_bytes text.new ≡ string_bytes text.old ++ view_line place header.now (viewed view.entry) body_len) }
+    ensures kept { StartsWith (string_bytes text.new) (string_bytes text.old) }
 {
     match view {
         MessageView::Heartbeat => push_heartbeat_line(text, line, place, header, body_len),

@@ -7,6 +7,7 @@ mod regions;
 mod registration;
 
 ghost use Rattle.std.specs.Prelude.{◌≡◌, ◌+◌, ◌≤◌, ◌++◌, length, string_bytes, OnOk};
+ghost use Rattle.std.specs.Io.{StartsWith};
 ghost use Rattle.jt_text.specs.Fields.{ack_fields, fields_of};
 ghost use Rattle.jt_codec.specs.declared.message.Message.TheVariants as message;
 
@@ -43,7 +44,8 @@ fn push_ack(
     id: u16,
     answer: u8,
 ) -> Result<(), AllocError>
-    ensures { OnOk result (string_bytes text.new ≡ string_bytes text.old ++ ack_fields reply id answer) }
+    ensures text { OnOk result (string_bytes text.new ≡ string_bytes text.old ++ ack_fields reply id answer) }
+    ensures kept { StartsWith (string_bytes text.new) (string_bytes text.old) }
 {
     line.clear();
     put_ack(line, reply, id, answer);
@@ -57,7 +59,8 @@ fn push_position_reply(
     reply: u16,
     position: &Position,
 ) -> Result<(), AllocError>
-    ensures { OnOk result (string_bytes text.new ≡ string_bytes text.old ++ fields_of (message.PositionReply reply position.now)) }
+    ensures text { OnOk result (string_bytes text.new ≡ string_bytes text.old ++ fields_of (message.PositionReply reply position.now)) }
+    ensures kept { StartsWith (string_bytes text.new) (string_bytes text.old) }
 {
     push_number(text, " reply=", reply as u64)?;
     push_position(text, line, position)
@@ -70,7 +73,8 @@ fn push_params_reply(
     reply: u16,
     params: &[Param],
 ) -> Result<(), AllocError>
-    ensures { OnOk result (string_bytes text.new ≡ string_bytes text.old ++ fields_of (message.Params reply params.now)) }
+    ensures text { OnOk result (string_bytes text.new ≡ string_bytes text.old ++ fields_of (message.Params reply params.now)) }
+    ensures kept { StartsWith (string_bytes text.new) (string_bytes text.old) }
 {
     push_number(text, " reply=", reply as u64)?;
     push_params(text, line, params)
@@ -83,7 +87,8 @@ pub(crate) fn push_fields(
     line: &mut Line,
     message: &Message,
 ) -> Result<(), AllocError>
-    ensures { OnOk result (string_bytes text.new ≡ string_bytes text.old ++ fields_of message.now) }
+    ensures text { OnOk result (string_bytes text.new ≡ string_bytes text.old ++ fields_of message.now) }
+    ensures kept { StartsWith (string_bytes text.new) (string_bytes text.old) }
 {
     match message {
         Message::TerminalAck { reply, id, result } | Message::PlatformAck { reply, id, result } => {

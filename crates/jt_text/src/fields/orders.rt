@@ -1,6 +1,7 @@
 //! The fields of tracks, texts and orders.
 
 ghost use Rattle.std.specs.Prelude.{◌≡◌, ◌++◌, string_bytes, codes, OnOk};
+ghost use Rattle.std.specs.Io.{StartsWith};
 ghost use Rattle.jt_text.specs.OrderFields.{control_fields, kind_text, number_text, text_fields, track_fields};
 
 use crate::line::Line;
@@ -8,7 +9,8 @@ use crate::values::{push_number, push_octets};
 use std::alloc::AllocError;
 
 fn push_validity(text: &mut String, validity: Option<u32>) -> Result<(), AllocError>
-    ensures { OnOk result (string_bytes text.new ≡ string_bytes text.old ++ (codes " validity=" ++ number_text validity)) }
+    ensures text { OnOk result (string_bytes text.new ≡ string_bytes text.old ++ (codes " validity=" ++ number_text validity)) }
+    ensures kept { StartsWith (string_bytes text.new) (string_bytes text.old) }
 {
     match validity {
         None => text.push_str(" validity=-"),
@@ -22,7 +24,8 @@ pub(super) fn push_track(
     interval: u16,
     validity: Option<u32>,
 ) -> Result<(), AllocError>
-    ensures { OnOk result (string_bytes text.new ≡ string_bytes text.old ++ track_fields interval validity) }
+    ensures text { OnOk result (string_bytes text.new ≡ string_bytes text.old ++ track_fields interval validity) }
+    ensures kept { StartsWith (string_bytes text.new) (string_bytes text.old) }
 {
     push_number(text, " interval=", interval as u64)?;
     push_validity(text, validity)
@@ -30,7 +33,8 @@ pub(super) fn push_track(
 
 // The kind, which 2013 has not.
 fn push_kind(text: &mut String, kind: Option<u8>) -> Result<(), AllocError>
-    ensures { OnOk result (string_bytes text.new ≡ string_bytes text.old ++ kind_text kind) }
+    ensures text { OnOk result (string_bytes text.new ≡ string_bytes text.old ++ kind_text kind) }
+    ensures kept { StartsWith (string_bytes text.new) (string_bytes text.old) }
 {
     match kind {
         None => Ok(()),
@@ -46,7 +50,8 @@ pub(super) fn push_text(
     kind: Option<u8>,
     octets: &[u8],
 ) -> Result<(), AllocError>
-    ensures { OnOk result (string_bytes text.new ≡ string_bytes text.old ++ text_fields flag kind octets.now) }
+    ensures text { OnOk result (string_bytes text.new ≡ string_bytes text.old ++ text_fields flag kind octets.now) }
+    ensures kept { StartsWith (string_bytes text.new) (string_bytes text.old) }
 {
     push_number(text, " flag=", flag as u64)?;
     push_kind(text, kind)?;
@@ -60,7 +65,8 @@ pub(super) fn push_control(
     command: u8,
     octets: &[u8],
 ) -> Result<(), AllocError>
-    ensures { OnOk result (string_bytes text.new ≡ string_bytes text.old ++ control_fields command octets.now) }
+    ensures text { OnOk result (string_bytes text.new ≡ string_bytes text.old ++ control_fields command octets.now) }
+    ensures kept { StartsWith (string_bytes text.new) (string_bytes text.old) }
 {
     push_number(text, " command=", command as u64)?;
     push_octets(text, line, " text=", octets)

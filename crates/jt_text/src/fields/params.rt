@@ -2,6 +2,7 @@
 
 ghost use Rattle.std.specs.Prelude.{◌≡◌, ◌++◌, string_bytes, codes, OnOk};
 ghost use Rattle.std.specs.List.{flat_map};
+ghost use Rattle.std.specs.Io.{StartsWith};
 ghost use Rattle.jt_text.specs.ParamFields.{id_text, param_text, params_fields, query_some_fields, value_text};
 
 use crate::line::Line;
@@ -10,7 +11,8 @@ use jt_params::{Param, ParamValue};
 use std::alloc::AllocError;
 
 fn push_value(text: &mut String, line: &mut Line, value: &ParamValue) -> Result<(), AllocError>
-    ensures { OnOk result (string_bytes text.new ≡ string_bytes text.old ++ (codes ":" ++ value_text value.now)) }
+    ensures text { OnOk result (string_bytes text.new ≡ string_bytes text.old ++ (codes ":" ++ value_text value.now)) }
+    ensures kept { StartsWith (string_bytes text.new) (string_bytes text.old) }
 {
     match value {
         ParamValue::Byte(number) => push_number(text, ":", *number as u64),
@@ -24,14 +26,16 @@ fn push_value(text: &mut String, line: &mut Line, value: &ParamValue) -> Result<
 
 #[tactic(auto, using(std::proofs::Common::append_assoc), unfolding(crate::specs::ParamFields::param_text))]
 fn push_param(text: &mut String, line: &mut Line, param: &Param) -> Result<(), AllocError>
-    ensures { OnOk result (string_bytes text.new ≡ string_bytes text.old ++ param_text param.now) }
+    ensures text { OnOk result (string_bytes text.new ≡ string_bytes text.old ++ param_text param.now) }
+    ensures kept { StartsWith (string_bytes text.new) (string_bytes text.old) }
 {
     push_digits(text, line, " param=0x", param.id.to_be_bytes().as_slice())?;
     push_value(text, line, &param.value)
 }
 
 fn push_list(text: &mut String, line: &mut Line, params: &[Param]) -> Result<(), AllocError>
-    ensures { OnOk result (string_bytes text.new ≡ string_bytes text.old ++ flat_map param_text params.now) }
+    ensures text { OnOk result (string_bytes text.new ≡ string_bytes text.old ++ flat_map param_text params.now) }
+    ensures kept { StartsWith (string_bytes text.new) (string_bytes text.old) }
 {
     for param in params {
         push_param(text, line, param)?;
@@ -45,7 +49,8 @@ pub(super) fn push_params(
     line: &mut Line,
     params: &[Param],
 ) -> Result<(), AllocError>
-    ensures { OnOk result (string_bytes text.new ≡ string_bytes text.old ++ params_fields params.now) }
+    ensures text { OnOk result (string_bytes text.new ≡ string_bytes text.old ++ params_fields params.now) }
+    ensures kept { StartsWith (string_bytes text.new) (string_bytes text.old) }
 {
     push_number(text, " count=", params.len() as u64)?;
     push_list(text, line, params)
@@ -53,13 +58,15 @@ pub(super) fn push_params(
 
 #[tactic(auto, unfolding(crate::specs::ParamFields::id_text))]
 fn push_id(text: &mut String, line: &mut Line, id: u32) -> Result<(), AllocError>
-    ensures { OnOk result (string_bytes text.new ≡ string_bytes text.old ++ id_text id) }
+    ensures text { OnOk result (string_bytes text.new ≡ string_bytes text.old ++ id_text id) }
+    ensures kept { StartsWith (string_bytes text.new) (string_bytes text.old) }
 {
     push_digits(text, line, " id=0x", id.to_be_bytes().as_slice())
 }
 
 fn push_ids(text: &mut String, line: &mut Line, ids: &[u32]) -> Result<(), AllocError>
-    ensures { OnOk result (string_bytes text.new ≡ string_bytes text.old ++ flat_map id_text ids.now) }
+    ensures text { OnOk result (string_bytes text.new ≡ string_bytes text.old ++ flat_map id_text ids.now) }
+    ensures kept { StartsWith (string_bytes text.new) (string_bytes text.old) }
 {
     for id in ids {
         push_id(text, line, *id)?;
@@ -73,7 +80,8 @@ pub(super) fn push_query_some(
     line: &mut Line,
     ids: &[u32],
 ) -> Result<(), AllocError>
-    ensures { OnOk result (string_bytes text.new ≡ string_bytes text.old ++ query_some_fields ids.now) }
+    ensures text { OnOk result (string_bytes text.new ≡ string_bytes text.old ++ query_some_fields ids.now) }
+    ensures kept { StartsWith (string_bytes text.new) (string_bytes text.old) }
 {
     push_number(text, " count=", ids.len() as u64)?;
     push_ids(text, line, ids)

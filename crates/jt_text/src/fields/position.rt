@@ -3,6 +3,7 @@
 ghost use Rattle.std.specs.Prelude.{◌≡◌, ◌+◌, ◌≤◌, ◌++◌, length, string_bytes, codes, OnOk};
 ghost use Rattle.std.specs.List.{flat_map};
 ghost use Rattle.std.specs.Fmt.{decimal};
+ghost use Rattle.std.specs.Io.{StartsWith};
 ghost use Rattle.jt_position.specs.declared.item.Item.TheVariants as items;
 ghost use Rattle.jt_position.specs.BatchViews.{viewed_position};
 ghost use Rattle.jt_position.specs.Views.{owned};
@@ -13,9 +14,9 @@ ghost use Rattle.jt_text.specs.Values.{byte_digits};
 use crate::line::Line;
 use crate::times::names_moment;
 use crate::values::{push_digits, push_number, push_octets};
+use itoa::Buffer;
 use jt_position::{Batch, Fixed, Item, ItemView, Items, Position, PositionView, Positions};
 use std::alloc::AllocError;
-use std::fmt::Write;
 
 // Date and time of day are the digits of the octets.
 #[tactic(auto, using(std::proofs::Common::append_assoc), unfolding(crate::specs::Times::time_text))]
@@ -74,7 +75,8 @@ pub(crate) fn put_fixed(line: &mut Line, fixed: &Fixed)
 
 #[tactic(auto, using(std::proofs::Common::append_assoc), unfolding(crate::specs::PositionFields::item_text))]
 fn push_raw(text: &mut String, line: &mut Line, id: u8, value: &[u8]) -> Result<(), AllocError>
-    ensures { OnOk result (string_bytes text.new ≡ string_bytes text.old ++ item_text (items.Raw id value.now)) }
+    ensures text { OnOk result (string_bytes text.new ≡ string_bytes text.old ++ item_text (items.Raw id value.now)) }
+    ensures kept { StartsWith (string_bytes text.new) (string_bytes text.old) }
 {
     push_digits(text, line, " item=0x", &[id])?;
     push_octets(text, line, ":", value)
@@ -82,7 +84,8 @@ fn push_raw(text: &mut String, line: &mut Line, id: u8, value: &[u8]) -> Result<
 
 // An item of one number.
 fn push_one(text: &mut String, line: &mut Line, id: u8, number: u64) -> Result<(), AllocError>
-    ensures { OnOk result (string_bytes text.new ≡ string_bytes text.old ++ (codes " item=0x" ++ (byte_digits id ++ (codes ":" ++ decimal number)))) }
+    ensures text { OnOk result (string_bytes text.new ≡ string_bytes text.old ++ (codes " item=0x" ++ (byte_digits id ++ (codes ":" ++ decimal number)))) }
+    ensures kept { StartsWith (string_bytes text.new) (string_bytes text.old) }
 {
     line.clear();
     line.put_named_number(":", number);
@@ -108,7 +111,8 @@ fn push_overspeed(
     kind: u8,
     region: Option<u32>,
 ) -> Result<(), AllocError>
-    ensures { OnOk result (string_bytes text.new ≡ string_bytes text.old ++ item_text (items.Overspeed kind region)) }
+    ensures text { OnOk result (string_bytes text.new ≡ string_bytes text.old ++ item_text (items.Overspeed kind region)) }
+    ensures kept { StartsWith (string_bytes text.new) (string_bytes text.old) }
 {
     line.clear();
     put_region(line, region);
@@ -125,7 +129,8 @@ fn push_region_alarm(
     region: u32,
     direction: u8,
 ) -> Result<(), AllocError>
-    ensures { OnOk result (string_bytes text.new ≡ string_bytes text.old ++ item_text (items.RegionAlarm kind region direction)) }
+    ensures text { OnOk result (string_bytes text.new ≡ string_bytes text.old ++ item_text (items.RegionAlarm kind region direction)) }
+    ensures kept { StartsWith (string_bytes text.new) (string_bytes text.old) }
 {
     line.clear();
     line.put_named_number(":", direction as u64);
@@ -143,7 +148,8 @@ fn push_travel(
     seconds: u16,
     outcome: u8,
 ) -> Result<(), AllocError>
-    ensures { OnOk result (string_bytes text.new ≡ string_bytes text.old ++ item_text (items.Travel segment seconds outcome)) }
+    ensures text { OnOk result (string_bytes text.new ≡ string_bytes text.old ++ item_text (items.Travel segment seconds outcome)) }
+    ensures kept { StartsWith (string_bytes text.new) (string_bytes text.old) }
 {
     line.clear();
     line.put_named_number(":", outcome as u64);
@@ -155,7 +161,8 @@ fn push_travel(
 
 #[tactic(auto, unfolding(crate::specs::PositionFields::item_text, jt_position::specs::Views::owned, hex::specs::Hex::encode_with))]
 fn push_item(text: &mut String, line: &mut Line, item: &ItemView<'_>) -> Result<(), AllocError>
-    ensures { OnOk result (string_bytes text.new ≡ string_bytes text.old ++ item_text (owned item.now)) }
+    ensures text { OnOk result (string_bytes text.new ≡ string_bytes text.old ++ item_text (owned item.now)) }
+    ensures kept { StartsWith (string_bytes text.new) (string_bytes text.old) }
 {
     match item {
         ItemView::Mileage(distance) => push_one(text, line, 0x01, *distance as u64),
@@ -189,7 +196,8 @@ pub(crate) fn push_item_views(
     line: &mut Line,
     items: Items<'_>,
 ) -> Result<(), AllocError>
-    ensures { OnOk result (string_bytes text.new ≡ string_bytes text.old ++ flat_map item_text items.entry) }
+    ensures text { OnOk result (string_bytes text.new ≡ string_bytes text.old ++ flat_map item_text items.entry) }
+    ensures kept { StartsWith (string_bytes text.new) (string_bytes text.old) }
 {
     for item in items {
         push_item(text, line, &item)?;
@@ -203,7 +211,8 @@ fn push_position_view(
     line: &mut Line,
     view: PositionView<'_>,
 ) -> Result<(), AllocError>
-    ensures { OnOk result (string_bytes text.new ≡ string_bytes text.old ++ batch_item_text (viewed_position view.entry)) }
+    ensures text { OnOk result (string_bytes text.new ≡ string_bytes text.old ++ batch_item_text (viewed_position view.entry)) }
+    ensures kept { StartsWith (string_bytes text.new) (string_bytes text.old) }
 {
     line.clear();
     put_fixed(line, &view.fixed);
@@ -218,7 +227,8 @@ pub(crate) fn push_position_views(
     line: &mut Line,
     positions: Positions<'_>,
 ) -> Result<(), AllocError>
-    ensures { OnOk result (string_bytes text.new ≡ string_bytes text.old ++ flat_map batch_item_text positions.entry) }
+    ensures text { OnOk result (string_bytes text.new ≡ string_bytes text.old ++ flat_map batch_item_text positions.entry) }
+    ensures kept { StartsWith (string_bytes text.new) (string_bytes text.old) }
 {
     for view in positions {
         push_position_view(text, line, view)?;
@@ -271,7 +281,8 @@ fn view_of(item: &Item) -> ItemView<'_>
 }
 
 fn push_items(text: &mut String, line: &mut Line, items: &[Item]) -> Result<(), AllocError>
-    ensures { OnOk result (string_bytes text.new ≡ string_bytes text.old ++ flat_map item_text items.now) }
+    ensures text { OnOk result (string_bytes text.new ≡ string_bytes text.old ++ flat_map item_text items.now) }
+    ensures kept { StartsWith (string_bytes text.new) (string_bytes text.old) }
 {
     for item in items {
         push_item(text, line, &view_of(item))?;
@@ -285,7 +296,8 @@ pub(super) fn push_position(
     line: &mut Line,
     position: &Position,
 ) -> Result<(), AllocError>
-    ensures { OnOk result (string_bytes text.new ≡ string_bytes text.old ++ position_fields position.now) }
+    ensures text { OnOk result (string_bytes text.new ≡ string_bytes text.old ++ position_fields position.now) }
+    ensures kept { StartsWith (string_bytes text.new) (string_bytes text.old) }
 {
     line.clear();
     put_fixed(line, &position.fixed);
@@ -299,10 +311,11 @@ fn push_batch_item(
     line: &mut Line,
     position: &Position,
 ) -> Result<(), AllocError>
-    ensures { OnOk result (string_bytes text.new ≡ string_bytes text.old ++ batch_item_text position.now) }
+    ensures text { OnOk result (string_bytes text.new ≡ string_bytes text.old ++ batch_item_text position.now) }
+    ensures kept { StartsWith (string_bytes text.new) (string_bytes text.old) }
 {
-    let size = position.size();
-    write!(text, " length={size}")?;
+    text.push_str(" length=")?;
+    text.push_str(Buffer::new().format(position.size()))?;
     push_position(text, line, position)
 }
 
@@ -311,7 +324,8 @@ fn push_batch_items(
     line: &mut Line,
     fixes: &[Position],
 ) -> Result<(), AllocError>
-    ensures { OnOk result (string_bytes text.new ≡ string_bytes text.old ++ flat_map batch_item_text fixes.now) }
+    ensures text { OnOk result (string_bytes text.new ≡ string_bytes text.old ++ flat_map batch_item_text fixes.now) }
+    ensures kept { StartsWith (string_bytes text.new) (string_bytes text.old) }
 {
     for position in fixes {
         push_batch_item(text, line, position)?;
@@ -325,7 +339,8 @@ pub(super) fn push_batch(
     line: &mut Line,
     batch: &Batch,
 ) -> Result<(), AllocError>
-    ensures { OnOk result (string_bytes text.new ≡ string_bytes text.old ++ batch_fields batch.now) }
+    ensures text { OnOk result (string_bytes text.new ≡ string_bytes text.old ++ batch_fields batch.now) }
+    ensures kept { StartsWith (string_bytes text.new) (string_bytes text.old) }
 {
     push_number(text, " count=", batch.fixes.len() as u64)?;
     push_number(text, " kind=", batch.kind as u64)?;

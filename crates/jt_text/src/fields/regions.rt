@@ -2,6 +2,7 @@
 
 ghost use Rattle.std.specs.Prelude.{◌≡◌, ℕ, List, ◌++◌, string_bytes, OnOk};
 ghost use Rattle.std.specs.List.{flat_map};
+ghost use Rattle.std.specs.Io.{StartsWith};
 ghost use Rattle.jt_text.specs.RegionFields.{circles_fields, deletion_fields, limit_text, point_place, polygon_fields, rectangles_fields, region_start, route_fields, thresholds_text, times_text};
 
 use crate::line::Line;
@@ -15,11 +16,13 @@ trait Shown {
 
     /// Puts the text of the value at the end of a text, behind a blank. `line` is room that is used again.
     fn push_to(&self, text: &mut String, line: &mut Line) -> Result<(), AllocError>
-        ensures { OnOk result (string_bytes text.new ≡ string_bytes text.old ++ shown self.now) };
+        ensures text { OnOk result (string_bytes text.new ≡ string_bytes text.old ++ shown self.now) }
+        ensures kept { StartsWith (string_bytes text.new) (string_bytes text.old) };
 }
 
 fn push_all<T: Shown>(text: &mut String, line: &mut Line, list: &[T]) -> Result<(), AllocError>
-    ensures { OnOk result (string_bytes text.new ≡ string_bytes text.old ++ flat_map T.shown list.now) }
+    ensures text { OnOk result (string_bytes text.new ≡ string_bytes text.old ++ flat_map T.shown list.now) }
+    ensures kept { StartsWith (string_bytes text.new) (string_bytes text.old) }
 {
     for item in list {
         item.push_to(text, line)?;
@@ -33,7 +36,8 @@ fn push_times(
     line: &mut Line,
     times: &Option<[u8; 12]>,
 ) -> Result<(), AllocError>
-    ensures { OnOk result (string_bytes text.new ≡ string_bytes text.old ++ times_text times.now) }
+    ensures text { OnOk result (string_bytes text.new ≡ string_bytes text.old ++ times_text times.now) }
+    ensures kept { StartsWith (string_bytes text.new) (string_bytes text.old) }
 {
     match times {
         None => text.push_str(":-:-"),
@@ -47,7 +51,8 @@ fn push_times(
 
 #[tactic(auto, using(std::proofs::Common::append_assoc))]
 fn push_limit(text: &mut String, limit: &Option<Limit>) -> Result<(), AllocError>
-    ensures { OnOk result (string_bytes text.new ≡ string_bytes text.old ++ limit_text limit.now) }
+    ensures text { OnOk result (string_bytes text.new ≡ string_bytes text.old ++ limit_text limit.now) }
+    ensures kept { StartsWith (string_bytes text.new) (string_bytes text.old) }
 {
     match limit {
         None => text.push_str(":-:-"),
@@ -60,7 +65,8 @@ fn push_limit(text: &mut String, limit: &Option<Limit>) -> Result<(), AllocError
 
 #[tactic(auto, using(std::proofs::Common::append_assoc))]
 fn push_thresholds(text: &mut String, thresholds: &Option<(u16, u16)>) -> Result<(), AllocError>
-    ensures { OnOk result (string_bytes text.new ≡ string_bytes text.old ++ thresholds_text thresholds.now) }
+    ensures text { OnOk result (string_bytes text.new ≡ string_bytes text.old ++ thresholds_text thresholds.now) }
+    ensures kept { StartsWith (string_bytes text.new) (string_bytes text.old) }
 {
     match thresholds {
         None => text.push_str(":-:-"),
@@ -80,7 +86,8 @@ fn push_start(
     id: u32,
     attribute: u16,
 ) -> Result<(), AllocError>
-    ensures { OnOk result (string_bytes text.new ≡ string_bytes text.old ++ (name.now ++ region_start id attribute)) }
+    ensures text { OnOk result (string_bytes text.new ≡ string_bytes text.old ++ (name.now ++ region_start id attribute)) }
+    ensures kept { StartsWith (string_bytes text.new) (string_bytes text.old) }
 {
     push_number(text, name, id as u64)?;
     push_digits(text, line, ":0x", attribute.to_be_bytes().as_slice())
@@ -136,7 +143,8 @@ impl Shown for Vertex {
 // The ids of a point and of its segment, and its place.
 #[tactic(auto, using(std::proofs::Common::append_assoc), unfolding(crate::specs::RegionFields::point_place))]
 fn push_point_place(text: &mut String, point: &RoutePoint) -> Result<(), AllocError>
-    ensures { OnOk result (string_bytes text.new ≡ string_bytes text.old ++ point_place point.now) }
+    ensures text { OnOk result (string_bytes text.new ≡ string_bytes text.old ++ point_place point.now) }
+    ensures kept { StartsWith (string_bytes text.new) (string_bytes text.old) }
 {
     push_number(text, " point=", point.point as u64)?;
     push_number(text, ":", point.segment as u64)?;
@@ -179,7 +187,8 @@ pub(super) fn push_circles(
     setting: u8,
     list: &[Circle],
 ) -> Result<(), AllocError>
-    ensures { OnOk result (string_bytes text.new ≡ string_bytes text.old ++ circles_fields setting list.now) }
+    ensures text { OnOk result (string_bytes text.new ≡ string_bytes text.old ++ circles_fields setting list.now) }
+    ensures kept { StartsWith (string_bytes text.new) (string_bytes text.old) }
 {
     push_number(text, " setting=", setting as u64)?;
     push_number(text, " count=", list.len() as u64)?;
@@ -193,7 +202,8 @@ pub(super) fn push_rectangles(
     setting: u8,
     list: &[Rectangle],
 ) -> Result<(), AllocError>
-    ensures { OnOk result (string_bytes text.new ≡ string_bytes text.old ++ rectangles_fields setting list.now) }
+    ensures text { OnOk result (string_bytes text.new ≡ string_bytes text.old ++ rectangles_fields setting list.now) }
+    ensures kept { StartsWith (string_bytes text.new) (string_bytes text.old) }
 {
     push_number(text, " setting=", setting as u64)?;
     push_number(text, " count=", list.len() as u64)?;
@@ -206,7 +216,8 @@ pub(super) fn push_polygon(
     line: &mut Line,
     polygon: &Polygon,
 ) -> Result<(), AllocError>
-    ensures { OnOk result (string_bytes text.new ≡ string_bytes text.old ++ polygon_fields polygon.now) }
+    ensures text { OnOk result (string_bytes text.new ≡ string_bytes text.old ++ polygon_fields polygon.now) }
+    ensures kept { StartsWith (string_bytes text.new) (string_bytes text.old) }
 {
     push_start(text, line, " polygon=", polygon.id, polygon.attribute)?;
     push_times(text, line, &polygon.times)?;
@@ -221,7 +232,8 @@ pub(super) fn push_route(
     line: &mut Line,
     route: &Route,
 ) -> Result<(), AllocError>
-    ensures { OnOk result (string_bytes text.new ≡ string_bytes text.old ++ route_fields route.now) }
+    ensures text { OnOk result (string_bytes text.new ≡ string_bytes text.old ++ route_fields route.now) }
+    ensures kept { StartsWith (string_bytes text.new) (string_bytes text.old) }
 {
     push_start(text, line, " route=", route.id, route.attribute)?;
     push_times(text, line, &route.times)?;
@@ -235,7 +247,8 @@ pub(super) fn push_deletion(
     line: &mut Line,
     ids: &[u32],
 ) -> Result<(), AllocError>
-    ensures { OnOk result (string_bytes text.new ≡ string_bytes text.old ++ deletion_fields ids.now) }
+    ensures text { OnOk result (string_bytes text.new ≡ string_bytes text.old ++ deletion_fields ids.now) }
+    ensures kept { StartsWith (string_bytes text.new) (string_bytes text.old) }
 {
     push_number(text, " count=", ids.len() as u64)?;
     push_all(text, line, ids)

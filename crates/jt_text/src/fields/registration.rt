@@ -1,6 +1,7 @@
 //! The fields of registrations, their replies and authentications.
 
 ghost use Rattle.std.specs.Prelude.{◌≡◌, ◌++◌, Some, string_bytes, OnOk};
+ghost use Rattle.std.specs.Io.{StartsWith};
 ghost use Rattle.jt_text.specs.RegistrationFields.{auth_fields, auth_text, code_text, register_fields, register_reply_fields};
 
 use crate::line::Line;
@@ -14,7 +15,8 @@ pub(super) fn push_register(
     line: &mut Line,
     register: &Register,
 ) -> Result<(), AllocError>
-    ensures { OnOk result (string_bytes text.new ≡ string_bytes text.old ++ register_fields register.now) }
+    ensures text { OnOk result (string_bytes text.new ≡ string_bytes text.old ++ register_fields register.now) }
+    ensures kept { StartsWith (string_bytes text.new) (string_bytes text.old) }
 {
     push_number(text, " province=", register.province as u64)?;
     push_number(text, " city=", register.city as u64)?;
@@ -27,7 +29,8 @@ pub(super) fn push_register(
 
 // The code, which only a result of 0 has.
 fn push_code(text: &mut String, line: &mut Line, answer: u8, code: &[u8]) -> Result<(), AllocError>
-    ensures { OnOk result (string_bytes text.new ≡ string_bytes text.old ++ code_text answer code.now) }
+    ensures text { OnOk result (string_bytes text.new ≡ string_bytes text.old ++ code_text answer code.now) }
+    ensures kept { StartsWith (string_bytes text.new) (string_bytes text.old) }
 {
     if answer == 0 {
         return push_octets(text, line, " code=", code);
@@ -41,7 +44,8 @@ pub(super) fn push_register_reply(
     line: &mut Line,
     reply: &RegisterReply,
 ) -> Result<(), AllocError>
-    ensures { OnOk result (string_bytes text.new ≡ string_bytes text.old ++ register_reply_fields reply.now) }
+    ensures text { OnOk result (string_bytes text.new ≡ string_bytes text.old ++ register_reply_fields reply.now) }
+    ensures kept { StartsWith (string_bytes text.new) (string_bytes text.old) }
 {
     push_number(text, " reply=", reply.reply as u64)?;
     push_number(text, " result=", reply.result as u64)?;
@@ -55,7 +59,8 @@ fn push_code_and_tail(
     code: &[u8],
     tail: &AuthTail,
 ) -> Result<(), AllocError>
-    ensures { OnOk result (string_bytes text.new ≡ string_bytes text.old ++ auth_text (Some tail.now) code.now) }
+    ensures text { OnOk result (string_bytes text.new ≡ string_bytes text.old ++ auth_text (Some tail.now) code.now) }
+    ensures kept { StartsWith (string_bytes text.new) (string_bytes text.old) }
 {
     push_number(text, " length=", code.len() as u64)?;
     push_octets(text, line, " code=", code)?;
@@ -65,7 +70,8 @@ fn push_code_and_tail(
 
 #[tactic(auto, unfolding(crate::specs::RegistrationFields::auth_fields))]
 pub(super) fn push_auth(text: &mut String, line: &mut Line, auth: &Auth) -> Result<(), AllocError>
-    ensures { OnOk result (string_bytes text.new ≡ string_bytes text.old ++ auth_fields auth.now) }
+    ensures text { OnOk result (string_bytes text.new ≡ string_bytes text.old ++ auth_fields auth.now) }
+    ensures kept { StartsWith (string_bytes text.new) (string_bytes text.old) }
 {
     match &auth.tail {
         None => push_octets(text, line, " code=", auth.code.as_slice()),

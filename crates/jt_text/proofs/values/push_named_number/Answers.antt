@@ -21,9 +21,9 @@ push_text-requires c =
     (omega (arith, short_number c.args.number (omega arith), c.write_digits-digits.ensures.start)) c.write_digits-digits.ensures.start (omega arith) c.write_digits-digits.ensures.written refl))
     (utf8_number c.args.name.now c.args.number c.utf8.name (omega arith))
 
-pub returns : goal.returns
-returns c =
+pub returns-clause-text : goal.returns-clause-text
+returns-clause-text c =
     subst (λ (put : List ℕ). OnOk c.push_text.result (string_bytes c.push_text.new.text ≡ string_bytes c.args.text.now ++ put))
     (number_behind c.args.name.now c.copy_from_slice.new.self c.write_digits-digits.new.buf _ c.args.number c.write_digits-digits.result 36 (rw c.as_bytes.ensures.value at c.copy_from_slice.ensures.after)
     (omega (arith, short_number c.args.number (omega arith), c.write_digits-digits.ensures.start)) c.write_digits-digits.ensures.start (omega arith) c.write_digits-digits.ensures.written refl)
-    c.push_text.ensures
+    c.push_text.ensures.text

@@ -25,7 +25,7 @@ returns-in-Some-clause-tells c =
     let refusal = c.in-Some.refusal in
     let only : checks.entry ≡ Some (Refused refusal) = only_entry checks.entry refusal (sym c.in-Some.is ∙ checks.refusal_is) in
     let brings = subst (λ (entry : Option Entry). Brings c.loop-at.tally c.judge.new.self (take c.in_ok-count.count (drop at octets)) entry) only checks.brings in
-    checking_last c.law_all_items.ensures.front _ _ _ octets at c.in_ok-count.count _ _ _ refusal c.loop-at.invariant brings c.in_ok-push_refusal_line-in-Some.ensures
+    checking_last c.law_all_items.ensures.front _ _ _ octets at c.in_ok-count.count _ _ _ refusal c.loop-at.invariant brings c.in_ok-push_refusal_line-in-Some.ensures.text
 
 pub returns-clause-tells : goal.returns-clause-tells
 returns-clause-tells c = checking_done _ _ _ _ _ _ c.loop-at.invariant (omega arith)

@@ -4,7 +4,7 @@ use Rattle.jt_view.proofs.telling.close_check.Goals as goal
 
 pub returns-in_ok-push_refusal_line-in-Some-clause-closes : goal.returns-in_ok-push_refusal_line-in-Some-clause-closes
 returns-in_ok-push_refusal_line-in-Some-clause-closes c =
-    closed_check_refused _ c.in-Some.refusal _ _ (λ octets counts. sym c.in-Some.is ∙ c.finish.ensures octets counts) c.in_ok-push_refusal_line-in-Some.ensures
+    closed_check_refused _ c.in-Some.refusal _ _ (λ octets counts. sym c.in-Some.is ∙ c.finish.ensures octets counts) c.in_ok-push_refusal_line-in-Some.ensures.text
 
 pub returns-in_ok-push_ok_line-in-None-clause-closes : goal.returns-in_ok-push_ok_line-in-None-clause-closes
 returns-in_ok-push_ok_line-in-None-clause-closes c =

@@ -3,6 +3,6 @@ use Rattle.std.proofs.lemmas.List.{append-nil}
 use Rattle.jt_text.specs.PositionFields.{item_text}
 use Rattle.jt_text.proofs.fields.position.push_overspeed.Goals as goal
 
-pub returns : goal.returns
+pub returns-clause-text : goal.returns-clause-text
 unfolding item_text
-returns c = rw (c.in_ok-push_to.ensures, c.put_named_number.ensures.text, c.put_region.ensures.text, c.clear.ensures) (simp (append_assoc, append-nil))
+returns-clause-text c = rw (c.in_ok-push_to.ensures.text, c.put_named_number.ensures.text, c.put_region.ensures.text, c.clear.ensures) (simp (append_assoc, append-nil))

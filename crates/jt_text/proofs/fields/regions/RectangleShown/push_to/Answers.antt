@@ -2,8 +2,8 @@ use Rattle.std.proofs.Common.{append_assoc}
 use Rattle.jt_text.specs.RegionFields.{rectangle_text}
 use Rattle.jt_text.proofs.fields.regions.RectangleShown.push_to.Goals as goal
 
-pub returns : goal.returns
+pub returns-clause-text : goal.returns-clause-text
 unfolding rectangle_text
-returns c =
-    rw (c.in_ok-push_limit.ensures, c.in_ok-push_times.ensures, c.in_ok-push_number-4.ensures, c.in_ok-push_number-3.ensures, c.in_ok-push_number-2.ensures, c.in_ok-push_number.ensures, c.in_ok-push_start.ensures)
+returns-clause-text c =
+    rw (c.in_ok-push_limit.ensures.text, c.in_ok-push_times.ensures.text, c.in_ok-push_number-4.ensures.text, c.in_ok-push_number-3.ensures.text, c.in_ok-push_number-2.ensures.text, c.in_ok-push_number.ensures.text, c.in_ok-push_start.ensures.text)
     (simp append_assoc)
