@@ -82,7 +82,8 @@ impl Element for Rectangle {
         writer.dword(self.bottom)?;
         writer.dword(self.right)?;
         write_times(writer, self.attribute, &self.times)?;
-        write_limit(writer, self.attribute, &self.limit)
+        write_limit(writer, self.attribute, &self.limit)?;
+        Ok(())
     }
 }
 
