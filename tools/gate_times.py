@@ -1,0 +1,127 @@
+#!/usr/bin/env python3
+"""Says where the time of the gate goes.
+
+    tools/gate_times.py record LOG    runs `rt ci` and writes what it prints, and the seconds of its processes, to LOG
+    tools/gate_times.py LOG           prints the table of crates from such a LOG, in seconds of one processor
+
+`rt ci` prints no times. So while it runs, its processes are looked at once a second: each names its crate, and whether it
+proves the crate, proves its tests or tries an edit. Lines that begin with 'time:' are added to what it prints.
+"""
+import os
+import re
+import subprocess
+import sys
+import threading
+import time
+
+TICKS = os.sysconf("SC_CLK_TCK")
+PARTS = ("proof", "tests", "edits")
+
+
+def read(path):
+    try:
+        with open(path, errors="replace") as file:
+            return file.read()
+    except OSError:
+        return ""
+
+
+def processes():
+    """Each process's parent and the seconds that it has used."""
+    found = {}
+    for pid in filter(str.isdigit, os.listdir("/proc")):
+        stat = read(f"/proc/{pid}/stat").rpartition(")")[2].split()
+        if len(stat) > 12:
+            found[int(pid)] = int(stat[1]), (int(stat[11]) + int(stat[12])) / TICKS
+    return found
+
+
+def below(pid, found):
+    """Whether a process is this one, or was started by it."""
+    while pid in found:
+        if pid == os.getpid():
+            return True
+        pid = found[pid][0]
+    return False
+
+
+def job_of(pid):
+    """The crate that a process works for, and at what: None where it works for none."""
+    words = read(f"/proc/{pid}/cmdline").split("\0")
+    if "--crate-name" not in words:
+        return None
+    crate = words[words.index("--crate-name") + 1]
+    try:
+        folder = os.readlink(f"/proc/{pid}/cwd")
+    except OSError:
+        return None
+    if "rt-edit-" in folder:
+        return crate, "edits"
+    return crate, "tests" if "--test" in words else "proof"
+
+
+def sample(used, jobs):
+    """Keeps the most seconds that each process was seen with, and what it works at."""
+    found = processes()
+    for pid, (parent, seconds) in found.items():
+        if not below(pid, found):
+            continue
+        job = job_of(pid) or jobs.get(parent)
+        if job:
+            jobs[pid] = job
+            used[pid] = max(used.get(pid, 0.0), seconds)
+
+
+def record(log):
+    began = time.monotonic()
+    ran = subprocess.Popen(["rt", "ci"], stdout=subprocess.PIPE, stderr=subprocess.STDOUT, text=True, errors="replace")
+    used, jobs = {}, {}
+
+    def watch():
+        while ran.poll() is None:
+            sample(used, jobs)
+            time.sleep(1)
+
+    watcher = threading.Thread(target=watch, daemon=True)
+    watcher.start()
+    with open(log, "w") as file:
+        for line in ran.stdout:
+            print(line, end="", file=file, flush=True)
+        status = ran.wait()
+        watcher.join()
+        totals = {}
+        for pid, seconds in used.items():
+            totals[jobs[pid]] = totals.get(jobs[pid], 0.0) + seconds
+        for (crate, part), seconds in sorted(totals.items()):
+            print(f"time: {crate} {part} {seconds:.0f}", file=file)
+        print(f"time: whole elapsed {time.monotonic() - began:.0f}", file=file)
+        print(*[it for it in read(log).splitlines() if it.endswith(" failed")][-1:], file=file)
+    return status
+
+
+def table(log):
+    rows, elapsed = {}, "?"
+    for crate, part, seconds in re.findall(r"(?m)^time: (\w+) (\w+) (\d+)$", read(log)):
+        if crate == "whole":
+            elapsed = int(seconds)
+        else:
+            rows.setdefault(crate, dict.fromkeys(PARTS, 0))[part] = int(seconds)
+    print("| Crate | Proof | Tests | Edits | All |\n|---|---|---|---|---|")
+    for crate, row in sorted(rows.items(), key=lambda it: -sum(it[1].values())):
+        print(f"| {crate} | {row['proof']} | {row['tests']} | {row['edits']} | {sum(row.values())} |")
+    sums = [sum(row[part] for row in rows.values()) for part in PARTS]
+    print(f"| all | {sums[0]} | {sums[1]} | {sums[2]} | {sum(sums)} |")
+    print(f"\nMinutes of one processor: {sum(sums) / 60:.0f}. Minutes by the clock: {elapsed / 60:.0f}." if rows else "no times in this log")
+
+
+def main(words):
+    if len(words) == 2 and words[0] == "record":
+        return record(words[1])
+    if len(words) == 1 and os.path.isfile(words[0]):
+        return table(words[0])
+    print(__doc__, file=sys.stderr)
+    return 2
+
+
+if __name__ == "__main__":
+    sys.exit(main(sys.argv[1:]))
