@@ -1,0 +1,11 @@
+//! Tests of the crates of the program, through their public calls.
+#![tactic(auto)]
+
+#[cfg(test)]
+mod cli;
+#[cfg(test)]
+mod cli_scripts;
+#[cfg(test)]
+mod view;
+#[cfg(test)]
+mod world;
