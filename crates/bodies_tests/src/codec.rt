@@ -1,51 +1,73 @@
-use jt_codec::{Message, MessageView, frame_into, judge_message, parse_frame, read_body, view_message, write_body};
+ghost use Rattle.std.specs.Prelude.{◌<◌, ◌≤◌, ◌^◌, length};
+
 use arrayvec::ArrayVec;
+use jt_codec::{
+    Message, MessageView, frame_into, judge_message, parse_frame, read_body, view_message,
+    write_body,
+};
 use jt_escape::{Split, Splitter};
 use jt_header::{Header, Packet};
 use jt_position::ItemView;
 use jt_value::{CodecError, Edition, Octets, Phone, Refusal, Why};
+use std::alloc::Global;
 use std::test::Fail;
 
-#[test]
-fn empty_bodies(rt: HostRuntime) -> Result<(), Fail> {
-    for edition in [Edition::E2013, Edition::E2019] {
-        for id in [0x0002, 0x0003, 0x8104, 0x8201] {
-            let message = read_body(rt.alloc(), edition, id, &[]).expect(&rt, "a body");
-            assert_eq!(rt; message.id(), Some(id));
-            assert!(rt; message.fits(edition));
-            let octets = write_body(rt.alloc(), edition, &message)?;
-            assert_eq!(rt; octets.as_slice(), [].as_slice());
-            let trailing = CodecError::Refused(Refusal {
-                at: 0,
-                inside: 0,
-                why: Why::Trailing,
-            });
-            assert_eq!(rt;
-                read_body(rt.alloc(), edition, id, &[7]).err(),
-                Some(trailing)
-            );
-        }
+// Whether this body is read under its id, as opaque octets or not, fits its edition, and is written back.
+fn is_kept(
+    alloc: Global,
+    edition: Edition,
+    id: u16,
+    body: &[u8],
+    opaque: bool,
+) -> Result<bool, CodecError> {
+    let message = read_body(alloc, edition, id, body)?;
+    if message.id() != Some(id) || !message.fits(edition) {
+        return Ok(false);
     }
-    Ok(())
+    let octets = write_body(alloc, edition, &message)?;
+    Ok(octets.as_slice() == body && matches!(&message, Message::Opaque { .. }) == opaque)
+}
+
+// Why this body is refused.
+fn refusal_of(alloc: Global, edition: Edition, id: u16, body: &[u8]) -> Option<Refusal> {
+    match read_body(alloc, edition, id, body) {
+        Err(CodecError::Refused(refusal)) => Some(refusal),
+        Err(CodecError::Memory) | Ok(_) => None,
+    }
+}
+
+fn refused(inside: u64, why: Why) -> Option<Refusal> {
+    Some(Refusal { at: 0, inside, why })
 }
 
 #[test]
-fn opaque_bodies(rt: HostRuntime) -> Result<(), Fail> {
+fn empty_bodies(rt: HostRuntime) {
+    for edition in [Edition::E2013, Edition::E2019] {
+        for id in [0x0002, 0x0003, 0x8104, 0x8201] {
+            assert_eq!(rt; is_kept(rt.alloc(), edition, id, &[], false), Ok(true));
+            assert_eq!(rt;
+                refusal_of(rt.alloc(), edition, id, &[7]),
+                refused(0, Why::Trailing)
+            );
+        }
+    }
+}
+
+#[test]
+fn opaque_bodies(rt: HostRuntime) {
     for id in [
         0x0000, 0x0100, 0x0102, 0x0FFF, 0x8003, 0x8300, 0x8600, 0x8606, 0xFFFF,
     ] {
-        let message = read_body(rt.alloc(), Edition::E2019, id, &[7, 9]).expect(&rt, "a body");
-        assert_eq!(rt; message.id(), Some(id));
-        assert!(rt; message.fits(Edition::E2019));
-        let octets = write_body(rt.alloc(), Edition::E2019, &message)?;
-        assert_eq!(rt; octets.as_slice(), [7, 9].as_slice());
+        assert_eq!(rt;
+            is_kept(rt.alloc(), Edition::E2019, id, &[7, 9], true),
+            Ok(true)
+        );
     }
     let known = Message::Opaque {
         id: 0x8201,
         body: Octets::new(rt.alloc()),
     };
     assert!(rt; !known.fits(Edition::E2013));
-    Ok(())
 }
 
 // The position of a fix at 20 degrees north, with a mileage of 10 (the standard's layout of 28 octets and an item).
@@ -68,7 +90,7 @@ const ROUTE: [u8; 45] =
     *b"\0\0\0\x05\0\x01\x24\x01\x01\0\0\0\x24\x01\x02\0\0\0\0\x01\0\0\0\x06\0\0\0\x07\x01\x31\x2D\0\x06\xBC\x3E\x40\x0A\x03\0\x3C\0\x1E\0\x50\x05";
 
 #[test]
-fn bodies_with_rows(rt: HostRuntime) -> Result<(), Fail> {
+fn bodies_with_rows(rt: HostRuntime) {
     let rows: [(u16, &[u8]); 28] = [
         (0x0001, b"\0\x07\x81\x03\x02"),
         (0x8001, b"\xFF\xFF\0\x02\xFF"),
@@ -109,71 +131,65 @@ fn bodies_with_rows(rt: HostRuntime) -> Result<(), Fail> {
         (0x8607, b"\x02\0\0\0\x07\0\0\x01\0"),
     ];
     for (id, body) in rows {
-        let message = read_body(rt.alloc(), Edition::E2013, id, body).expect(&rt, "a body");
-        assert_eq!(rt; message.id(), Some(id));
-        assert!(rt; message.fits(Edition::E2013));
-        assert!(rt; !matches!(&message, Message::Opaque { .. }));
-        let octets = write_body(rt.alloc(), Edition::E2013, &message)?;
-        assert_eq!(rt; octets.as_slice(), body);
-    }
-    Ok(())
-}
-
-#[test]
-fn responses(rt: HostRuntime) -> Result<(), Fail> {
-    let body = [0, 7, 0x81, 0x03, 2];
-    let terminal = read_body(rt.alloc(), Edition::E2019, 0x0001, &body).expect(&rt, "a body");
-    let same = matches!(
-        &terminal,
-        Message::TerminalAck {
-            reply: 7,
-            id: 0x8103,
-            result: 2
-        }
-    );
-    assert!(rt; same);
-    let platform = read_body(rt.alloc(), Edition::E2019, 0x8001, &body).expect(&rt, "a body");
-    let same = matches!(
-        &platform,
-        Message::PlatformAck {
-            reply: 7,
-            id: 0x8103,
-            result: 2
-        }
-    );
-    assert!(rt; same);
-    Ok(())
-}
-
-#[test]
-fn tracks(rt: HostRuntime) -> Result<(), Fail> {
-    for (body, interval, validity) in [
-        (b"\0\0".as_slice(), 0, None),
-        (b"\0\0\0\0\0\x09".as_slice(), 0, Some(9)),
-        (b"\0\x05\0\0\x02\x58".as_slice(), 5, Some(600)),
-    ] {
-        let message = read_body(rt.alloc(), Edition::E2019, 0x8202, body).expect(&rt, "a body");
-        let Message::Track {
-            interval: read_interval,
-            validity: read_validity,
-        } = message
-        else {
-            return Err(Fail::new("no track"));
-        };
-        assert_eq!(rt; read_interval, interval);
-        assert_eq!(rt; read_validity, validity);
-    }
-    for (body, inside, why) in [
-        (b"\0\x05".as_slice(), 2, Why::Truncated),
-        (b"\0\x05\0\0\x02".as_slice(), 2, Why::Truncated),
-        (b"\0\0\0".as_slice(), 2, Why::Truncated),
-        (b"\0".as_slice(), 0, Why::Truncated),
-        (b"\0\0\0\0\0\x09\x01".as_slice(), 6, Why::Trailing),
-    ] {
-        let refusal = CodecError::Refused(Refusal { at: 0, inside, why });
         assert_eq!(rt;
-            read_body(rt.alloc(), Edition::E2013, 0x8202, body).err(),
-            Some(refusal)
+            is_kept(rt.alloc(), Edition::E2013, id, body, false),
+            Ok(true)
+        );
+    }
+}
+
+#[test]
+fn responses(rt: HostRuntime) {
+    let body = [0, 7, 0x81, 0x03, 2];
+    let terminal = matches!(
+        &read_body(rt.alloc(), Edition::E2019, 0x0001, &body),
+        Ok(Message::TerminalAck {
+            reply: 7,
+            id: 0x8103,
+            result: 2
+        })
+    );
+    assert!(rt; terminal);
+    let platform = matches!(
+        &read_body(rt.alloc(), Edition::E2019, 0x8001, &body),
+        Ok(Message::PlatformAck {
+            reply: 7,
+            id: 0x8103,
+            result: 2
+        })
+    );
+    assert!(rt; platform);
+}
+
+// Whether this body is a track of this interval and validity.
+fn is_track(alloc: Global, body: &[u8], seconds: u16, end: Option<u32>) -> bool {
+    matches!(
+        &read_body(alloc, Edition::E2019, 0x8202, body),
+        Ok(Message::Track { interval, validity }) if *interval == seconds && *validity == end
+    )
+}
+
+#[test]
+fn tracks(rt: HostRuntime) {
+    let rows: [(&[u8], u16, Option<u32>); 3] = [
+        (b"\0\0", 0, None),
+        (b"\0\0\0\0\0\x09", 0, Some(9)),
+        (b"\0\x05\0\0\x02\x58", 5, Some(600)),
+    ];
+    for (body, interval, validity) in rows {
+        assert!(rt; is_track(rt.alloc(), body, interval, validity));
+    }
+    let rows: [(&[u8], u64, Why); 5] = [
+        (b"\0\x05", 2, Why::Truncated),
+        (b"\0\x05\0\0\x02", 2, Why::Truncated),
+        (b"\0\0\0", 2, Why::Truncated),
+        (b"\0", 0, Why::Truncated),
+        (b"\0\0\0\0\0\x09\x01", 6, Why::Trailing),
+    ];
+    for (body, inside, why) in rows {
+        assert_eq!(rt;
+            refusal_of(rt.alloc(), Edition::E2013, 0x8202, body),
+            refused(inside, why)
         );
     }
     let endless = Message::Track {
@@ -181,42 +197,44 @@ fn tracks(rt: HostRuntime) -> Result<(), Fail> {
         validity: None,
     };
     assert!(rt; !endless.fits(Edition::E2013));
-    Ok(())
+}
+
+// Whether a message that was read fits 2019.
+fn fits_2019(answer: &Result<Message, CodecError>) -> bool {
+    matches!(answer, Ok(message) if message.fits(Edition::E2019))
 }
 
 // A text of 2013 has no kind, and an order has its own octets.
 #[test]
-fn texts_and_orders(rt: HostRuntime) -> Result<(), Fail> {
-    let text = read_body(rt.alloc(), Edition::E2013, 0x8300, b"\x01\x02A").expect(&rt, "a body");
+fn texts_and_orders(rt: HostRuntime) {
+    let text = read_body(rt.alloc(), Edition::E2013, 0x8300, b"\x01\x02A");
     let same =
-        matches!(&text, Message::Text { flag: 1, kind: None, text } if text.as_slice() == b"\x02A".as_slice());
+        matches!(&text, Ok(Message::Text { flag: 1, kind: None, text }) if text.as_slice() == b"\x02A".as_slice());
     assert!(rt; same);
-    assert!(rt; !text.fits(Edition::E2019));
+    assert!(rt; !fits_2019(&text));
     let kind = Message::Text {
         flag: 1,
         kind: Some(2),
         text: Octets::new(rt.alloc()),
     };
     assert!(rt; !kind.fits(Edition::E2013));
-    let order = read_body(rt.alloc(), Edition::E2019, 0x8105, b"\x03").expect(&rt, "a body");
-    let same = matches!(&order, Message::Control { command: 3, text } if text.is_empty());
+    let order = read_body(rt.alloc(), Edition::E2019, 0x8105, b"\x03");
+    let same = matches!(&order, Ok(Message::Control { command: 3, text }) if text.is_empty());
     assert!(rt; same);
-    Ok(())
 }
 
 // A registration is read in 2013, and fits that edition alone.
 #[test]
-fn registrations_of_2013(rt: HostRuntime) -> Result<(), Fail> {
-    let register = read_body(rt.alloc(), Edition::E2013, 0x0100, &REGISTER).expect(&rt, "a body");
+fn registrations_of_2013(rt: HostRuntime) {
+    let register = read_body(rt.alloc(), Edition::E2013, 0x0100, &REGISTER);
     let same =
-        matches!(&register, Message::Register(register) if register.plate.as_slice() == b"\xD4\xC1".as_slice());
+        matches!(&register, Ok(Message::Register(register)) if register.plate.as_slice() == b"\xD4\xC1".as_slice());
     assert!(rt; same);
-    assert!(rt; !register.fits(Edition::E2019));
-    let auth = read_body(rt.alloc(), Edition::E2013, 0x0102, b"A").expect(&rt, "a body");
-    let same = matches!(&auth, Message::Auth(auth) if auth.code.as_slice() == b"A".as_slice());
+    assert!(rt; !fits_2019(&register));
+    let auth = read_body(rt.alloc(), Edition::E2013, 0x0102, b"A");
+    let same = matches!(&auth, Ok(Message::Auth(auth)) if auth.code.as_slice() == b"A".as_slice());
     assert!(rt; same);
-    assert!(rt; !auth.fits(Edition::E2019));
-    Ok(())
+    assert!(rt; !fits_2019(&auth));
 }
 
 fn header(id: u16, serial: u16, packet: Option<Packet>) -> Header {
@@ -235,106 +253,101 @@ fn header(id: u16, serial: u16, packet: Option<Packet>) -> Header {
     }
 }
 
+// Why a body that is read in place is refused.
+fn view_refusal(id: u16, body: &[u8]) -> Option<Refusal>
+    requires { length body.now < 2 ^ 10 }
+{
+    match view_message(&header(id, 0, None), body) {
+        Some(Err(refusal)) => Some(refusal),
+        Some(Ok(_)) | None => None,
+    }
+}
+
+// Whether this body is a position with this latitude and one item, this mileage.
+fn is_position(body: &[u8], lat: u32, mileage: u32) -> bool
+    requires { length body.now < 2 ^ 10 }
+{
+    match view_message(&header(0x0200, 0, None), body) {
+        Some(Ok(MessageView::Position(view))) => {
+            let mut items = view.items;
+            let item = items.next() == Some(ItemView::Mileage(mileage));
+            view.fixed.lat == lat && item && items.next().is_none()
+        }
+        _ => false,
+    }
+}
+
+// Whether this body is a batch of this kind, with so many positions.
+fn is_batch(body: &[u8], kind: u8, count: u16) -> bool
+    requires { length body.now < 2 ^ 10 }
+{
+    match view_message(&header(0x0704, 0, None), body) {
+        Some(Ok(MessageView::Batch(view))) => view.kind == kind && view.fixes.left() == count,
+        _ => false,
+    }
+}
+
 #[test]
 fn views(rt: HostRuntime) {
-    let heartbeat = header(0x0002, 0, None);
-    assert!(rt;
-        matches!(
-            &view_message(&heartbeat, &[]),
-            Some(Ok(MessageView::Heartbeat))
-        )
+    let heartbeat = matches!(
+        &view_message(&header(0x0002, 0, None), &[]),
+        Some(Ok(MessageView::Heartbeat))
     );
-    let trailing = Refusal {
-        at: 0,
-        inside: 12,
-        why: Why::Trailing,
-    };
-    assert!(rt;
-        matches!(&view_message(&heartbeat, &[7]), Some(Err(refusal)) if *refusal == trailing)
-    );
-    match view_message(&header(0x0200, 0, None), &POSITION) {
-        Some(Ok(MessageView::Position(view))) => {
-            assert_eq!(rt; view.fixed.lat, 20_000_000);
-            let mut items = view.items;
-            assert_eq!(rt; items.next(), Some(ItemView::Mileage(10)));
-            assert_eq!(rt; items.next(), None);
-        }
-        _ => panic!(rt; "a position"),
-    }
-    let truncated = Refusal {
-        at: 0,
-        inside: 34,
-        why: Why::Truncated,
-    };
-    let refused = view_message(&header(0x0200, 0, None), &POSITION[..27]);
-    assert!(rt; matches!(&refused, Some(Err(refusal)) if *refusal == truncated));
-    match view_message(&header(0x0704, 0, None), &[0, 0, 1]) {
-        Some(Ok(MessageView::Batch(view))) => {
-            assert_eq!(rt; (view.kind, view.fixes.left()), (1, 0));
-        }
-        _ => panic!(rt; "a batch"),
-    }
-    let no_kind = Refusal {
-        at: 0,
-        inside: 14,
-        why: Why::Truncated,
-    };
-    let refused = view_message(&header(0x0704, 0, None), &[0, 0]);
-    assert!(rt; matches!(&refused, Some(Err(refusal)) if *refusal == no_kind));
+    assert!(rt; heartbeat);
+    assert!(rt; is_position(&POSITION, 20_000_000, 10));
+    assert!(rt; is_batch(&[0, 0, 1], 1, 0));
     assert!(rt; view_message(&header(0x0003, 0, None), &[]).is_none());
+    let rows: [(u16, &[u8], u64, Why); 4] = [
+        (0x0002, b"\x07", 12, Why::Trailing),
+        (0x0200, &POSITION[..27], 34, Why::Truncated),
+        (0x0704, b"\0\0", 14, Why::Truncated),
+        (0x8001, b"\0\x07\x02\0\0\0", 17, Why::Trailing),
+    ];
+    for (id, body, inside, why) in rows {
+        assert!(rt; body.len() < 1024);
+        assert_eq!(rt; view_refusal(id, body), refused(inside, why));
+    }
 }
 
 #[test]
 fn views_of_responses_and_octets(rt: HostRuntime) {
-    let response = view_message(&header(0x0001, 0, None), &[0, 7, 0x81, 0x03, 1]);
-    assert!(rt;
-        matches!(
-            &response,
-            Some(Ok(MessageView::TerminalAck {
-                reply: 7,
-                id: 0x8103,
-                result: 1
-            }))
-        )
+    let terminal = matches!(
+        &view_message(&header(0x0001, 0, None), &[0, 7, 0x81, 0x03, 1]),
+        Some(Ok(MessageView::TerminalAck {
+            reply: 7,
+            id: 0x8103,
+            result: 1
+        }))
     );
-    let response = view_message(&header(0x8001, 0, None), &[0, 7, 2, 0, 0]);
-    assert!(rt;
-        matches!(
-            &response,
-            Some(Ok(MessageView::PlatformAck {
-                reply: 7,
-                id: 0x0200,
-                result: 0
-            }))
-        )
+    assert!(rt; terminal);
+    let platform = matches!(
+        &view_message(&header(0x8001, 0, None), &[0, 7, 2, 0, 0]),
+        Some(Ok(MessageView::PlatformAck {
+            reply: 7,
+            id: 0x0200,
+            result: 0
+        }))
     );
-    let trailing = Refusal {
-        at: 0,
-        inside: 17,
-        why: Why::Trailing,
-    };
-    let refused = view_message(&header(0x8001, 0, None), &[0, 7, 2, 0, 0, 0]);
-    assert!(rt; matches!(&refused, Some(Err(refusal)) if *refusal == trailing));
-    match view_message(&header(0x0900, 0, None), &[0x41, 1]) {
-        Some(Ok(MessageView::Opaque { id, body })) => {
-            assert_eq!(rt; id, 0x0900);
-            assert_eq!(rt; body, [0x41, 1].as_slice());
-        }
-        _ => panic!(rt; "an opaque body"),
-    }
+    assert!(rt; platform);
+    let opaque = matches!(
+        &view_message(&header(0x0900, 0, None), &[0x41, 1]),
+        Some(Ok(MessageView::Opaque { id: 0x0900, body })) if *body == [0x41, 1].as_slice()
+    );
+    assert!(rt; opaque);
     let packet = Packet {
         total: 3,
         number: 2,
     };
-    match view_message(&header(0x0200, 0, Some(packet)), &[9]) {
-        Some(Ok(MessageView::Part(body))) => assert_eq!(rt; body, [9].as_slice()),
-        _ => panic!(rt; "a part"),
-    }
+    let part = matches!(
+        &view_message(&header(0x0200, 0, Some(packet)), &[9]),
+        Some(Ok(MessageView::Part(body))) if *body == [9].as_slice()
+    );
+    assert!(rt; part);
 }
 
 // Of a registration's reply a message is made; all others are judged in place.
 #[test]
-fn judgements(rt: HostRuntime) -> Result<(), Fail> {
+fn judgements(rt: HostRuntime) {
     let good: [(u16, &[u8]); 5] = [
         (0x0002, b""),
         (0x0200, &POSITION),
@@ -345,22 +358,21 @@ fn judgements(rt: HostRuntime) -> Result<(), Fail> {
     for (id, body) in good {
         assert!(rt; body.len() < 1024);
         assert_eq!(rt;
-            judge_message(rt.alloc(), &header(id, 0, None), body)?,
-            None
+            judge_message(rt.alloc(), &header(id, 0, None), body),
+            Ok(None)
         );
     }
-    let refused: [(u16, &[u8], u64, Why); 4] = [
+    let bad: [(u16, &[u8], u64, Why); 4] = [
         (0x0002, b"\x07", 12, Why::Trailing),
         (0x0200, &POSITION[..27], 34, Why::Truncated),
         (0x8001, b"\0\x07\0\x02", 16, Why::Truncated),
         (0x8100, b"\0\x05\x03A", 15, Why::Trailing),
     ];
-    for (id, body, inside, why) in refused {
+    for (id, body, inside, why) in bad {
         assert!(rt; body.len() < 1024);
-        let refusal = Refusal { at: 0, inside, why };
         assert_eq!(rt;
-            judge_message(rt.alloc(), &header(id, 0, None), body)?,
-            Some(refusal)
+            judge_message(rt.alloc(), &header(id, 0, None), body),
+            Ok(refused(inside, why))
         );
     }
     let packet = Packet {
@@ -368,12 +380,21 @@ fn judgements(rt: HostRuntime) -> Result<(), Fail> {
         number: 2,
     };
     let part = header(0x0002, 0, Some(packet));
-    assert_eq!(rt; judge_message(rt.alloc(), &part, &[7])?, None);
-    Ok(())
+    assert_eq!(rt; judge_message(rt.alloc(), &part, &[7]), Ok(None));
+}
+
+// Why the content of a frame is refused.
+fn frame_refusal(alloc: Global, content: &[u8]) -> Option<Refusal>
+    requires { length content.now ≤ 1045 }
+{
+    match parse_frame(alloc, content) {
+        Err(CodecError::Refused(refusal)) => Some(refusal),
+        Err(CodecError::Memory) | Ok(_) => None,
+    }
 }
 
 #[test]
-fn refused_contents(rt: HostRuntime) -> Result<(), Fail> {
+fn refused_contents(rt: HostRuntime) {
     let rows: [(&[u8], u64, Why); 6] = [
         (
             b"\x81\x00\x00\x04\x01\x39\x12\x34\x56\x78\x00\x00\x00\x05\x03\x41\xF2",
@@ -411,14 +432,25 @@ fn refused_contents(rt: HostRuntime) -> Result<(), Fail> {
     ];
     for (content, inside, why) in rows {
         assert!(rt; content.len() <= 1045);
-        let refusal = CodecError::Refused(Refusal { at: 0, inside, why });
-        assert_eq!(rt; parse_frame(rt.alloc(), content).err(), Some(refusal));
+        assert_eq!(rt; frame_refusal(rt.alloc(), content), refused(inside, why));
     }
-    Ok(())
+}
+
+// Whether this content is a part with this header and body, which fits no edition of its own.
+fn is_part(alloc: Global, content: &[u8], header: Header, body: &[u8]) -> bool
+    requires { length content.now ≤ 1045 }
+{
+    match parse_frame(alloc, content) {
+        Ok((read, message)) => {
+            let part = matches!(&message, Message::Part(part) if part.as_slice() == body);
+            part && read == header && message.id().is_none() && !message.fits(Edition::E2013)
+        }
+        Err(_) => false,
+    }
 }
 
 #[test]
-fn packets(rt: HostRuntime) -> Result<(), Fail> {
+fn packets(rt: HostRuntime) {
     let first = Some(Packet {
         total: 3,
         number: 1,
@@ -441,14 +473,8 @@ fn packets(rt: HostRuntime) -> Result<(), Fail> {
     ];
     for (content, header, body) in rows {
         assert!(rt; content.len() <= 1045);
-        let (read, message) = parse_frame(rt.alloc(), content).expect(&rt, "a frame");
-        assert_eq!(rt; read, header);
-        assert_eq!(rt; message.id(), None);
-        assert!(rt; !message.fits(Edition::E2013));
-        let is_part = matches!(&message, Message::Part(part) if part.as_slice() == body);
-        assert!(rt; is_part);
+        assert!(rt; is_part(rt.alloc(), content, header, body));
     }
-    Ok(())
 }
 
 #[test]

@@ -1,4 +1,8 @@
-use jt_params::{Kind, Param, ParamError, ParamTable, ParamValue, kind_of, params_fit, params_reply_fits, query_some_fits, read_params, read_params_reply, read_query_some, write_params, write_params_reply, write_query_some};
+use jt_params::{
+    Kind, Param, ParamError, ParamTable, ParamValue, kind_of, params_fit, params_reply_fits,
+    query_some_fits, read_params, read_params_reply, read_query_some, write_params,
+    write_params_reply, write_query_some,
+};
 use jt_value::{CodecError, Memory, Octets, Refusal, Seq, Why};
 use std::alloc::Global;
 use std::test::Fail;

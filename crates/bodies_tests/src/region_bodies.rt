@@ -1,4 +1,8 @@
-use jt_region_bodies::{Circle, Limit, Rectangle, RoutePoint, Vertex, circles_fit, read_circles, read_deletion, read_polygon, read_rectangles, read_route, rectangles_fit, write_circles, write_deletion, write_polygon, write_rectangles, write_route};
+use jt_region_bodies::{
+    Circle, Limit, Rectangle, RoutePoint, Vertex, circles_fit, read_circles, read_deletion,
+    read_polygon, read_rectangles, read_route, rectangles_fit, write_circles, write_deletion,
+    write_polygon, write_rectangles, write_route,
+};
 use jt_value::{CodecError, Refusal, Why};
 use std::test::Fail;
 
@@ -136,24 +140,21 @@ fn a_polygon_with_vertices(rt: HostRuntime) -> Result<(), Fail> {
 
 #[test]
 fn polygons_with_and_without_times_and_limit(rt: HostRuntime) -> Result<(), Fail> {
-    for (body, times, limit) in [
-        (b"\0\0\0\x09\0\0\0\0".as_slice(), None, None),
+    let rows: [(&[u8], Option<[u8; 12]>, Option<Limit>); 4] = [
+        (b"\0\0\0\x09\0\0\0\0", None, None),
         (
-            b"\0\0\0\x09\0\x01\x24\x01\x01\0\0\0\x24\x01\x02\0\0\0\0\0".as_slice(),
+            b"\0\0\0\x09\0\x01\x24\x01\x01\0\0\0\x24\x01\x02\0\0\0\0\0",
             Some(TIMES),
             None,
         ),
+        (b"\0\0\0\x09\0\x02\0\x50\x05\0\0", None, Some(LIMIT)),
         (
-            b"\0\0\0\x09\0\x02\0\x50\x05\0\0".as_slice(),
-            None,
-            Some(LIMIT),
-        ),
-        (
-            b"\0\0\0\x09\0\x03\x24\x01\x01\0\0\0\x24\x01\x02\0\0\0\0\x50\x05\0\0".as_slice(),
+            b"\0\0\0\x09\0\x03\x24\x01\x01\0\0\0\x24\x01\x02\0\0\0\0\x50\x05\0\0",
             Some(TIMES),
             Some(LIMIT),
         ),
-    ] {
+    ];
+    for (body, times, limit) in rows {
         let polygon = read_polygon(rt.alloc(), body).expect(&rt, "a body");
         assert_eq!(rt; polygon.times, times);
         assert_eq!(rt; polygon.limit, limit);
@@ -209,10 +210,8 @@ fn points_with_and_without_thresholds_and_limit(rt: HostRuntime) -> Result<(), F
 
 #[test]
 fn deletions(rt: HostRuntime) -> Result<(), Fail> {
-    for (body, ids) in [
-        (b"\0".as_slice(), [].as_slice()),
-        (b"\x02\0\0\0\x07\0\0\x01\0".as_slice(), [7, 256].as_slice()),
-    ] {
+    let rows: [(&[u8], &[u32]); 2] = [(b"\0", &[]), (b"\x02\0\0\0\x07\0\0\x01\0", &[7, 256])];
+    for (body, ids) in rows {
         let deletion = read_deletion(rt.alloc(), body).expect(&rt, "a body");
         assert_eq!(rt; deletion.ids.as_slice(), ids);
         assert!(rt; deletion.fits());

@@ -1,6 +1,8 @@
 ghost use Rattle.std.specs.Prelude.{◌≡◌, ◌≤◌, length, IfOk};
 
-use jt_regions::{Circle, Polygon, Rectangle, RegionChange, RegionError, RegionKind, RegionTable, Route};
+use jt_regions::{
+    Circle, Polygon, Rectangle, RegionChange, RegionError, RegionKind, RegionTable, Route,
+};
 use jt_value::{Memory, Seq};
 use std::alloc::Global;
 use std::test::Fail;

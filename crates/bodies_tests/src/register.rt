@@ -1,4 +1,7 @@
-use jt_register::{Auth, AuthTail, read_auth, read_register, read_register_reply, write_auth, write_register, write_register_reply};
+use jt_register::{
+    Auth, AuthTail, read_auth, read_register, read_register_reply, write_auth, write_register,
+    write_register_reply,
+};
 use jt_value::{CodecError, Edition, Octets, Refusal, Why};
 use std::test::Fail;
 
@@ -52,11 +55,12 @@ fn a_terminal_of_eight_octets_does_not_fit(rt: HostRuntime) -> Result<(), Fail> 
 
 #[test]
 fn replies_to_registrations(rt: HostRuntime) -> Result<(), Fail> {
-    for (body, answer, code) in [
-        (b"\0\x05\x03".as_slice(), 3, b"".as_slice()),
-        (b"\0\x05\0".as_slice(), 0, b"".as_slice()),
-        (b"\0\x05\0A\0".as_slice(), 0, b"A\0".as_slice()),
-    ] {
+    let rows: [(&[u8], u8, &[u8]); 3] = [
+        (b"\0\x05\x03", 3, b""),
+        (b"\0\x05\0", 0, b""),
+        (b"\0\x05\0A\0", 0, b"A\0"),
+    ];
+    for (body, answer, code) in rows {
         let reply = read_register_reply(rt.alloc(), body).expect(&rt, "a body");
         assert_eq!(rt; reply.reply, 5);
         assert_eq!(rt; reply.result, answer);
@@ -74,7 +78,8 @@ fn replies_to_registrations(rt: HostRuntime) -> Result<(), Fail> {
 
 #[test]
 fn an_authentication_of_2013(rt: HostRuntime) -> Result<(), Fail> {
-    for body in [b"".as_slice(), b"1234\0x".as_slice()] {
+    let bodies: [&[u8]; 2] = [b"", b"1234\0x"];
+    for body in bodies {
         let auth = read_auth(rt.alloc(), Edition::E2013, body).expect(&rt, "a body");
         assert_eq!(rt; auth.code.as_slice(), body);
         assert!(rt; auth.tail.is_none());

@@ -1,4 +1,6 @@
-use jt_cli::{Command, Encoding, Outside, Report, Status, Task, refusal_line, report, run, view_line};
+use jt_cli::{
+    Command, Encoding, Outside, Report, Status, Task, refusal_line, report, run, view_line,
+};
 use jt_outside::{MemSink, MemSource};
 use jt_value::{Octets, Seq};
 use std::alloc::Global;

@@ -1,6 +1,6 @@
-use jt_view::{Command, Encoding, Report, Status, report};
 use jt_outside::{MemSink, MemSource, StdSource};
 use jt_value::{Octets, Seq};
+use jt_view::{Command, Encoding, Report, Status, report};
 use std::alloc::Global;
 use std::io::Read;
 use std::test::Fail;

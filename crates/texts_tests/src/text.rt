@@ -1,8 +1,11 @@
-use jt_text::{Line, push_message_line, push_message_view_line, push_refusal_line_with, refusal_line, view_line};
 use jt_codec::{Message, MessageView, read_body};
 use jt_header::{Header, Packet};
 use jt_position::{view_batch, view_position};
 use jt_register::{Auth, AuthTail};
+use jt_text::{
+    Line, push_message_line, push_message_view_line, push_refusal_line_with, refusal_line,
+    view_line,
+};
 use jt_value::{Edition, Octets, Phone, Refusal, Why};
 use std::alloc::Global;
 use std::process::Abort;
@@ -25,202 +28,214 @@ fn header(id: u16, packet: Option<Packet>) -> Header {
 }
 
 // Reads a body, and compares its line.
-fn expect(rt: &impl Abort, alloc: Global, id: u16, body: &[u8], written: &str) -> Result<(), Fail> {
+fn expect(rt: &impl Abort, alloc: Global, id: u16, body: &[u8], written: &str) {
     assert!(rt; body.len() < 1024);
     let message = read_body(alloc, Edition::E2013, id, body).expect(rt, "a body");
-    let line = view_line(alloc, 7, &header(id, None), &message, body.len() as u16)?;
+    expect_line(
+        rt,
+        alloc,
+        7,
+        &header(id, None),
+        &message,
+        body.len() as u16,
+        written,
+    );
+}
+
+// Compares the line of a message.
+fn expect_line(
+    rt: &impl Abort,
+    alloc: Global,
+    place: u64,
+    header: &Header,
+    message: &Message,
+    size: u16,
+    written: &str,
+) {
+    let line = view_line(alloc, place, header, message, size).expect(rt, "a line");
     assert_eq!(rt; line.as_slice(), written.as_bytes());
-    Ok(())
 }
 
 #[test]
-fn responses_and_registrations(rt: HostRuntime) -> Result<(), Fail> {
-    let alloc = rt.alloc();
-    for (id, body, written) in [
+fn responses_and_registrations(rt: HostRuntime) {
+    let rows: [(u16, &[u8], &str); 7] = [
         (
             0x0001,
-            b"\0\x07\x81\x03\x03".as_slice(),
+            b"\0\x07\x81\x03\x03",
             "7 2013 0x0001 terminal-ack phone=013912345678 serial=3 body=5 reply=7 id=0x8103 result=3\n",
         ),
         (
             0x8001,
-            b"\xff\xff\x02\0\x04".as_slice(),
+            b"\xff\xff\x02\0\x04",
             "7 2013 0x8001 platform-ack phone=013912345678 serial=3 body=5 reply=65535 id=0x0200 result=4\n",
         ),
         (
             0x0003,
-            b"".as_slice(),
+            b"",
             "7 2013 0x0003 deregister phone=013912345678 serial=3 body=0\n",
         ),
         (
             0x0100,
-            b"\0\x2c\x01\x2c\x37\x30\x31\x31\x31\x41\x31\0\0\0\0\0\0\0\0\0\0\0\0\0\0\0\0\0\0\x31\x32\x33\x34\x35\x36\x37\x02".as_slice(),
+            b"\0\x2c\x01\x2c\x37\x30\x31\x31\x31\x41\x31\0\0\0\0\0\0\0\0\0\0\0\0\0\0\0\0\0\0\x31\x32\x33\x34\x35\x36\x37\x02",
             "7 2013 0x0100 register phone=013912345678 serial=3 body=37 province=44 city=300 maker=3730313131 model=4131000000000000000000000000000000000000 terminal=31323334353637 colour=2 plate=-\n",
         ),
         (
             0x8100,
-            b"\0\x05\x04".as_slice(),
+            b"\0\x05\x04",
             "7 2013 0x8100 register-reply phone=013912345678 serial=3 body=3 reply=5 result=4\n",
         ),
         (
             0x8100,
-            b"\0\x05\0\x41".as_slice(),
+            b"\0\x05\0\x41",
             "7 2013 0x8100 register-reply phone=013912345678 serial=3 body=4 reply=5 result=0 code=41\n",
         ),
         (
             0x0102,
-            b"".as_slice(),
+            b"",
             "7 2013 0x0102 auth phone=013912345678 serial=3 body=0 code=-\n",
         ),
-    ] {
-        expect(&rt, alloc, id, body, written)?;
+    ];
+    for (id, body, written) in rows {
+        expect(&rt, rt.alloc(), id, body, written);
     }
-    Ok(())
 }
 
 #[test]
-fn positions_and_batches(rt: HostRuntime) -> Result<(), Fail> {
-    let alloc = rt.alloc();
-    for (id, body, written) in [
+fn positions_and_batches(rt: HostRuntime) {
+    let rows: [(u16, &[u8], &str); 4] = [
         (
             0x0200,
-            b"\0\0\0\x01\0\x0c\0\x03\x01\x31\x2d\0\x06\xbc\x3e\x40\0\x64\x02\x58\0\x5a\x24\x02\x29\x23\x59\x59\x01\x04\0\0\0\x0a\x02\x02\0\x05\x03\x02\x01\0\x04\x02\0\x01\x11\x01\x01\x11\x05\x02\0\0\0\x07\x12\x06\x01\0\0\0\x08\x01\x13\x07\0\0\0\x09\0\x3c\x01\x25\x04\0\0\0\x80\x2a\x02\0\x03\x2b\x04\0\x01\0\x02\x30\x01\x1f\x31\x01\x0c\x14\x04\0\0\0\x01\xe0\0".as_slice(),
+            b"\0\0\0\x01\0\x0c\0\x03\x01\x31\x2d\0\x06\xbc\x3e\x40\0\x64\x02\x58\0\x5a\x24\x02\x29\x23\x59\x59\x01\x04\0\0\0\x0a\x02\x02\0\x05\x03\x02\x01\0\x04\x02\0\x01\x11\x01\x01\x11\x05\x02\0\0\0\x07\x12\x06\x01\0\0\0\x08\x01\x13\x07\0\0\0\x09\0\x3c\x01\x25\x04\0\0\0\x80\x2a\x02\0\x03\x2b\x04\0\x01\0\x02\x30\x01\x1f\x31\x01\x0c\x14\x04\0\0\0\x01\xe0\0",
             "7 2013 0x0200 position phone=013912345678 serial=3 body=103 alarm=0x00000001 status=0x000c0003 lat=20000000 lon=113000000 altitude=100 speed=600 direction=90 time=2024-02-29T23:59:59+08:00 item=0x01:10 item=0x02:5 item=0x03:256 item=0x04:1 item=0x11:1 item=0x11:2:7 item=0x12:1:8:1 item=0x13:9:60:1 item=0x25:128 item=0x2a:3 item=0x2b:65538 item=0x30:31 item=0x31:12 item=0x14:00000001 item=0xe0:-\n",
         ),
         (
             0x0201,
-            b"\0\x09\0\0\0\0\0\0\0\0\0\0\0\0\0\0\0\0\0\0\0\0\0\0\x23\x02\x29\0\0\0".as_slice(),
+            b"\0\x09\0\0\0\0\0\0\0\0\0\0\0\0\0\0\0\0\0\0\0\0\0\0\x23\x02\x29\0\0\0",
             "7 2013 0x0201 position-reply phone=013912345678 serial=3 body=30 reply=9 alarm=0x00000000 status=0x00000000 lat=0 lon=0 altitude=0 speed=0 direction=0 time=-\n",
         ),
         (
             0x0704,
-            b"\0\0\x01".as_slice(),
+            b"\0\0\x01",
             "7 2013 0x0704 batch phone=013912345678 serial=3 body=3 count=0 kind=1\n",
         ),
         (
             0x0704,
-            b"\0\x02\0\0\x1c\0\0\0\x01\0\x0c\0\x03\x01\x31\x2d\0\x06\xbc\x3e\x40\0\x64\x02\x58\0\x5a\x24\x02\x29\x23\x59\x59\0\x20\0\0\0\0\0\0\0\0\0\0\0\0\0\0\0\0\0\0\0\0\0\0\x23\x02\x29\0\0\0\x02\x02\0\x05".as_slice(),
+            b"\0\x02\0\0\x1c\0\0\0\x01\0\x0c\0\x03\x01\x31\x2d\0\x06\xbc\x3e\x40\0\x64\x02\x58\0\x5a\x24\x02\x29\x23\x59\x59\0\x20\0\0\0\0\0\0\0\0\0\0\0\0\0\0\0\0\0\0\0\0\0\0\x23\x02\x29\0\0\0\x02\x02\0\x05",
             "7 2013 0x0704 batch phone=013912345678 serial=3 body=67 count=2 kind=0 length=28 alarm=0x00000001 status=0x000c0003 lat=20000000 lon=113000000 altitude=100 speed=600 direction=90 time=2024-02-29T23:59:59+08:00 length=32 alarm=0x00000000 status=0x00000000 lat=0 lon=0 altitude=0 speed=0 direction=0 time=- item=0x02:5\n",
         ),
-    ] {
-        expect(&rt, alloc, id, body, written)?;
+    ];
+    for (id, body, written) in rows {
+        expect(&rt, rt.alloc(), id, body, written);
     }
-    Ok(())
 }
 
 #[test]
-fn parameters(rt: HostRuntime) -> Result<(), Fail> {
-    let alloc = rt.alloc();
-    for (id, body, written) in [
+fn parameters(rt: HostRuntime) {
+    let rows: [(u16, &[u8], &str); 4] = [
         (
             0x8103,
-            b"\x04\0\0\0\x81\x02\0\x2c\0\0\0\x84\x01\x02\0\0\0\x01\x02\0\x3c\0\0\0\x83\0".as_slice(),
+            b"\x04\0\0\0\x81\x02\0\x2c\0\0\0\x84\x01\x02\0\0\0\x01\x02\0\x3c\0\0\0\x83\0",
             "7 2013 0x8103 set-params phone=013912345678 serial=3 body=26 count=4 param=0x00000081:44 param=0x00000084:2 param=0x00000001:003c param=0x00000083:-\n",
         ),
         (
             0x8106,
-            b"\x01\0\0\0\x01".as_slice(),
+            b"\x01\0\0\0\x01",
             "7 2013 0x8106 query-some phone=013912345678 serial=3 body=5 count=1 id=0x00000001\n",
         ),
         (
             0x8106,
-            b"\0".as_slice(),
+            b"\0",
             "7 2013 0x8106 query-some phone=013912345678 serial=3 body=1 count=0\n",
         ),
         (
             0x0104,
-            b"\0\x07\x02\0\0\0\x01\x04\0\0\0\x3c\0\0\0\x13\x03abc".as_slice(),
+            b"\0\x07\x02\0\0\0\x01\x04\0\0\0\x3c\0\0\0\x13\x03abc",
             "7 2013 0x0104 params phone=013912345678 serial=3 body=20 reply=7 count=2 param=0x00000001:60 param=0x00000013:616263\n",
         ),
-    ] {
-        expect(&rt, alloc, id, body, written)?;
+    ];
+    for (id, body, written) in rows {
+        expect(&rt, rt.alloc(), id, body, written);
     }
-    Ok(())
 }
 
 #[test]
-fn tracks_texts_and_orders(rt: HostRuntime) -> Result<(), Fail> {
-    let alloc = rt.alloc();
-    for (id, body, written) in [
+fn tracks_texts_and_orders(rt: HostRuntime) {
+    let rows: [(u16, &[u8], &str); 4] = [
         (
             0x8202,
-            b"\0\0".as_slice(),
+            b"\0\0",
             "7 2013 0x8202 track phone=013912345678 serial=3 body=2 interval=0 validity=-\n",
         ),
         (
             0x8202,
-            b"\0\x05\0\0\x02\x58".as_slice(),
+            b"\0\x05\0\0\x02\x58",
             "7 2013 0x8202 track phone=013912345678 serial=3 body=6 interval=5 validity=600\n",
         ),
         (
             0x8300,
-            b"\x01\x02\x41".as_slice(),
+            b"\x01\x02\x41",
             "7 2013 0x8300 text phone=013912345678 serial=3 body=3 flag=1 text=0241\n",
         ),
         (
             0x8105,
-            b"\x03".as_slice(),
+            b"\x03",
             "7 2013 0x8105 control phone=013912345678 serial=3 body=1 command=3 text=-\n",
         ),
-    ] {
-        expect(&rt, alloc, id, body, written)?;
+    ];
+    for (id, body, written) in rows {
+        expect(&rt, rt.alloc(), id, body, written);
     }
     let text = Message::Text {
         flag: 1,
         kind: Some(2),
-        text: Octets::new(alloc),
+        text: Octets::new(rt.alloc()),
     };
-    let line = view_line(alloc, 0, &header(0x8300, None), &text, 2)?;
-    assert_eq!(rt;
-        line.as_slice(),
-        b"0 2013 0x8300 text phone=013912345678 serial=3 body=2 flag=1 kind=2 text=-\n".as_slice()
-    );
-    Ok(())
+    let written = "0 2013 0x8300 text phone=013912345678 serial=3 body=2 flag=1 kind=2 text=-\n";
+    expect_line(&rt, rt.alloc(), 0, &header(0x8300, None), &text, 2, written);
 }
 
 #[test]
-fn regions_and_their_deletion(rt: HostRuntime) -> Result<(), Fail> {
-    let alloc = rt.alloc();
-    for (id, body, written) in [
+fn regions_and_their_deletion(rt: HostRuntime) {
+    let rows: [(u16, &[u8], &str); 7] = [
         (
             0x8600,
-            b"\x01\x01\0\0\0\x09\0\0\x01\x31\x2d\0\x06\xbc\x3e\x40\0\0\0\x64".as_slice(),
+            b"\x01\x01\0\0\0\x09\0\0\x01\x31\x2d\0\x06\xbc\x3e\x40\0\0\0\x64",
             "7 2013 0x8600 circles phone=013912345678 serial=3 body=20 setting=1 count=1 circle=9:0x0000:20000000:113000000:100:-:-:-:-\n",
         ),
         (
             0x8602,
-            b"\0\x01\0\0\0\x07\0\0\x01\x31\x2d\x0a\x06\xbc\x3e\x40\x01\x31\x2d\0\x06\xbc\x3e\x4a".as_slice(),
+            b"\0\x01\0\0\0\x07\0\0\x01\x31\x2d\x0a\x06\xbc\x3e\x40\x01\x31\x2d\0\x06\xbc\x3e\x4a",
             "7 2013 0x8602 rectangles phone=013912345678 serial=3 body=24 setting=0 count=1 rectangle=7:0x0000:20000010:113000000:20000000:113000010:-:-:-:-\n",
         ),
         (
             0x8604,
-            b"\0\0\0\x09\0\0\0\x03\0\0\0\0\x06\xbc\x3e\x36\0\0\0\x0a\x06\xbc\x3e\x4a\0\0\0\0\x06\xbc\x3e\x4a".as_slice(),
+            b"\0\0\0\x09\0\0\0\x03\0\0\0\0\x06\xbc\x3e\x36\0\0\0\x0a\x06\xbc\x3e\x4a\0\0\0\0\x06\xbc\x3e\x4a",
             "7 2013 0x8604 polygon phone=013912345678 serial=3 body=32 polygon=9:0x0000:-:-:-:- count=3 vertex=0:112999990 vertex=10:113000010 vertex=0:113000010\n",
         ),
         (
             0x8604,
-            b"\0\0\0\x09\x80\x02\0\x50\x05\0\0".as_slice(),
+            b"\0\0\0\x09\x80\x02\0\x50\x05\0\0",
             "7 2013 0x8604 polygon phone=013912345678 serial=3 body=11 polygon=9:0x8002:-:-:80:5 count=0\n",
         ),
         (
             0x8606,
-            b"\0\0\0\x05\0\x01\x24\x01\x01\0\0\0\x24\x01\x02\0\0\0\0\x01\0\0\0\x06\0\0\0\x07\x01\x31\x2d\0\x06\xbc\x3e\x40\x0a\x03\0\x3c\0\x1e\0\x50\x05".as_slice(),
+            b"\0\0\0\x05\0\x01\x24\x01\x01\0\0\0\x24\x01\x02\0\0\0\0\x01\0\0\0\x06\0\0\0\x07\x01\x31\x2d\0\x06\xbc\x3e\x40\x0a\x03\0\x3c\0\x1e\0\x50\x05",
             "7 2013 0x8606 route phone=013912345678 serial=3 body=45 route=5:0x0001:240101000000:240102000000 count=1 point=6:7:20000000:113000000:10:0x03:60:30:80:5\n",
         ),
         (
             0x8603,
-            b"\0".as_slice(),
+            b"\0",
             "7 2013 0x8603 delete-rectangles phone=013912345678 serial=3 body=1 count=0\n",
         ),
         (
             0x8607,
-            b"\x02\0\0\0\x09\0\0\x01\0".as_slice(),
+            b"\x02\0\0\0\x09\0\0\x01\0",
             "7 2013 0x8607 delete-routes phone=013912345678 serial=3 body=9 count=2 id=9 id=256\n",
         ),
-    ] {
-        expect(&rt, alloc, id, body, written)?;
+    ];
+    for (id, body, written) in rows {
+        expect(&rt, rt.alloc(), id, body, written);
     }
-    Ok(())
 }
 
 #[test]
@@ -272,7 +287,7 @@ fn parts_and_opaque_bodies(rt: HostRuntime) -> Result<(), Fail> {
 #[test]
 fn refusals(rt: HostRuntime) -> Result<(), Fail> {
     let alloc = rt.alloc();
-    for (why, written) in [
+    let rows: [(Why, &str); 3] = [
         (Why::BadEscape, "4+12 refused BadEscape\n"),
         (
             Why::CheckMismatch {
@@ -288,7 +303,8 @@ fn refusals(rt: HostRuntime) -> Result<(), Fail> {
             },
             "4+12 refused LengthMismatch declared=1 actual=1023\n",
         ),
-    ] {
+    ];
+    for (why, written) in rows {
         let refusal = Refusal {
             at: 4,
             inside: 12,

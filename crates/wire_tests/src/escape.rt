@@ -1,7 +1,7 @@
 ghost use Rattle.std.specs.Prelude.{◌≡◌, ◌<◌, ◌+◌, ◌^◌, length};
 
-use jt_escape::{Split, Splitter, check, escape_into};
 use arrayvec::ArrayVec;
+use jt_escape::{Split, Splitter, check, escape_into};
 use jt_value::{Refusal, Why};
 
 const HEARTBEAT: [u8; 15] = [

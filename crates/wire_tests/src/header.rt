@@ -1,5 +1,5 @@
-use jt_header::{Header, Packet, read_header, write_header};
 use arrayvec::ArrayVec;
+use jt_header::{Header, Packet, read_header, write_header};
 use jt_value::{Edition, Phone, Refusal, Why};
 use std::test::Fail;
 

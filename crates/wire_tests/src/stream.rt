@@ -1,9 +1,9 @@
 ghost use Rattle.std.specs.Prelude.{◌<◌, ◌≤◌, ◌+◌, ◌^◌, length};
 
-use jt_stream::{Stream, StreamItem};
 use arrayvec::ArrayVec;
 use jt_escape::{Split, check, escape_into};
 use jt_header::{Header, Packet, write_header};
+use jt_stream::{Stream, StreamItem};
 use jt_value::{Edition, Phone, Refusal, Why};
 use std::test::Fail;
 
