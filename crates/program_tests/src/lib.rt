@@ -4,8 +4,6 @@
 #[cfg(test)]
 mod cli;
 #[cfg(test)]
-mod cli_scripts;
-#[cfg(test)]
 mod view;
 #[cfg(test)]
 mod world;
