@@ -10,7 +10,6 @@ use jt_header::{Header, Packet};
 use jt_position::ItemView;
 use jt_value::{CodecError, Edition, Octets, Phone, Refusal, Why};
 use std::alloc::Global;
-use std::test::Fail;
 
 // Whether this body is read under its id, as opaque octets or not, fits its edition, and is written back.
 fn is_kept(
@@ -478,7 +477,7 @@ fn packets(rt: HostRuntime) {
 }
 
 #[test]
-fn frames(rt: HostRuntime) -> Result<(), Fail> {
+fn frames(rt: HostRuntime) {
     let content = b"\x00\x02\x00\x00\x01\x39\x12\x34\x56\x78\x00\x00\x32";
     let (heartbeat, message) = parse_frame(rt.alloc(), content).expect(&rt, "a frame");
     assert_eq!(rt; heartbeat, header(0x0002, 0, None));
@@ -489,12 +488,11 @@ fn frames(rt: HostRuntime) -> Result<(), Fail> {
         frame.as_slice(),
         b"\x7E\x00\x02\x00\x00\x01\x39\x12\x34\x56\x78\x00\x00\x32\x7E".as_slice()
     );
-    Ok(())
 }
 
 // A frame of flags alone is the longest of its body's length, and is read back as the same.
 #[test]
-fn frame_of_flags(rt: HostRuntime) -> Result<(), Fail> {
+fn frame_of_flags(rt: HostRuntime) {
     let content = b"\x0F\xFF\x00\x00\x01\x39\x12\x34\x56\x78\x00\x00\xC0";
     let (opaque, _message) = parse_frame(rt.alloc(), content).expect(&rt, "a frame");
     let body = [0x7E; 1023];
@@ -514,7 +512,6 @@ fn frame_of_flags(rt: HostRuntime) -> Result<(), Fail> {
     assert_eq!(rt; read, opaque);
     assert_eq!(rt; message.id(), Some(0x0FFF));
     assert!(rt; message.fits(Edition::E2013));
-    let octets = write_body(rt.alloc(), Edition::E2013, &message)?;
+    let octets = write_body(rt.alloc(), Edition::E2013, &message).expect(&rt, "octets");
     assert_eq!(rt; octets.as_slice(), body.as_slice());
-    Ok(())
 }

@@ -1,3 +1,5 @@
+ghost use Rattle.std.specs.Prelude.{◌≡◌, length, IfOk};
+
 use jt_params::{
     Kind, Param, ParamError, ParamTable, ParamValue, kind_of, params_fit, params_reply_fits,
     query_some_fits, read_params, read_params_reply, read_query_some, write_params,
@@ -5,7 +7,7 @@ use jt_params::{
 };
 use jt_value::{CodecError, Memory, Octets, Refusal, Seq, Why};
 use std::alloc::Global;
-use std::test::Fail;
+use std::process::Abort;
 
 fn refused(inside: u64, why: Why) -> CodecError {
     CodecError::Refused(Refusal { at: 0, inside, why })
@@ -27,40 +29,34 @@ fn many(alloc: Global, count: u16) -> Result<Seq<Param>, Memory> {
     Ok(params)
 }
 
+fn is_dword(param: Option<&Param>, wanted: u32, count: u32) -> bool {
+    matches!(param, Some(Param { id, value: ParamValue::Dword(number) }) if *id == wanted && *number == count)
+}
+
+fn is_text(param: Option<&Param>, wanted: u32, octets: &[u8]) -> bool {
+    matches!(param, Some(Param { id, value: ParamValue::Text(text) }) if *id == wanted && text.as_slice() == octets)
+}
+
+// Why the answer to a query is refused.
+fn refusal_of_reply(alloc: Global, body: &[u8]) -> Option<CodecError> {
+    read_params_reply(alloc, body).err()
+}
+
 #[test]
-fn an_answer_with_a_number_and_a_text(rt: HostRuntime) -> Result<(), Fail> {
+fn an_answer_with_a_number_and_a_text(rt: HostRuntime) {
     let body = b"\0\x07\x02\0\0\0\x01\x04\0\0\0\x3c\0\0\0\x13\x03abc";
     let (reply, params) = read_params_reply(rt.alloc(), body).expect(&rt, "a body");
     assert_eq!(rt; reply, 7);
     assert_eq!(rt; params.len(), 2);
-    assert!(rt;
-        matches!(
-            params.get(0),
-            Some(Param {
-                id: 0x0001,
-                value: ParamValue::Dword(60)
-            })
-        )
-    );
-    let Some(
-        Param {
-            id,
-            value: ParamValue::Text(text),
-        },
-    ) = params.get(1)
-    else {
-        return Err(Fail::new("no text"));
-    };
-    assert_eq!(rt; *id, 0x0013);
-    assert_eq!(rt; text.as_slice(), b"abc".as_slice());
+    assert!(rt; is_dword(params.get(0), 0x0001, 60));
+    assert!(rt; is_text(params.get(1), 0x0013, b"abc"));
     assert!(rt; params_reply_fits(reply, &params));
-    let written = write_params_reply(rt.alloc(), reply, &params)?;
+    let written = write_params_reply(rt.alloc(), reply, &params).expect(&rt, "octets");
     assert_eq!(rt; written.as_slice(), body.as_slice());
     for (length, inside) in [(1, 0), (2, 2), (6, 3), (7, 7), (11, 8), (12, 12), (19, 17)] {
-        let short = read_params_reply(rt.alloc(), &body[..length]).err();
-        assert_eq!(rt; short, Some(refused(inside, Why::Truncated)));
+        let refusal = refusal_of_reply(rt.alloc(), &body[..length]);
+        assert_eq!(rt; refusal, Some(refused(inside, Why::Truncated)));
     }
-    Ok(())
 }
 
 // The kind that a value shows.
@@ -75,7 +71,7 @@ fn shown(value: &ParamValue) -> Kind {
 }
 
 #[test]
-fn kinds_by_id_and_length(rt: HostRuntime) -> Result<(), Fail> {
+fn kinds_by_id_and_length(rt: HostRuntime) {
     let body =
         b"\x0b\0\0\0\x01\x02\0\x3c\0\0\0\x18\x04\0\0\x19\xd0\0\0\0\x80\x04\0\0\0\x01\0\0\0\x81\x02\0\x2c\
 \0\0\0\x82\x04\0\0\x01\x2c\0\0\0\x84\x01\x02\0\0\0\x84\x02\0\x02\0\0\0\x83\0\0\0\0\x10\x03abc\
@@ -100,16 +96,16 @@ fn kinds_by_id_and_length(rt: HostRuntime) -> Result<(), Fail> {
     }
     assert_eq!(rt; params.len(), 11);
     assert!(rt; params_fit(&params));
-    let written = write_params(rt.alloc(), &params)?;
+    let written = write_params(rt.alloc(), &params).expect(&rt, "octets");
     assert_eq!(rt; written.as_slice(), body.as_slice());
-    assert!(rt;
-        read_params(rt.alloc(), b"\0")
-            .expect(&rt, "a body")
-            .is_empty()
-    );
+}
+
+#[test]
+fn no_parameters(rt: HostRuntime) {
+    let none = read_params(rt.alloc(), b"\0").expect(&rt, "a body");
+    assert!(rt; none.is_empty());
     let trailing = read_params(rt.alloc(), b"\0\0").err();
     assert_eq!(rt; trailing, Some(refused(1, Why::Trailing)));
-    Ok(())
 }
 
 #[test]
@@ -128,109 +124,90 @@ fn the_table_of_kinds(rt: HostRuntime) {
 }
 
 #[test]
-fn a_question_for_some(rt: HostRuntime) -> Result<(), Fail> {
+fn a_question_for_some(rt: HostRuntime) {
     let body = b"\x02\0\0\0\x01\x80\0\0\x13";
     let ids = read_query_some(rt.alloc(), body).expect(&rt, "a body");
     assert_eq!(rt; ids.as_slice(), [0x0001, 0x8000_0013].as_slice());
     assert!(rt; query_some_fits(&ids));
-    let written = write_query_some(rt.alloc(), &ids)?;
+    let written = write_query_some(rt.alloc(), &ids).expect(&rt, "octets");
     assert_eq!(rt; written.as_slice(), body.as_slice());
     let truncated = read_query_some(rt.alloc(), &body[..8]).err();
     assert_eq!(rt; truncated, Some(refused(5, Why::Truncated)));
     let trailing = read_query_some(rt.alloc(), b"\x01\0\0\0\x01\0").err();
     assert_eq!(rt; trailing, Some(refused(5, Why::Trailing)));
-    Ok(())
+}
+
+fn list_of(rt: &impl Abort, alloc: Global, table: &ParamTable) -> Seq<Param> {
+    table.list(alloc).expect(rt, "a list")
+}
+
+// A parameter as the only one of a list.
+fn only(alloc: Global, id: u32, octets: &[u8]) -> Result<Seq<Param>, Memory>
+    ensures { IfOk result (λ list. length list ≡ 1) }
+{
+    let value = ParamValue::Raw(Octets::from_vec(Vec::from_slice(alloc, octets)?));
+    Ok(Seq::from_vec(Vec::from_array(alloc, [Param { id, value }])?))
 }
 
 #[test]
-fn a_later_parameter_replaces_an_earlier_one(rt: HostRuntime) -> Result<(), Fail> {
-    let params = Seq::from_vec(Vec::from_array(
+fn a_later_parameter_replaces_an_earlier_one(rt: HostRuntime) {
+    let params = Vec::from_array(
         rt.alloc(),
         [dword(0x0003, 5), dword(0x0001, 60), dword(0x0003, 3)],
-    )?);
+    )
+    .expect(&rt, "parameters");
     let mut table = ParamTable::new(rt.alloc());
-    assert!(rt; table.list(rt.alloc())?.is_empty());
-    table.set_all(&params)?;
-    let listed = table.list(rt.alloc())?;
+    assert!(rt; list_of(&rt, rt.alloc(), &table).is_empty());
+    assert_eq!(rt; table.set_all(&Seq::from_vec(params)), Ok(()));
+    let listed = list_of(&rt, rt.alloc(), &table);
     assert_eq!(rt; listed.len(), 2);
-    assert!(rt;
-        matches!(
-            listed.get(0),
-            Some(Param {
-                id: 0x0001,
-                value: ParamValue::Dword(60)
-            })
-        )
-    );
-    assert!(rt;
-        matches!(
-            listed.get(1),
-            Some(Param {
-                id: 0x0003,
-                value: ParamValue::Dword(3)
-            })
-        )
-    );
-    let ids = Seq::from_vec(Vec::from_array(rt.alloc(), [0x0003, 0x0002, 0x0001])?);
-    let selected = table.select(rt.alloc(), &ids)?;
+    assert!(rt; is_dword(listed.get(0), 0x0001, 60));
+    assert!(rt; is_dword(listed.get(1), 0x0003, 3));
+    let ids = Vec::from_array(rt.alloc(), [0x0003, 0x0002, 0x0001]).expect(&rt, "ids");
+    let ids = Seq::from_vec(ids);
+    let selected = table.select(rt.alloc(), &ids).expect(&rt, "parameters");
     assert_eq!(rt; selected.len(), 2);
-    assert!(rt;
-        matches!(
-            selected.get(0),
-            Some(Param {
-                id: 0x0003,
-                value: ParamValue::Dword(3)
-            })
-        )
-    );
-    assert!(rt;
-        matches!(
-            selected.get(1),
-            Some(Param {
-                id: 0x0001,
-                value: ParamValue::Dword(60)
-            })
-        )
-    );
+    assert!(rt; is_dword(selected.get(0), 0x0003, 3));
+    assert!(rt; is_dword(selected.get(1), 0x0001, 60));
     assert_eq!(rt; table.dword(0x0001), Some(60));
     assert_eq!(rt; table.dword(0x0002), None);
-    // A value of another length is no number.
-    let raw = Param {
-        id: 0x0001,
-        value: ParamValue::Raw(Octets::from_vec(Vec::from_slice(rt.alloc(), &[0, 60])?)),
-    };
-    let copied = Seq::from_vec(Vec::from_array(rt.alloc(), [raw])?).copy(rt.alloc())?;
-    table.set_all(&copied)?;
+}
+
+// A value of another length is no number, and under an id of the kind raw octets of its length are none of its values.
+#[test]
+fn raw_octets_under_an_id_of_a_number(rt: HostRuntime) {
+    let mut table = ParamTable::new(rt.alloc());
+    let params = Vec::from_array(rt.alloc(), [dword(0x0001, 60), dword(0x0003, 3)]);
+    let params = Seq::from_vec(params.expect(&rt, "parameters"));
+    assert_eq!(rt; table.set_all(&params), Ok(()));
+    let raw = only(rt.alloc(), 0x0001, &[0, 60]).expect(&rt, "a parameter");
+    let copied = raw.copy(rt.alloc()).expect(&rt, "a copy");
+    assert_eq!(rt; table.set_all(&copied), Ok(()));
     assert_eq!(rt; table.dword(0x0001), None);
-    assert_eq!(rt; table.list(rt.alloc())?.len(), 2);
-    // Under an id of the kind, raw octets of its length are none of its values.
-    let untyped = Param {
-        id: 0x0001,
-        value: ParamValue::Raw(Octets::from_vec(Vec::from_slice(rt.alloc(), &[0, 0, 0, 60])?)),
-    };
-    let untyped = Seq::from_vec(Vec::from_array(rt.alloc(), [untyped])?);
+    assert_eq!(rt; list_of(&rt, rt.alloc(), &table).len(), 2);
+    let untyped = only(rt.alloc(), 0x0001, &[0, 0, 0, 60]).expect(&rt, "a parameter");
     assert!(rt; !params_fit(&untyped));
-    Ok(())
 }
 
 #[test]
-fn a_table_has_at_most_255(rt: HostRuntime) -> Result<(), Fail> {
+fn a_table_has_at_most_255(rt: HostRuntime) {
     let mut table = ParamTable::new(rt.alloc());
-    let full = many(rt.alloc(), 255)?;
+    let full = many(rt.alloc(), 255).expect(&rt, "parameters");
     assert_eq!(rt; full.len(), 255);
-    table.set_all(&full)?;
-    assert_eq!(rt; table.list(rt.alloc())?.len(), 255);
-    let one_more = Seq::from_vec(Vec::from_array(rt.alloc(), [dword(1, 8), dword(1000, 8)])?);
+    assert_eq!(rt; table.set_all(&full), Ok(()));
+    assert_eq!(rt; list_of(&rt, rt.alloc(), &table).len(), 255);
+    let one_more = Vec::from_array(rt.alloc(), [dword(1, 8), dword(1000, 8)]);
+    let one_more = Seq::from_vec(one_more.expect(&rt, "parameters"));
     assert_eq!(rt; table.set_all(&one_more), Err(ParamError::TooMany(256)));
-    assert_eq!(rt; table.list(rt.alloc())?.len(), 255);
+    assert_eq!(rt; list_of(&rt, rt.alloc(), &table).len(), 255);
     assert_eq!(rt; table.dword(1), Some(7));
     assert_eq!(rt; table.dword(1000), None);
-    let all = many(rt.alloc(), 65_535)?;
+    let all = many(rt.alloc(), 65_535).expect(&rt, "parameters");
     assert_eq!(rt; all.len(), 65_535);
     assert_eq!(rt; table.set_all(&all), Err(ParamError::TooMany(65_535)));
-    let again = Seq::from_vec(Vec::from_array(rt.alloc(), [dword(255, 9), dword(1, 9)])?);
+    let again = Vec::from_array(rt.alloc(), [dword(255, 9), dword(1, 9)]);
+    let again = Seq::from_vec(again.expect(&rt, "parameters"));
     assert_eq!(rt; table.set_all(&again), Ok(()));
     assert_eq!(rt; table.dword(255), Some(9));
     assert_eq!(rt; table.dword(254), Some(7));
-    Ok(())
 }

@@ -4,7 +4,6 @@ use jt_position::{
 };
 use jt_value::{CodecError, Refusal, Why};
 use std::alloc::Global;
-use std::test::Fail;
 
 // A position of 28 octets, and an item 0x01 with a length that the table does not give it.
 const BODY: [u8; 33] = [
@@ -25,7 +24,7 @@ fn truncated(inside: u64) -> Refusal {
 }
 
 #[test]
-fn a_position_of_a_raw_item(rt: HostRuntime) -> Result<(), Fail> {
+fn a_position_of_a_raw_item(rt: HostRuntime) {
     let fixed = Fixed {
         alarm: 0,
         status: 3,
@@ -36,7 +35,7 @@ fn a_position_of_a_raw_item(rt: HostRuntime) -> Result<(), Fail> {
         direction: 0,
         time: [0; 6],
     };
-    let view = view_position(&BODY)?;
+    let view = view_position(&BODY).expect(&rt, "a position");
     assert_eq!(rt; view.fixed, fixed);
     assert_eq!(rt; moment(&view.fixed.time), None);
     let mut items = view.items;
@@ -46,11 +45,10 @@ fn a_position_of_a_raw_item(rt: HostRuntime) -> Result<(), Fail> {
     };
     assert_eq!(rt; items.next(), Some(raw));
     assert_eq!(rt; items.next(), None);
-    let position = read_position(rt.alloc(), &BODY)?;
+    let position = read_position(rt.alloc(), &BODY).expect(&rt, "a position");
     assert_eq!(rt; position.fixed, fixed);
     assert!(rt; matches!(position.items.get(0), Some(Item::Raw { id: 0x01, .. })));
     assert_eq!(rt; is_kept(rt.alloc(), &BODY, 1), Ok(true));
-    Ok(())
 }
 
 // Whether these octets are read as a position with so many items, and are written back.
@@ -78,10 +76,12 @@ const ITEMS: [u8; 125] = [
 ];
 
 #[test]
-fn items_by_the_table(rt: HostRuntime) -> Result<(), Fail> {
-    let mut body = Vec::from_slice(rt.alloc(), &BODY[..28])?;
-    body.extend_from_slice(&ITEMS)?;
-    let mut items = view_position(body.as_slice())?.items;
+fn items_by_the_table(rt: HostRuntime) {
+    let mut body = Vec::from_slice(rt.alloc(), &BODY[..28]).expect(&rt, "octets");
+    body.extend_from_slice(&ITEMS).expect(&rt, "octets");
+    let mut items = view_position(body.as_slice())
+        .expect(&rt, "a position")
+        .items;
     for item in [
         ItemView::Mileage(0x0001_0203),
         raw(0x01, &[0, 1]),
@@ -129,7 +129,6 @@ fn items_by_the_table(rt: HostRuntime) -> Result<(), Fail> {
     assert_eq!(rt; items.next(), None);
     assert_eq!(rt; body.len(), 153);
     assert_eq!(rt; is_kept(rt.alloc(), body.as_slice(), 26), Ok(true));
-    Ok(())
 }
 
 #[test]
@@ -205,24 +204,26 @@ fn is_position(view: Option<PositionView<'_>>, size: usize, item: Option<ItemVie
 }
 
 #[test]
-fn fixes_are_short_positions(rt: HostRuntime) -> Result<(), Fail> {
-    let fix = Fix::read(rt.alloc(), &BODY)?;
-    assert_eq!(rt; fix.clone()?.as_slice(), BODY.as_slice());
+fn fixes_are_short_positions(rt: HostRuntime) {
+    let fix = Fix::read(rt.alloc(), &BODY).expect(&rt, "a fix");
+    assert_eq!(rt;
+        fix.clone().expect(&rt, "a copy").as_slice(),
+        BODY.as_slice()
+    );
     let answer = Fix::read(rt.alloc(), &BODY[..27]).err();
     assert_eq!(rt; answer, Some(FixError::Refused(truncated(22))));
     let mut longest = [0; 1024];
     longest[29] = 1;
-    let fix = Fix::read(rt.alloc(), &longest[..1023])?;
+    let fix = Fix::read(rt.alloc(), &longest[..1023]).expect(&rt, "a fix");
     assert_eq!(rt; fix.as_slice(), &longest[..1023]);
     let answer = Fix::read(rt.alloc(), &longest).err();
     assert_eq!(rt; answer, Some(FixError::Long(1024)));
-    let fix = Fix::at(rt.alloc(), 20_000_000)?;
+    let fix = Fix::at(rt.alloc(), 20_000_000).expect(&rt, "a fix");
     let octets = [
         0, 0, 0, 0, 0, 0, 0, 3, 0x01, 0x31, 0x2D, 0x00, 0x06, 0xBC, 0x3E, 0x40, 0, 0, 0, 0, 0, 0,
         0x24, 0x01, 0x01, 0, 0, 0,
     ];
     assert_eq!(rt; fix.as_slice(), octets.as_slice());
-    Ok(())
 }
 
 // Whether these twelve digits name this moment.

@@ -4,7 +4,6 @@ use jt_region_bodies::{
     write_polygon, write_rectangles, write_route,
 };
 use jt_value::{CodecError, Refusal, Why};
-use std::test::Fail;
 
 const ROUTE: [u8; 45] =
     *b"\0\0\0\x05\0\x01\x24\x01\x01\0\0\0\x24\x01\x02\0\0\0\0\x01\0\0\0\x06\0\0\0\x07\x01\x31\x2d\0\x06\xbc\x3e\x40\x0a\x03\0\x3c\0\x1e\0\x50\x05";
@@ -73,7 +72,7 @@ fn point(attribute: u8, thresholds: Option<(u16, u16)>, limit: Option<Limit>) ->
 }
 
 #[test]
-fn circles_with_and_without_times_and_limit(rt: HostRuntime) -> Result<(), Fail> {
+fn circles_with_and_without_times_and_limit(rt: HostRuntime) {
     let (setting, list) = read_circles(rt.alloc(), &CIRCLES).expect(&rt, "a body");
     assert_eq!(rt; setting, 2);
     let circles = [
@@ -85,9 +84,8 @@ fn circles_with_and_without_times_and_limit(rt: HostRuntime) -> Result<(), Fail>
     ];
     assert_eq!(rt; list.as_slice(), circles.as_slice());
     assert!(rt; circles_fit(setting, &list));
-    let written = write_circles(rt.alloc(), setting, &list)?;
+    let written = write_circles(rt.alloc(), setting, &list).expect(&rt, "octets");
     assert_eq!(rt; written.as_slice(), CIRCLES.as_slice());
-    Ok(())
 }
 
 #[test]
@@ -98,7 +96,7 @@ fn a_circle_whose_times_are_missing(rt: HostRuntime) {
 }
 
 #[test]
-fn rectangles_with_and_without_times_and_limit(rt: HostRuntime) -> Result<(), Fail> {
+fn rectangles_with_and_without_times_and_limit(rt: HostRuntime) {
     let (setting, list) = read_rectangles(rt.alloc(), &RECTANGLES).expect(&rt, "a body");
     assert_eq!(rt; setting, 0);
     let rectangles = [
@@ -109,13 +107,12 @@ fn rectangles_with_and_without_times_and_limit(rt: HostRuntime) -> Result<(), Fa
     ];
     assert_eq!(rt; list.as_slice(), rectangles.as_slice());
     assert!(rt; rectangles_fit(setting, &list));
-    let written = write_rectangles(rt.alloc(), setting, &list)?;
+    let written = write_rectangles(rt.alloc(), setting, &list).expect(&rt, "octets");
     assert_eq!(rt; written.as_slice(), RECTANGLES.as_slice());
-    Ok(())
 }
 
 #[test]
-fn a_polygon_with_vertices(rt: HostRuntime) -> Result<(), Fail> {
+fn a_polygon_with_vertices(rt: HostRuntime) {
     let polygon = read_polygon(rt.alloc(), &POLYGON).expect(&rt, "a body");
     assert_eq!(rt; polygon.id, 9);
     let vertices = [
@@ -133,13 +130,12 @@ fn a_polygon_with_vertices(rt: HostRuntime) -> Result<(), Fail> {
         },
     ];
     assert_eq!(rt; polygon.vertices.as_slice(), vertices.as_slice());
-    let written = write_polygon(rt.alloc(), &polygon)?;
+    let written = write_polygon(rt.alloc(), &polygon).expect(&rt, "octets");
     assert_eq!(rt; written.as_slice(), POLYGON.as_slice());
-    Ok(())
 }
 
 #[test]
-fn polygons_with_and_without_times_and_limit(rt: HostRuntime) -> Result<(), Fail> {
+fn polygons_with_and_without_times_and_limit(rt: HostRuntime) {
     let rows: [(&[u8], Option<[u8; 12]>, Option<Limit>); 4] = [
         (b"\0\0\0\x09\0\0\0\0", None, None),
         (
@@ -159,16 +155,15 @@ fn polygons_with_and_without_times_and_limit(rt: HostRuntime) -> Result<(), Fail
         assert_eq!(rt; polygon.times, times);
         assert_eq!(rt; polygon.limit, limit);
         assert!(rt; polygon.fits());
-        let written = write_polygon(rt.alloc(), &polygon)?;
+        let written = write_polygon(rt.alloc(), &polygon).expect(&rt, "octets");
         assert_eq!(rt; written.as_slice(), body);
     }
     let trailing = read_polygon(rt.alloc(), b"\0\0\0\x09\0\0\0\0\0").err();
     assert_eq!(rt; trailing, Some(refused(8, Why::Trailing)));
-    Ok(())
 }
 
 #[test]
-fn a_route_with_times(rt: HostRuntime) -> Result<(), Fail> {
+fn a_route_with_times(rt: HostRuntime) {
     let route = read_route(rt.alloc(), &ROUTE).expect(&rt, "a body");
     assert_eq!(rt; route.id, 5);
     assert_eq!(rt; route.attribute, 1);
@@ -185,15 +180,14 @@ fn a_route_with_times(rt: HostRuntime) -> Result<(), Fail> {
     };
     assert_eq!(rt; route.points.as_slice(), [point].as_slice());
     assert!(rt; route.fits());
-    let written = write_route(rt.alloc(), &route)?;
+    let written = write_route(rt.alloc(), &route).expect(&rt, "octets");
     assert_eq!(rt; written.as_slice(), ROUTE.as_slice());
     let cut = read_route(rt.alloc(), &ROUTE[..44]).err();
     assert_eq!(rt; cut, Some(refused(44, Why::Truncated)));
-    Ok(())
 }
 
 #[test]
-fn points_with_and_without_thresholds_and_limit(rt: HostRuntime) -> Result<(), Fail> {
+fn points_with_and_without_thresholds_and_limit(rt: HostRuntime) {
     let route = read_route(rt.alloc(), &POINTS).expect(&rt, "a body");
     assert_eq!(rt; route.times, None);
     let points = [
@@ -203,24 +197,22 @@ fn points_with_and_without_thresholds_and_limit(rt: HostRuntime) -> Result<(), F
         point(3, Some((60, 30)), Some(LIMIT)),
     ];
     assert_eq!(rt; route.points.as_slice(), points.as_slice());
-    let written = write_route(rt.alloc(), &route)?;
+    let written = write_route(rt.alloc(), &route).expect(&rt, "octets");
     assert_eq!(rt; written.as_slice(), POINTS.as_slice());
-    Ok(())
 }
 
 #[test]
-fn deletions(rt: HostRuntime) -> Result<(), Fail> {
+fn deletions(rt: HostRuntime) {
     let rows: [(&[u8], &[u32]); 2] = [(b"\0", &[]), (b"\x02\0\0\0\x07\0\0\x01\0", &[7, 256])];
     for (body, ids) in rows {
         let deletion = read_deletion(rt.alloc(), body).expect(&rt, "a body");
         assert_eq!(rt; deletion.ids.as_slice(), ids);
         assert!(rt; deletion.fits());
-        let written = write_deletion(rt.alloc(), &deletion)?;
+        let written = write_deletion(rt.alloc(), &deletion).expect(&rt, "octets");
         assert_eq!(rt; written.as_slice(), body);
     }
     let cut = read_deletion(rt.alloc(), b"\x02\0\0\0\x07\0\0\x01").err();
     assert_eq!(rt; cut, Some(refused(5, Why::Truncated)));
-    Ok(())
 }
 
 #[test]

@@ -3,7 +3,6 @@ use jt_register::{
     write_register_reply,
 };
 use jt_value::{CodecError, Edition, Octets, Refusal, Why};
-use std::test::Fail;
 
 // Province 44, city 300, maker 70111, model A1 and terminal 1234567 in their lengths, colour 2, and a plate with a zero octet.
 const REGISTER: [u8; 41] =
@@ -14,7 +13,7 @@ fn refused(inside: u64, why: Why) -> CodecError {
 }
 
 #[test]
-fn a_registration_of_2013(rt: HostRuntime) -> Result<(), Fail> {
+fn a_registration_of_2013(rt: HostRuntime) {
     let register = read_register(rt.alloc(), Edition::E2013, &REGISTER).expect(&rt, "a body");
     assert_eq!(rt; register.province, 44);
     assert_eq!(rt; register.city, 300);
@@ -27,13 +26,12 @@ fn a_registration_of_2013(rt: HostRuntime) -> Result<(), Fail> {
     assert_eq!(rt; register.colour, 2);
     assert_eq!(rt; register.plate.as_slice(), b"\xd4\xc1\0B".as_slice());
     assert!(rt; register.fits(Edition::E2013));
-    let written = write_register(rt.alloc(), Edition::E2013, &register)?;
+    let written = write_register(rt.alloc(), Edition::E2013, &register).expect(&rt, "octets");
     assert_eq!(rt; written.as_slice(), REGISTER.as_slice());
-    Ok(())
 }
 
 #[test]
-fn fields_that_pass_the_end(rt: HostRuntime) -> Result<(), Fail> {
+fn fields_that_pass_the_end(rt: HostRuntime) {
     for (length, inside) in [(3, 2), (8, 4), (28, 9), (35, 29), (36, 36)] {
         let answer = read_register(rt.alloc(), Edition::E2013, &REGISTER[..length]);
         assert_eq!(rt; answer.err(), Some(refused(inside, Why::Truncated)));
@@ -42,19 +40,19 @@ fn fields_that_pass_the_end(rt: HostRuntime) -> Result<(), Fail> {
         &rt, "a body",
     );
     assert!(rt; plateless.plate.is_empty());
-    Ok(())
 }
 
 #[test]
-fn a_terminal_of_eight_octets_does_not_fit(rt: HostRuntime) -> Result<(), Fail> {
+fn a_terminal_of_eight_octets_does_not_fit(rt: HostRuntime) {
     let mut register = read_register(rt.alloc(), Edition::E2013, &REGISTER).expect(&rt, "a body");
-    register.terminal = Octets::from_vec(Vec::from_slice(rt.alloc(), b"12345678")?);
+    register.terminal = Octets::from_vec(Vec::from_slice(rt.alloc(), b"12345678").expect(
+        &rt, "octets",
+    ));
     assert!(rt; !register.fits(Edition::E2013));
-    Ok(())
 }
 
 #[test]
-fn replies_to_registrations(rt: HostRuntime) -> Result<(), Fail> {
+fn replies_to_registrations(rt: HostRuntime) {
     let rows: [(&[u8], u8, &[u8]); 3] = [
         (b"\0\x05\x03", 3, b""),
         (b"\0\x05\0", 0, b""),
@@ -66,25 +64,24 @@ fn replies_to_registrations(rt: HostRuntime) -> Result<(), Fail> {
         assert_eq!(rt; reply.result, answer);
         assert_eq!(rt; reply.code.as_slice(), code);
         assert!(rt; reply.fits());
-        let written = write_register_reply(rt.alloc(), &reply)?;
+        let written = write_register_reply(rt.alloc(), &reply).expect(&rt, "octets");
         assert_eq!(rt; written.as_slice(), body);
     }
     let trailing = read_register_reply(rt.alloc(), b"\0\x05\x03A").err();
     assert_eq!(rt; trailing, Some(refused(3, Why::Trailing)));
     let truncated = read_register_reply(rt.alloc(), b"\0\x05").err();
     assert_eq!(rt; truncated, Some(refused(2, Why::Truncated)));
-    Ok(())
 }
 
 #[test]
-fn an_authentication_of_2013(rt: HostRuntime) -> Result<(), Fail> {
+fn an_authentication_of_2013(rt: HostRuntime) {
     let bodies: [&[u8]; 2] = [b"", b"1234\0x"];
     for body in bodies {
         let auth = read_auth(rt.alloc(), Edition::E2013, body).expect(&rt, "a body");
         assert_eq!(rt; auth.code.as_slice(), body);
         assert!(rt; auth.tail.is_none());
         assert!(rt; auth.fits(Edition::E2013));
-        let written = write_auth(rt.alloc(), Edition::E2013, &auth)?;
+        let written = write_auth(rt.alloc(), Edition::E2013, &auth).expect(&rt, "octets");
         assert_eq!(rt; written.as_slice(), body);
     }
     let tail = AuthTail {
@@ -96,5 +93,4 @@ fn an_authentication_of_2013(rt: HostRuntime) -> Result<(), Fail> {
         tail: Some(tail),
     };
     assert!(rt; !auth.fits(Edition::E2013));
-    Ok(())
 }
