@@ -13,8 +13,3 @@ pub use jt_view::{
 pub use playing::play;
 pub use task::Task;
 pub use top::{Ended, Outside, run};
-
-#[cfg(test)]
-mod script_tests;
-#[cfg(test)]
-mod tests;

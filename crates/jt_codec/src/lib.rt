@@ -21,6 +21,3 @@ pub use judging::judge_message;
 pub use laws::{law_of_acks, law_of_bodies, law_of_frames};
 pub use message::Message;
 pub use viewing::{MessageView, view_message};
-
-#[cfg(test)]
-mod tests;

@@ -10,6 +10,3 @@ pub use laws::{
     law_first_frame, law_frames, law_front, law_octets, law_one_end, law_one_list, law_one_octet,
 };
 pub use splitter::{Split, Splitter};
-
-#[cfg(test)]
-mod tests;

@@ -9,6 +9,3 @@ mod writing;
 pub use header::{Header, Packet};
 pub use reading::{law_of_contents, read_header};
 pub use writing::write_header;
-
-#[cfg(test)]
-mod tests;

@@ -8,6 +8,3 @@ mod writer;
 pub use element::{Element, all_fit, octets_fit};
 pub use reader::Reader;
 pub use writer::Writer;
-
-#[cfg(test)]
-mod tests;

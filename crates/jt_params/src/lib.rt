@@ -11,6 +11,3 @@ pub use bodies::{
 };
 pub use param::{Kind, Param, ParamValue, kind_of};
 pub use table::{ParamError, ParamTable, law_tables};
-
-#[cfg(test)]
-mod tests;

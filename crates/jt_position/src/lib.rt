@@ -20,6 +20,3 @@ pub use items::{Items, PositionView, view_position};
 pub use moments::moment;
 pub use position::{Position, law_positions, read_position, write_position};
 pub use view::ItemView;
-
-#[cfg(test)]
-mod tests;

@@ -17,6 +17,3 @@ pub use limit::Limit;
 pub use polygon::{Polygon, Vertex, law_polygons, read_polygon, write_polygon};
 pub use rectangle::{Rectangle, law_rectangles, read_rectangles, rectangles_fit, write_rectangles};
 pub use route::{Route, RoutePoint, law_routes, read_route, write_route};
-
-#[cfg(test)]
-mod tests;

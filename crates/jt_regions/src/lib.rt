@@ -16,6 +16,3 @@ pub use jt_region_bodies::{
     write_circles, write_deletion, write_ids, write_polygon, write_rectangles, write_route,
 };
 pub use region_table::RegionTable;
-
-#[cfg(test)]
-mod table_tests;

@@ -10,6 +10,3 @@ pub use event::WorldEvent;
 pub use laws::law_lines;
 pub use line_cutter::{Cut, LineCutter};
 pub use script::{ScriptLine, script_line};
-
-#[cfg(test)]
-mod tests;

@@ -6,6 +6,3 @@ mod stream;
 
 pub use laws::{law_all_items, law_frames, law_front, law_items, law_one_list, law_one_octet};
 pub use stream::{Stream, StreamItem, placed};
-
-#[cfg(test)]
-mod tests;

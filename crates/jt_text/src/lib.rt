@@ -15,6 +15,3 @@ pub use laws::law_of_times;
 pub use line::Line;
 pub use refusal::{push_refusal_line, push_refusal_line_with, refusal_line};
 pub use views::push_message_view_line;
-
-#[cfg(test)]
-mod tests;

@@ -10,6 +10,3 @@ pub use memory::Memory;
 pub use phone::{Edition, Phone};
 pub use refusal::{CodecError, Refusal, Why};
 pub use seq::{Octets, Seq};
-
-#[cfg(test)]
-mod tests;

@@ -19,6 +19,3 @@ pub use command::{Command, Encoding, Report};
 pub use hex_laws::{law_octets_of_front, law_wrong_stays};
 pub use running::report;
 pub use status::Status;
-
-#[cfg(test)]
-mod tests;

@@ -18,6 +18,3 @@ pub use laws::law_world;
 pub use rehearsing::{Rehearsed, rehearse};
 pub use row::Row;
 pub use world::{Counts, SmallEntry, World, WorldError};
-
-#[cfg(test)]
-mod tests;

@@ -1,9 +1,0 @@
-use Rattle.std.proofs.Common.{◌≡◌, ◌+◌, ◌-◌, ◌≤◌, length}
-use Rattle.jt_escape.proofs.tests.agree.Given as goal
-
-abbrev pub invariant-loop-at : goal.invariant-loop-at
-invariant-loop-at l =
-    (l.at ≤ length l.piece) × (l.bulk.place ≡ l.initial.bulk.place + l.at) × (l.plain.place ≡ l.initial.plain.place + l.at)
-
-abbrev pub decreases-loop-at : goal.decreases-loop-at
-decreases-loop-at l = length l.piece - l.at

@@ -1,5 +1,0 @@
-use Rattle.std.proofs.Common.{◌≤◌, ◌+◌, length}
-use Rattle.jt_stream.proofs.tests.brings.Given as goal
-
-abbrev pub invariant-loop-answer : goal.invariant-loop-answer
-invariant-loop-answer l = l.stream.splitter.place + length l.rest ≤ l.fn.stream.splitter.place + length l.piece

@@ -1,0 +1,654 @@
+use jt_cli::{Command, Encoding, Outside, Report, Status, Task, refusal_line, run, view_line};
+use jt_codec::read_message;
+use jt_header::read_header;
+use jt_outside::{MemSink, MemSource};
+use jt_value::{Memory, Octets, Refusal, Seq, Why};
+use std::alloc::{AllocError, Global};
+use std::process::Abort;
+
+const USAGE: &str = "usage: jt808 view|check|rehearse|make|platform|report\n";
+
+const HEARTBEAT: &[u8] = b"\x7e\x00\x02\x00\x00\x01\x39\x12\x34\x56\x78\x00\x00\x32\x7e";
+
+fn words_of(alloc: Global, words: &[&str]) -> Result<Vec<String>, AllocError> {
+    let mut all = Vec::new(alloc);
+    for word in words {
+        all.push(String::from_str(alloc, word)?)?;
+    }
+    Ok(all)
+}
+
+// A source and a sink in memory. `failing` has the numbers of the read and of the write that fail, 0 for none.
+fn outside(
+    alloc: Global,
+    octets: &[u8],
+    failing: (u64, u64),
+) -> Result<Outside<MemSource, MemSink>, Memory> {
+    let mut failing_reads = Seq::new(alloc);
+    failing_reads.push(failing.0)?;
+    let mut failing_writes = Seq::new(alloc);
+    failing_writes.push(failing.1)?;
+    Ok(Outside {
+        source: MemSource::new(Octets::from_vec(octets.to_vec(alloc)?), failing_reads),
+        sink: MemSink::new(alloc, 8192, failing_writes)?,
+    })
+}
+
+// Runs the words over these octets, and compares the status and what was written.
+fn expect(
+    rt: &impl Abort,
+    alloc: Global,
+    words: &[&str],
+    octets: &[u8],
+    failing: (u64, u64),
+    status: Status,
+    written: &str,
+) {
+    let words = words_of(alloc, words).expect(rt, "words");
+    let outside = outside(alloc, octets, failing).expect(rt, "a source and a sink");
+    let ended = run(&(), alloc, &words, outside);
+    assert_eq!(rt; ended.status, status, "{octets:?}");
+    assert_eq!(rt;
+        ended.outside.sink.octets(),
+        written.as_bytes(),
+        "{octets:?}"
+    );
+}
+
+#[test]
+fn views(rt: HostRuntime) {
+    let alloc = rt.alloc();
+    let rows: [(&[u8], Status, &str); 22] = [
+        (
+            b"\x7e\x00\x02\x00\x00\x01\x39\x12\x34\x56\x78\x00\x00\x32\x7e",
+            Status::Done,
+            "0 2013 0x0002 heartbeat phone=013912345678 serial=0 body=0\nframes=1 refused=0\n",
+        ),
+        (
+            b"\x7e\x00\x02\x00\x00\x01\x39\x12\x34\x56\x78\x00\x7d\x02\x4c\x7e",
+            Status::Done,
+            "0 2013 0x0002 heartbeat phone=013912345678 serial=126 body=0\nframes=1 refused=0\n",
+        ),
+        (
+            b"\x7e\x00\x02\x00\x00\x01\x39\x12\x34\x56\x78\x00\x4c\x7d\x02\x7e",
+            Status::Done,
+            "0 2013 0x0002 heartbeat phone=013912345678 serial=76 body=0\nframes=1 refused=0\n",
+        ),
+        (
+            b"\x7e\x00\x02\x00\x00\x01\x39\x12\x34\x56\x78\x00\x00\x32\x7e\x7e\x00\x02\x00\x00\x01\x39\x12\x34\x56\x78\x00\x00\x32\x7e",
+            Status::Done,
+            "0 2013 0x0002 heartbeat phone=013912345678 serial=0 body=0\n15 2013 0x0002 heartbeat phone=013912345678 serial=0 body=0\nframes=2 refused=0\n",
+        ),
+        (b"", Status::Done, "frames=0 refused=0\n"),
+        (
+            b"\x7e\x7e\x00\x02\x00\x00\x01\x39\x12\x34\x56\x78\x00\x00\x32\x7e",
+            Status::Refused,
+            "0+0 refused EmptyFrame\n1 2013 0x0002 heartbeat phone=013912345678 serial=0 body=0\nframes=1 refused=1\n",
+        ),
+        (
+            b"\x00\x00\x7e\x00\x02\x00\x00\x01\x39\x12\x34\x56\x78\x00\x00\x32\x7e",
+            Status::Refused,
+            "0+0 refused Stray\n2 2013 0x0002 heartbeat phone=013912345678 serial=0 body=0\nframes=1 refused=1\n",
+        ),
+        (
+            b"\x7e\x00\x02\x00\x00\x01\x39\x12\x34\x56\x78\x00\x00\x33\x7e\x7e\x00\x02\x00\x00\x01\x39\x12\x34\x56\x78\x00\x00\x32\x7e",
+            Status::Refused,
+            "0+12 refused CheckMismatch computed=32 found=33\n15 2013 0x0002 heartbeat phone=013912345678 serial=0 body=0\nframes=1 refused=1\n",
+        ),
+        (
+            b"\x7e\x00\x02\x00\x00\x01\x39\x12\x34\x56\x78\x00\x00\x32",
+            Status::Refused,
+            "14+0 refused Truncated\nframes=0 refused=1\n",
+        ),
+        (
+            b"\x7e\x00\x02\x7d\x03\x7e",
+            Status::Refused,
+            "4+0 refused BadEscape\nframes=0 refused=1\n",
+        ),
+        (
+            b"\x7e\x00\x02\x04\x00\x01\x39\x12\x34\x56\x78\x00\x00\x36\x7e",
+            Status::Refused,
+            "0+2 refused Encrypted\nframes=0 refused=1\n",
+        ),
+        (
+            b"\x7e\x00\x02\x04\x00\x01\x39\x12\x34\x56\x78\x00\x00\x32\x7e",
+            Status::Refused,
+            "0+12 refused CheckMismatch computed=36 found=32\nframes=0 refused=1\n",
+        ),
+        (
+            b"\x7e\x00\x02\x40\x00\x01\x00\x00\x00\x00\x01\x39\x12\x34\x56\x78\x00\x00\x73\x7e",
+            Status::Refused,
+            "0+2 refused OtherEdition\nframes=0 refused=1\n",
+        ),
+        (
+            b"\x7e\x00\x02\x00\x01\x01\x39\x12\x34\x56\x78\x00\x00\x33\x7e",
+            Status::Refused,
+            "0+2 refused LengthMismatch declared=1 actual=0\nframes=0 refused=1\n",
+        ),
+        (
+            b"\x7e\x00\x02\x00\x00\x01\x3a\x12\x34\x56\x78\x00\x00\x31\x7e",
+            Status::Refused,
+            "0+5 refused PhoneDigit\nframes=0 refused=1\n",
+        ),
+        (
+            b"\x7e\x00\x7e",
+            Status::Refused,
+            "0+1 refused TooShort\nframes=0 refused=1\n",
+        ),
+        (
+            b"\x7e\x01\x04\x20\x02\x01\x39\x12\x34\x56\x78\x00\x0a\x00\x03\x00\x01\x00\x07\x18\x7e",
+            Status::Done,
+            "0 2013 0x0104 params phone=013912345678 serial=10 packet=1/3 body=2 part=0007\nframes=1 refused=0\n",
+        ),
+        (
+            b"\x7e\x01\x04\x20\x02\x01\x39\x12\x34\x56\x78\x00\x0a\x00\x03\x00\x04\x00\x07\x1d\x7e",
+            Status::Refused,
+            "0+12 refused BadPacketNumber\nframes=0 refused=1\n",
+        ),
+        (
+            b"\x7e\x00\x02\x80\x00\x01\x39\x12\x34\x56\x78\x00\x00\xb2\x7e",
+            Status::Done,
+            "0 2013 0x0002 heartbeat phone=013912345678 serial=0 bit15 body=0\nframes=1 refused=0\n",
+        ),
+        (
+            b"\x7e\x80\x01\x00\x05\x01\x39\x12\x34\x56\x78\x00\x00\x00\x00\x00\x02\x00\xb6\x7e",
+            Status::Done,
+            "0 2013 0x8001 platform-ack phone=013912345678 serial=0 body=5 reply=0 id=0x0002 result=0\nframes=1 refused=0\n",
+        ),
+        (
+            b"\x7e\x00\x02\x00\x01\x01\x39\x12\x34\x56\x78\x00\x00\x41\x72\x7e",
+            Status::Refused,
+            "0+12 refused Trailing\nframes=0 refused=1\n",
+        ),
+        (
+            b"\x7e\x00\x02\x00\x01\x01\x39\x12\x34\x56\x78\x00\x00\x41\x72\x7e\x7e\x00\x02\x00\x00\x01\x39\x12\x34\x56\x78\x00\x00\x32\x7e",
+            Status::Refused,
+            "0+12 refused Trailing\n16 2013 0x0002 heartbeat phone=013912345678 serial=0 body=0\nframes=1 refused=1\n",
+        ),
+    ];
+    for (octets, status, written) in rows {
+        expect(&rt, alloc, &["view"], octets, (0, 0), status, written);
+    }
+}
+
+#[test]
+fn views_of_bodies(rt: HostRuntime) {
+    let alloc = rt.alloc();
+    let rows: [(&[u8], Status, &str); 7] = [
+        (
+            b"\x7e\x02\x00\x00\x21\x01\x39\x12\x34\x56\x78\x00\x05\x00\x00\x00\x00\x00\x00\x00\x03\x01\x31\x2d\x00\x06\xbc\x3e\x40\x00\x00\x00\x00\x00\x00\x00\x00\x00\x00\x00\x00\x01\x03\x00\x00\x0a\xc4\x7e",
+            Status::Done,
+            "0 2013 0x0200 position phone=013912345678 serial=5 body=33 alarm=0x00000000 status=0x00000003 lat=20000000 lon=113000000 altitude=0 speed=0 direction=0 time=- item=0x01:00000a\nframes=1 refused=0\n",
+        ),
+        (
+            b"\x7e\x81\x00\x00\x03\x01\x39\x12\x34\x56\x78\x00\x00\x00\x05\x03\xb4\x7e",
+            Status::Done,
+            "0 2013 0x8100 register-reply phone=013912345678 serial=0 body=3 reply=5 result=3\nframes=1 refused=0\n",
+        ),
+        (
+            b"\x7e\x81\x00\x00\x03\x01\x39\x12\x34\x56\x78\x00\x00\x00\x05\x00\xb7\x7e",
+            Status::Done,
+            "0 2013 0x8100 register-reply phone=013912345678 serial=0 body=3 reply=5 result=0 code=-\nframes=1 refused=0\n",
+        ),
+        (
+            b"\x7e\x81\x00\x00\x04\x01\x39\x12\x34\x56\x78\x00\x00\x00\x05\x03\x41\xf2\x7e",
+            Status::Refused,
+            "0+15 refused Trailing\nframes=0 refused=1\n",
+        ),
+        (
+            b"\x7e\x07\x04\x00\x06\x01\x39\x12\x34\x56\x78\x00\x00\x00\x01\x00\x00\x1c\x00\x28\x7e",
+            Status::Refused,
+            "0+17 refused Truncated\nframes=0 refused=1\n",
+        ),
+        (
+            b"\x7e\x01\x00\x00\x29\x01\x39\x12\x34\x56\x78\x00\x01\x00\x2c\x01\x2c\x37\x30\x31\x31\x31\x41\x31\x00\x00\x00\x00\x00\x00\x00\x00\x00\x00\x00\x00\x00\x00\x00\x00\x00\x00\x31\x32\x33\x34\x35\x36\x37\x02\xd4\xc1\x00\x42\x3b\x7e",
+            Status::Done,
+            "0 2013 0x0100 register phone=013912345678 serial=1 body=41 province=44 city=300 maker=3730313131 model=4131000000000000000000000000000000000000 terminal=31323334353637 colour=2 plate=d4c10042\nframes=1 refused=0\n",
+        ),
+        (
+            b"\x7e\x00\x02\x00\x00\x01\x39\x12\x34\x56\x78\x00\x00\x32\x7e\x7e\x81\x00\x00\x04\x01\x39\x12\x34\x56\x78\x00\x00\x00\x05\x03\x41\xf2\x7e\x7e\x01\x02\x00\x02\x01\x39\x12\x34\x56\x78\x00\x02\x31\x32\x30\x7e",
+            Status::Refused,
+            "0 2013 0x0002 heartbeat phone=013912345678 serial=0 body=0\n15+15 refused Trailing\n34 2013 0x0102 auth phone=013912345678 serial=2 body=2 code=3132\nframes=2 refused=1\n",
+        ),
+    ];
+    for (octets, status, written) in rows {
+        expect(&rt, alloc, &["view"], octets, (0, 0), status, written);
+    }
+}
+
+// A flag, so many octets 00 and a heartbeat.
+fn zeros(alloc: Global, count: u16) -> Result<Vec<u8>, AllocError> {
+    let mut octets = b"\x7e".to_vec(alloc)?;
+    for _ in 0..count {
+        octets.push(0)?;
+    }
+    octets.extend_from_slice(HEARTBEAT)?;
+    Ok(octets)
+}
+
+// The content is too long at its last octet, the heartbeat's first flag ends what is skipped, what stands behind it is a stray
+// run, and its last flag opens a frame that does not end.
+#[test]
+fn views_of_a_content_too_long(rt: HostRuntime) {
+    let octets = zeros(rt.alloc(), 1046).expect(&rt, "octets");
+    let written =
+        "1046+0 refused TooLong\n1048+0 refused Stray\n1062+0 refused Truncated\nframes=0 refused=3\n";
+    expect(
+        &rt,
+        rt.alloc(),
+        &["view"],
+        octets.as_slice(),
+        (0, 0),
+        Status::Refused,
+        written,
+    );
+}
+
+// The frame of a body of 1,023 flags, under an id without a row.
+fn frame_of_flags(alloc: Global) -> Result<Vec<u8>, AllocError> {
+    let mut octets = b"\x7e\x0f\xff\x03\xff\x01\x39\x12\x34\x56\x78\x00\x00".to_vec(alloc)?;
+    for _ in 0..1023 {
+        octets.extend_from_slice(b"\x7d\x02")?;
+    }
+    octets.extend_from_slice(b"\x42\x7e")?;
+    Ok(octets)
+}
+
+fn line_of_flags(alloc: Global) -> Result<String, AllocError> {
+    let mut line = String::new(alloc);
+    line.push_str("0 2013 0x0fff opaque phone=013912345678 serial=0 body=1023 body-octets=")?;
+    for _ in 0..1023 {
+        line.push_str("7e")?;
+    }
+    line.push_str("\nframes=1 refused=0\n")?;
+    Ok(line)
+}
+
+#[test]
+fn views_of_an_opaque_body(rt: HostRuntime) {
+    let octets = frame_of_flags(rt.alloc()).expect(&rt, "a frame");
+    let written = line_of_flags(rt.alloc()).expect(&rt, "a line");
+    expect(
+        &rt,
+        rt.alloc(),
+        &["view"],
+        octets.as_slice(),
+        (0, 0),
+        Status::Done,
+        written.as_str(),
+    );
+}
+
+#[test]
+fn hexadecimal_inputs_and_checks(rt: HostRuntime) {
+    let alloc = rt.alloc();
+    let twice =
+        b"\x7e\x00\x02\x00\x00\x01\x39\x12\x34\x56\x78\x00\x00\x32\x7e\x7e\x00\x02\x00\x00\x01\x39\x12\x34\x56\x78\x00\x00\x32\x7e".as_slice();
+    let mismatch =
+        b"\x7e\x00\x02\x00\x00\x01\x39\x12\x34\x56\x78\x00\x00\x33\x7e\x7e\x00\x02\x00\x00\x01\x39\x12\x34\x56\x78\x00\x00\x32\x7e".as_slice();
+    let short_position =
+        b"7e 0200001b 013912345678 0005 000000000000000000000000000000000000000000000000000000 2c 7e".as_slice();
+    let rows: [(&[&str], &[u8], Status, &str); 12] = [
+        (
+            &["view", "--hex"],
+            short_position,
+            Status::Refused,
+            "0+34 refused Truncated\nframes=0 refused=1\n",
+        ),
+        (
+            &["check", "--hex"],
+            short_position,
+            Status::Refused,
+            "0+34 refused Truncated\n",
+        ),
+        (
+            &["view", "--hex"],
+            b"7e 7",
+            Status::Refused,
+            "hex refused at 4\n",
+        ),
+        (
+            &["view", "--hex"],
+            b"7e000200000139123456780000327e 7e0",
+            Status::Refused,
+            "0 2013 0x0002 heartbeat phone=013912345678 serial=0 body=0\nhex refused at 34\n",
+        ),
+        (
+            &["view", "--hex"],
+            b"7e000200000139123456780000327e7eg",
+            Status::Refused,
+            "0 2013 0x0002 heartbeat phone=013912345678 serial=0 body=0\nhex refused at 32\n",
+        ),
+        (
+            &["view", "--hex"],
+            b"7E 00020000 0139 1234\t5678\r\n0000 3\n2 7E",
+            Status::Done,
+            "0 2013 0x0002 heartbeat phone=013912345678 serial=0 body=0\nframes=1 refused=0\n",
+        ),
+        (&["check"], twice, Status::Done, "ok frames=2\n"),
+        (
+            &["check"],
+            mismatch,
+            Status::Refused,
+            "0+12 refused CheckMismatch computed=32 found=33\n",
+        ),
+        (
+            &["check"],
+            b"\x7e\x00\x02",
+            Status::Refused,
+            "3+0 refused Truncated\n",
+        ),
+        (
+            &["check", "--hex"],
+            b"7e 00020000 0139 1234\t5678\r\n0000 3\n2 7e",
+            Status::Done,
+            "ok frames=1\n",
+        ),
+        (
+            &["check", "--hex"],
+            b"7e7ex",
+            Status::Refused,
+            "0+0 refused EmptyFrame\n",
+        ),
+        (
+            &["check", "--hex"],
+            b"x",
+            Status::Refused,
+            "hex refused at 0\n",
+        ),
+    ];
+    for (words, octets, status, written) in rows {
+        expect(&rt, alloc, words, octets, (0, 0), status, written);
+    }
+}
+
+// An authentication, and a reply to a registration with an octet too many.
+#[test]
+fn checks_of_other_bodies(rt: HostRuntime) {
+    let alloc = rt.alloc();
+    let authentication = b"\x7e\x01\x02\0\x02\x01\x39\x12\x34\x56\x78\0\0\x41\x42\x32\x7e";
+    let reply = b"\x7e\x81\0\0\x04\x01\x39\x12\x34\x56\x78\0\0\0\x05\x03\x41\xf2\x7e";
+    let rows: [(&[u8], Status, &str); 2] = [
+        (authentication.as_slice(), Status::Done, "ok frames=1\n"),
+        (reply.as_slice(), Status::Refused, "0+15 refused Trailing\n"),
+    ];
+    for (octets, status, written) in rows {
+        expect(&rt, alloc, &["check"], octets, (0, 0), status, written);
+    }
+}
+
+// Nothing is read: the first read would fail.
+fn expect_usage(rt: &impl Abort, alloc: Global, words: &[&str]) {
+    expect(rt, alloc, words, HEARTBEAT, (1, 0), Status::Usage, USAGE);
+}
+
+#[test]
+fn words_that_are_no_command(rt: HostRuntime) {
+    let alloc = rt.alloc();
+    expect_usage(&rt, alloc, &[]);
+    expect_usage(&rt, alloc, &["views"]);
+    expect_usage(&rt, alloc, &["view", "--hex", "--hex"]);
+    expect_usage(&rt, alloc, &["view", "--help"]);
+    expect_usage(&rt, alloc, &["rehearse", "--hex"]);
+    expect_usage(&rt, alloc, &["make"])
+}
+
+// A check whose first piece has a refusal does not read again: in the last row the second read would fail.
+#[test]
+fn faults_of_the_outside(rt: HostRuntime) {
+    let alloc = rt.alloc();
+    let line = "0 2013 0x0002 heartbeat phone=013912345678 serial=0 body=0\n";
+    let stray = "0+0 refused Stray\n";
+    let rows: [(&str, &[u8], (u64, u64), Status, &str); 8] = [
+        ("view", HEARTBEAT, (1, 0), Status::ReadFault, ""),
+        ("view", HEARTBEAT, (2, 0), Status::ReadFault, line),
+        ("check", HEARTBEAT, (2, 0), Status::ReadFault, ""),
+        ("view", HEARTBEAT, (0, 1), Status::WriteFault, ""),
+        ("view", HEARTBEAT, (0, 2), Status::WriteFault, line),
+        ("check", HEARTBEAT, (0, 1), Status::WriteFault, ""),
+        ("views", HEARTBEAT, (0, 1), Status::WriteFault, ""),
+        ("check", b"\x00", (2, 0), Status::Refused, stray),
+    ];
+    for (word, octets, failing, status, written) in rows {
+        expect(&rt, alloc, &[word], octets, failing, status, written);
+    }
+}
+
+#[test]
+fn lines_of_their_own(rt: HostRuntime) {
+    let (header, body) = read_header(&HEARTBEAT[1..14]).expect(&rt, "a content");
+    let message = read_message(rt.alloc(), &header, body).expect(&rt, "a message");
+    let line = view_line(rt.alloc(), 7, &header, &message, 0).expect(&rt, "a line");
+    assert_eq!(rt;
+        line.as_slice(),
+        b"7 2013 0x0002 heartbeat phone=013912345678 serial=0 body=0\n".as_slice()
+    );
+    let refusal = Refusal {
+        at: 3,
+        inside: 2,
+        why: Why::LengthMismatch {
+            declared: 1,
+            actual: 0,
+        },
+    };
+    let line = refusal_line(rt.alloc(), &refusal).expect(&rt, "a line");
+    assert_eq!(rt;
+        line.as_slice(),
+        b"3+2 refused LengthMismatch declared=1 actual=0\n".as_slice()
+    );
+}
+
+#[test]
+fn scripts(rt: HostRuntime) {
+    let alloc = rt.alloc();
+    let rows: [(&str, Status, &str); 17] = [
+        (
+            "fix 0\ntick 0\nup 1 30\nfix 1\ntick 0\nup 1 all\ndown all\n",
+            Status::Done,
+            "1 unit 0 stored 0\n1 unit 1 stored 1\nrecorded=2 accepted=2 rows=2 stored=2\n",
+        ),
+        (
+            "fix 0\ntick 0\nup 1 30\n",
+            Status::Done,
+            "recorded=1 accepted=0 rows=0 stored=0\n",
+        ),
+        (
+            "fix 0\ntick 0\nup 1 all\n",
+            Status::Done,
+            "1 unit 0 stored 0\nrecorded=1 accepted=0 rows=1 stored=1\n",
+        ),
+        ("fix 0\nopen\n", Status::Refused, "line 2 refused\n"),
+        (
+            "fix 0\ntick 0\nup 1 all\nrun\nfix 1\n",
+            Status::Refused,
+            "1 unit 0 stored 0\nline 4 refused\n",
+        ),
+        (
+            "fix 0",
+            Status::Done,
+            "recorded=1 accepted=0 rows=0 stored=0\n",
+        ),
+        ("fix 0\nfix", Status::Refused, "line 2 refused\n"),
+        ("", Status::Done, "recorded=0 accepted=0 rows=0 stored=0\n"),
+        (
+            "\n# a comment\nfix 89999999\n\n",
+            Status::Done,
+            "recorded=1 accepted=0 rows=0 stored=0\n",
+        ),
+        (
+            "\n# a comment\nfix 01\n",
+            Status::Refused,
+            "line 3 refused\n",
+        ),
+        ("fix 0\r\n", Status::Refused, "line 1 refused\n"),
+        ("fix  0\n", Status::Refused, "line 1 refused\n"),
+        ("fix\t0\n", Status::Refused, "line 1 refused\n"),
+        ("fix 90000000\n", Status::Refused, "line 1 refused\n"),
+        ("up 1 1000000001\n", Status::Refused, "line 1 refused\n"),
+        ("up 2 all\n", Status::Refused, "line 1 refused\n"),
+        ("tick 0\ntick 1\n", Status::Refused, "line 2 refused\n"),
+    ];
+    for (script, status, written) in rows {
+        expect(
+            &rt,
+            alloc,
+            &["rehearse"],
+            script.as_bytes(),
+            (0, 0),
+            status,
+            written,
+        );
+    }
+}
+
+#[test]
+fn long_lines_of_scripts(rt: HostRuntime) {
+    let alloc = rt.alloc();
+    let none = "recorded=0 accepted=0 rows=0 stored=0\n";
+    expect(
+        &rt,
+        alloc,
+        &["rehearse"],
+        &[b'#'; 4096],
+        (0, 0),
+        Status::Done,
+        none,
+    );
+    expect(
+        &rt,
+        alloc,
+        &["rehearse"],
+        &[b'#'; 4097],
+        (0, 0),
+        Status::Refused,
+        "line 1 refused\n",
+    );
+}
+
+// A script of so many fixes.
+fn fixes(alloc: Global, count: u32) -> Result<Vec<u8>, AllocError> {
+    let mut script = Vec::new(alloc);
+    for _ in 0..count {
+        script.extend_from_slice(b"fix 0\n")?;
+    }
+    Ok(script)
+}
+
+#[test]
+fn many_fixes(rt: HostRuntime) {
+    let rows = [
+        (
+            32_766,
+            Status::Done,
+            "recorded=32766 accepted=0 rows=0 stored=0\n",
+        ),
+        (32_767, Status::Refused, "line 32767 refused\n"),
+    ];
+    for (count, status, written) in rows {
+        let script = fixes(rt.alloc(), count).expect(&rt, "a script");
+        expect(
+            &rt,
+            rt.alloc(),
+            &["rehearse"],
+            script.as_slice(),
+            (0, 0),
+            status,
+            written,
+        );
+    }
+}
+
+#[test]
+fn faults_of_scripts(rt: HostRuntime) {
+    let alloc = rt.alloc();
+    let script = b"fix 0\ntick 0\nup 1 all\n";
+    let stored = "1 unit 0 stored 0\n";
+    expect(
+        &rt,
+        alloc,
+        &["rehearse"],
+        script,
+        (1, 0),
+        Status::ReadFault,
+        "",
+    );
+    expect(
+        &rt,
+        alloc,
+        &["rehearse"],
+        script,
+        (2, 0),
+        Status::ReadFault,
+        stored,
+    );
+    expect(
+        &rt,
+        alloc,
+        &["rehearse"],
+        script,
+        (0, 1),
+        Status::WriteFault,
+        "",
+    );
+    expect(
+        &rt,
+        alloc,
+        &["rehearse"],
+        script,
+        (0, 2),
+        Status::WriteFault,
+        stored,
+    );
+}
+
+const VIEW: Option<Task> = Some(Task::Tell(Command {
+    report: Report::View,
+    encoding: Encoding::Octets,
+}));
+
+const VIEW_HEX: Option<Task> = Some(Task::Tell(Command {
+    report: Report::View,
+    encoding: Encoding::Hex,
+}));
+
+const CHECK: Option<Task> = Some(Task::Tell(Command {
+    report: Report::Check,
+    encoding: Encoding::Octets,
+}));
+
+const CHECK_HEX: Option<Task> = Some(Task::Tell(Command {
+    report: Report::Check,
+    encoding: Encoding::Hex,
+}));
+
+#[test]
+fn words_of_tasks(rt: HostRuntime) {
+    let rows: [(&[&str], Option<Task>); 22] = [
+        (&["view"], VIEW),
+        (&["view", "--hex"], VIEW_HEX),
+        (&["check"], CHECK),
+        (&["check", "--hex"], CHECK_HEX),
+        (&["rehearse"], Some(Task::Rehearse)),
+        (&[], None),
+        (&[""], None),
+        (&["views"], None),
+        (&["VIEW"], None),
+        (&["view", "x"], None),
+        (&["check", "x"], None),
+        (&["view", "--hex", "--hex"], None),
+        (&["--hex", "view"], None),
+        (&["view", "--hex="], None),
+        (&["view", "--he"], None),
+        (&["view", "--"], None),
+        (&["view", "--help"], None),
+        (&["view\n"], None),
+        (&["rehearse", ""], None),
+        (&["rehearsal"], None),
+        (&["platform"], None),
+        (&["make"], None),
+    ];
+    for (words, wanted) in rows {
+        let words = words_of(rt.alloc(), words).expect(&rt, "words");
+        assert_eq!(rt; Task::from_words(&words), wanted);
+    }
+}

@@ -1,0 +1,9 @@
+//! Tests of the crates of the program, through their public calls.
+#![tactic(auto)]
+
+#[cfg(test)]
+mod cli;
+#[cfg(test)]
+mod view;
+#[cfg(test)]
+mod world;

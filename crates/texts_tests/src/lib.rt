@@ -1,0 +1,7 @@
+//! Tests of the crates of texts, through their public calls.
+#![tactic(auto)]
+
+#[cfg(test)]
+mod script;
+#[cfg(test)]
+mod text;

@@ -1,0 +1,408 @@
+use jt_codec::{Message, MessageView, read_body};
+use jt_header::{Header, Packet};
+use jt_position::{view_batch, view_position};
+use jt_register::{Auth, AuthTail};
+use jt_text::{
+    Line, push_message_line, push_message_view_line, push_refusal_line_with, refusal_line,
+    view_line,
+};
+use jt_value::{Edition, Octets, Phone, Refusal, Why};
+use std::alloc::Global;
+use std::process::Abort;
+use std::test::Fail;
+
+fn header(id: u16, packet: Option<Packet>) -> Header {
+    let digits = [0, 0, 0, 0, 0x01, 0x39, 0x12, 0x34, 0x56, 0x78];
+    Header {
+        edition: Edition::E2013,
+        id,
+        bit15: false,
+        version: 0,
+        phone: Phone {
+            edition: Edition::E2013,
+            digits,
+        },
+        serial: 3,
+        packet,
+    }
+}
+
+// Reads a body, and compares its line.
+fn expect(rt: &impl Abort, alloc: Global, id: u16, body: &[u8], written: &str) {
+    assert!(rt; body.len() < 1024);
+    let message = read_body(alloc, Edition::E2013, id, body).expect(rt, "a body");
+    expect_line(
+        rt,
+        alloc,
+        7,
+        &header(id, None),
+        &message,
+        body.len() as u16,
+        written,
+    );
+}
+
+// Compares the line of a message.
+fn expect_line(
+    rt: &impl Abort,
+    alloc: Global,
+    place: u64,
+    header: &Header,
+    message: &Message,
+    size: u16,
+    written: &str,
+) {
+    let line = view_line(alloc, place, header, message, size).expect(rt, "a line");
+    assert_eq!(rt; line.as_slice(), written.as_bytes());
+}
+
+#[test]
+fn responses_and_registrations(rt: HostRuntime) {
+    let rows: [(u16, &[u8], &str); 7] = [
+        (
+            0x0001,
+            b"\0\x07\x81\x03\x03",
+            "7 2013 0x0001 terminal-ack phone=013912345678 serial=3 body=5 reply=7 id=0x8103 result=3\n",
+        ),
+        (
+            0x8001,
+            b"\xff\xff\x02\0\x04",
+            "7 2013 0x8001 platform-ack phone=013912345678 serial=3 body=5 reply=65535 id=0x0200 result=4\n",
+        ),
+        (
+            0x0003,
+            b"",
+            "7 2013 0x0003 deregister phone=013912345678 serial=3 body=0\n",
+        ),
+        (
+            0x0100,
+            b"\0\x2c\x01\x2c\x37\x30\x31\x31\x31\x41\x31\0\0\0\0\0\0\0\0\0\0\0\0\0\0\0\0\0\0\x31\x32\x33\x34\x35\x36\x37\x02",
+            "7 2013 0x0100 register phone=013912345678 serial=3 body=37 province=44 city=300 maker=3730313131 model=4131000000000000000000000000000000000000 terminal=31323334353637 colour=2 plate=-\n",
+        ),
+        (
+            0x8100,
+            b"\0\x05\x04",
+            "7 2013 0x8100 register-reply phone=013912345678 serial=3 body=3 reply=5 result=4\n",
+        ),
+        (
+            0x8100,
+            b"\0\x05\0\x41",
+            "7 2013 0x8100 register-reply phone=013912345678 serial=3 body=4 reply=5 result=0 code=41\n",
+        ),
+        (
+            0x0102,
+            b"",
+            "7 2013 0x0102 auth phone=013912345678 serial=3 body=0 code=-\n",
+        ),
+    ];
+    for (id, body, written) in rows {
+        expect(&rt, rt.alloc(), id, body, written);
+    }
+}
+
+#[test]
+fn positions_and_batches(rt: HostRuntime) {
+    let rows: [(u16, &[u8], &str); 4] = [
+        (
+            0x0200,
+            b"\0\0\0\x01\0\x0c\0\x03\x01\x31\x2d\0\x06\xbc\x3e\x40\0\x64\x02\x58\0\x5a\x24\x02\x29\x23\x59\x59\x01\x04\0\0\0\x0a\x02\x02\0\x05\x03\x02\x01\0\x04\x02\0\x01\x11\x01\x01\x11\x05\x02\0\0\0\x07\x12\x06\x01\0\0\0\x08\x01\x13\x07\0\0\0\x09\0\x3c\x01\x25\x04\0\0\0\x80\x2a\x02\0\x03\x2b\x04\0\x01\0\x02\x30\x01\x1f\x31\x01\x0c\x14\x04\0\0\0\x01\xe0\0",
+            "7 2013 0x0200 position phone=013912345678 serial=3 body=103 alarm=0x00000001 status=0x000c0003 lat=20000000 lon=113000000 altitude=100 speed=600 direction=90 time=2024-02-29T23:59:59+08:00 item=0x01:10 item=0x02:5 item=0x03:256 item=0x04:1 item=0x11:1 item=0x11:2:7 item=0x12:1:8:1 item=0x13:9:60:1 item=0x25:128 item=0x2a:3 item=0x2b:65538 item=0x30:31 item=0x31:12 item=0x14:00000001 item=0xe0:-\n",
+        ),
+        (
+            0x0201,
+            b"\0\x09\0\0\0\0\0\0\0\0\0\0\0\0\0\0\0\0\0\0\0\0\0\0\x23\x02\x29\0\0\0",
+            "7 2013 0x0201 position-reply phone=013912345678 serial=3 body=30 reply=9 alarm=0x00000000 status=0x00000000 lat=0 lon=0 altitude=0 speed=0 direction=0 time=-\n",
+        ),
+        (
+            0x0704,
+            b"\0\0\x01",
+            "7 2013 0x0704 batch phone=013912345678 serial=3 body=3 count=0 kind=1\n",
+        ),
+        (
+            0x0704,
+            b"\0\x02\0\0\x1c\0\0\0\x01\0\x0c\0\x03\x01\x31\x2d\0\x06\xbc\x3e\x40\0\x64\x02\x58\0\x5a\x24\x02\x29\x23\x59\x59\0\x20\0\0\0\0\0\0\0\0\0\0\0\0\0\0\0\0\0\0\0\0\0\0\x23\x02\x29\0\0\0\x02\x02\0\x05",
+            "7 2013 0x0704 batch phone=013912345678 serial=3 body=67 count=2 kind=0 length=28 alarm=0x00000001 status=0x000c0003 lat=20000000 lon=113000000 altitude=100 speed=600 direction=90 time=2024-02-29T23:59:59+08:00 length=32 alarm=0x00000000 status=0x00000000 lat=0 lon=0 altitude=0 speed=0 direction=0 time=- item=0x02:5\n",
+        ),
+    ];
+    for (id, body, written) in rows {
+        expect(&rt, rt.alloc(), id, body, written);
+    }
+}
+
+#[test]
+fn parameters(rt: HostRuntime) {
+    let rows: [(u16, &[u8], &str); 4] = [
+        (
+            0x8103,
+            b"\x04\0\0\0\x81\x02\0\x2c\0\0\0\x84\x01\x02\0\0\0\x01\x02\0\x3c\0\0\0\x83\0",
+            "7 2013 0x8103 set-params phone=013912345678 serial=3 body=26 count=4 param=0x00000081:44 param=0x00000084:2 param=0x00000001:003c param=0x00000083:-\n",
+        ),
+        (
+            0x8106,
+            b"\x01\0\0\0\x01",
+            "7 2013 0x8106 query-some phone=013912345678 serial=3 body=5 count=1 id=0x00000001\n",
+        ),
+        (
+            0x8106,
+            b"\0",
+            "7 2013 0x8106 query-some phone=013912345678 serial=3 body=1 count=0\n",
+        ),
+        (
+            0x0104,
+            b"\0\x07\x02\0\0\0\x01\x04\0\0\0\x3c\0\0\0\x13\x03abc",
+            "7 2013 0x0104 params phone=013912345678 serial=3 body=20 reply=7 count=2 param=0x00000001:60 param=0x00000013:616263\n",
+        ),
+    ];
+    for (id, body, written) in rows {
+        expect(&rt, rt.alloc(), id, body, written);
+    }
+}
+
+#[test]
+fn tracks_texts_and_orders(rt: HostRuntime) {
+    let rows: [(u16, &[u8], &str); 4] = [
+        (
+            0x8202,
+            b"\0\0",
+            "7 2013 0x8202 track phone=013912345678 serial=3 body=2 interval=0 validity=-\n",
+        ),
+        (
+            0x8202,
+            b"\0\x05\0\0\x02\x58",
+            "7 2013 0x8202 track phone=013912345678 serial=3 body=6 interval=5 validity=600\n",
+        ),
+        (
+            0x8300,
+            b"\x01\x02\x41",
+            "7 2013 0x8300 text phone=013912345678 serial=3 body=3 flag=1 text=0241\n",
+        ),
+        (
+            0x8105,
+            b"\x03",
+            "7 2013 0x8105 control phone=013912345678 serial=3 body=1 command=3 text=-\n",
+        ),
+    ];
+    for (id, body, written) in rows {
+        expect(&rt, rt.alloc(), id, body, written);
+    }
+    let text = Message::Text {
+        flag: 1,
+        kind: Some(2),
+        text: Octets::new(rt.alloc()),
+    };
+    let written = "0 2013 0x8300 text phone=013912345678 serial=3 body=2 flag=1 kind=2 text=-\n";
+    expect_line(&rt, rt.alloc(), 0, &header(0x8300, None), &text, 2, written);
+}
+
+#[test]
+fn regions_and_their_deletion(rt: HostRuntime) {
+    let rows: [(u16, &[u8], &str); 7] = [
+        (
+            0x8600,
+            b"\x01\x01\0\0\0\x09\0\0\x01\x31\x2d\0\x06\xbc\x3e\x40\0\0\0\x64",
+            "7 2013 0x8600 circles phone=013912345678 serial=3 body=20 setting=1 count=1 circle=9:0x0000:20000000:113000000:100:-:-:-:-\n",
+        ),
+        (
+            0x8602,
+            b"\0\x01\0\0\0\x07\0\0\x01\x31\x2d\x0a\x06\xbc\x3e\x40\x01\x31\x2d\0\x06\xbc\x3e\x4a",
+            "7 2013 0x8602 rectangles phone=013912345678 serial=3 body=24 setting=0 count=1 rectangle=7:0x0000:20000010:113000000:20000000:113000010:-:-:-:-\n",
+        ),
+        (
+            0x8604,
+            b"\0\0\0\x09\0\0\0\x03\0\0\0\0\x06\xbc\x3e\x36\0\0\0\x0a\x06\xbc\x3e\x4a\0\0\0\0\x06\xbc\x3e\x4a",
+            "7 2013 0x8604 polygon phone=013912345678 serial=3 body=32 polygon=9:0x0000:-:-:-:- count=3 vertex=0:112999990 vertex=10:113000010 vertex=0:113000010\n",
+        ),
+        (
+            0x8604,
+            b"\0\0\0\x09\x80\x02\0\x50\x05\0\0",
+            "7 2013 0x8604 polygon phone=013912345678 serial=3 body=11 polygon=9:0x8002:-:-:80:5 count=0\n",
+        ),
+        (
+            0x8606,
+            b"\0\0\0\x05\0\x01\x24\x01\x01\0\0\0\x24\x01\x02\0\0\0\0\x01\0\0\0\x06\0\0\0\x07\x01\x31\x2d\0\x06\xbc\x3e\x40\x0a\x03\0\x3c\0\x1e\0\x50\x05",
+            "7 2013 0x8606 route phone=013912345678 serial=3 body=45 route=5:0x0001:240101000000:240102000000 count=1 point=6:7:20000000:113000000:10:0x03:60:30:80:5\n",
+        ),
+        (
+            0x8603,
+            b"\0",
+            "7 2013 0x8603 delete-rectangles phone=013912345678 serial=3 body=1 count=0\n",
+        ),
+        (
+            0x8607,
+            b"\x02\0\0\0\x09\0\0\x01\0",
+            "7 2013 0x8607 delete-routes phone=013912345678 serial=3 body=9 count=2 id=9 id=256\n",
+        ),
+    ];
+    for (id, body, written) in rows {
+        expect(&rt, rt.alloc(), id, body, written);
+    }
+}
+
+#[test]
+fn an_authentication_with_a_tail(rt: HostRuntime) -> Result<(), Fail> {
+    let alloc = rt.alloc();
+    let auth = Auth {
+        code: Octets::from_vec(Vec::from_slice(alloc, b"12")?),
+        tail: Some(AuthTail {
+            imei: [b'3'; 15],
+            software: [0; 20],
+        }),
+    };
+    let line = view_line(alloc, 0, &header(0x0102, None), &Message::Auth(auth), 38)?;
+    assert_eq!(rt;
+        line.as_slice(),
+        b"0 2013 0x0102 auth phone=013912345678 serial=3 body=38 length=2 code=3132 imei=333333333333333333333333333333 software=0000000000000000000000000000000000000000\n".as_slice()
+    );
+    Ok(())
+}
+
+// A packet has the name of its id, and prints its octets. Digits of 257 octets do not fit into a line's room.
+#[test]
+fn parts_and_opaque_bodies(rt: HostRuntime) -> Result<(), Fail> {
+    let alloc = rt.alloc();
+    let packet = Some(Packet {
+        total: 3,
+        number: 1,
+    });
+    let octets =
+        b"AAAAAAAAAAAAAAAAAAAAAAAAAAAAAAAAAAAAAAAAAAAAAAAAAAAAAAAAAAAAAAAAAAAAAAAAAAAAAAAAAAAAAAAAAAAAAAAAAAAAAAAAAAAAAAAAAAAAAAAAAAAAAAAAAAAAAAAAAAAAAAAAAAAAAAAAAAAAAAAAAAAAAAAAAAAAAAAAAAAAAAAAAAAAAAAAAAAAAAAAAAAAAAAAAAAAAAAAAAAAAAAAAAAAAAAAAAAAAAAAAAAAAAAAAAAAAAAAB".as_slice();
+    let part = Message::Part(Octets::from_vec(Vec::from_slice(alloc, octets)?));
+    let line = view_line(alloc, 5, &header(0x8606, packet), &part, 257)?;
+    assert_eq!(rt;
+        line.as_slice(),
+        b"5 2013 0x8606 route phone=013912345678 serial=3 packet=1/3 body=257 part=4141414141414141414141414141414141414141414141414141414141414141414141414141414141414141414141414141414141414141414141414141414141414141414141414141414141414141414141414141414141414141414141414141414141414141414141414141414141414141414141414141414141414141414141414141414141414141414141414141414141414141414141414141414141414141414141414141414141414141414141414141414141414141414141414141414141414141414141414141414141414141414141414141414141414141414141414141414141414141414141414141414141414141414141414141414142\n".as_slice()
+    );
+    let opaque = Message::Opaque {
+        id: 0x8003,
+        body: Octets::new(alloc),
+    };
+    let line = view_line(alloc, 6, &header(0x8003, None), &opaque, 0)?;
+    assert_eq!(rt;
+        line.as_slice(),
+        b"6 2013 0x8003 opaque phone=013912345678 serial=3 body=0 body-octets=-\n".as_slice()
+    );
+    Ok(())
+}
+
+#[test]
+fn refusals(rt: HostRuntime) -> Result<(), Fail> {
+    let alloc = rt.alloc();
+    let rows: [(Why, &str); 3] = [
+        (Why::BadEscape, "4+12 refused BadEscape\n"),
+        (
+            Why::CheckMismatch {
+                computed: 0x32,
+                found: 0x0A,
+            },
+            "4+12 refused CheckMismatch computed=32 found=0a\n",
+        ),
+        (
+            Why::LengthMismatch {
+                declared: 1,
+                actual: 1023,
+            },
+            "4+12 refused LengthMismatch declared=1 actual=1023\n",
+        ),
+    ];
+    for (why, written) in rows {
+        let refusal = Refusal {
+            at: 4,
+            inside: 12,
+            why,
+        };
+        let line = refusal_line(alloc, &refusal)?;
+        assert_eq!(rt; line.as_slice(), written.as_bytes());
+    }
+    Ok(())
+}
+
+// A batch of two positions, of 33 and 28 octets, and a refusal.
+#[test]
+fn a_batch_in_place(rt: HostRuntime) -> Result<(), Fail> {
+    let mut line = Line::new();
+    let mut text = String::new(rt.alloc());
+    let body =
+        b"\0\x02\x01\0\x21\0\0\0\0\0\0\0\x03\x01\x31\x2d\0\x06\xbc\x3e\x40\0\0\0\0\0\0\0\0\0\0\0\0\x01\x03\0\0\x0a\0\x1c\0\0\0\0\0\0\0\x03\x01\x31\x2d\0\x06\xbc\x3e\x40\0\x0a\0\0\0\0\x24\x03\x05\x12\x34\x56";
+    let view = view_batch(body).expect(&rt, "a batch");
+    let view = MessageView::Batch(view);
+    push_message_view_line(&mut text, &mut line, 7, &header(0x0704, None), view, 68)?;
+    let refusal = Refusal {
+        at: 90,
+        inside: 0,
+        why: Why::Stray,
+    };
+    push_refusal_line_with(&mut text, &mut line, &refusal)?;
+    assert_eq!(rt;
+        text.as_str(),
+        "7 2013 0x0704 batch phone=013912345678 serial=3 body=68 count=2 kind=1 length=33 alarm=0x00000000 status=0x00000003 lat=20000000 lon=113000000 altitude=0 speed=0 direction=0 time=- item=0x01:00000a length=28 alarm=0x00000000 status=0x00000003 lat=20000000 lon=113000000 altitude=10 speed=0 direction=0 time=2024-03-05T12:34:56+08:00\n90+0 refused Stray\n"
+    );
+    Ok(())
+}
+
+#[test]
+fn lines_of_responses_and_unread_octets(rt: HostRuntime) -> Result<(), Fail> {
+    let mut line = Line::new();
+    let mut text = String::new(rt.alloc());
+    let response = MessageView::TerminalAck {
+        reply: 65_535,
+        id: 0x8103,
+        result: 3,
+    };
+    push_message_view_line(&mut text, &mut line, 0, &header(0x0001, None), response, 5)?;
+    let response = MessageView::PlatformAck {
+        reply: 9,
+        id: 0x0200,
+        result: 0,
+    };
+    push_message_view_line(&mut text, &mut line, 20, &header(0x8001, None), response, 5)?;
+    let body = b"\x41\0\x7f\xff\x10\x11\x12\x13\x14\x15\x16\x17\x18\x19\x1a\x1b\x1c\x1d";
+    let opaque = MessageView::Opaque { id: 0x0900, body };
+    push_message_view_line(&mut text, &mut line, 40, &header(0x0900, None), opaque, 18)?;
+    let packet = Some(Packet {
+        total: 3,
+        number: 2,
+    });
+    let part = MessageView::Part(b"\xc0\x0d\x7e");
+    push_message_view_line(&mut text, &mut line, 73, &header(0x0104, packet), part, 3)?;
+    assert_eq!(rt;
+        text.as_str(),
+        "0 2013 0x0001 terminal-ack phone=013912345678 serial=3 body=5 reply=65535 id=0x8103 result=3\n20 2013 0x8001 platform-ack phone=013912345678 serial=3 body=5 reply=9 id=0x0200 result=0\n40 2013 0x0900 opaque phone=013912345678 serial=3 body=18 body-octets=41007fff101112131415161718191a1b1c1d\n73 2013 0x0104 params phone=013912345678 serial=3 packet=2/3 body=3 part=c00d7e\n"
+    );
+    Ok(())
+}
+
+// A position read in place and a message without fields, one after the other in one room.
+#[test]
+fn lines_in_one_room(rt: HostRuntime) -> Result<(), Fail> {
+    let alloc = rt.alloc();
+    let mut line = Line::new();
+    let mut text = String::new(alloc);
+    let body =
+        b"\0\0\0\0\0\0\0\x03\x01\x31\x2d\0\x06\xbc\x3e\x40\0\0\0\0\0\0\x24\x03\x05\x12\x34\x56\x01\x04\0\0\0\x0a\x30\x01\x19\x01\x03\0\0\x0a";
+    let view = view_position(body).expect(&rt, "a position");
+    let view = MessageView::Position(view);
+    push_message_view_line(&mut text, &mut line, 0, &header(0x0200, None), view, 42)?;
+    let heartbeat = MessageView::Heartbeat;
+    push_message_view_line(
+        &mut text,
+        &mut line,
+        57,
+        &header(0x0002, None),
+        heartbeat,
+        0,
+    )?;
+    let deregister = Message::Deregister;
+    push_message_line(
+        &mut text,
+        &mut line,
+        72,
+        &header(0x0003, None),
+        &deregister,
+        0,
+    )?;
+    assert_eq!(rt;
+        text.as_str(),
+        "0 2013 0x0200 position phone=013912345678 serial=3 body=42 alarm=0x00000000 status=0x00000003 lat=20000000 lon=113000000 altitude=0 speed=0 direction=0 time=2024-03-05T12:34:56+08:00 item=0x01:10 item=0x30:25 item=0x01:00000a\n57 2013 0x0002 heartbeat phone=013912345678 serial=3 body=0\n72 2013 0x0003 deregister phone=013912345678 serial=3 body=0\n"
+    );
+    Ok(())
+}
