@@ -9,7 +9,6 @@ use jt_text::{
 use jt_value::{Edition, Octets, Phone, Refusal, Why};
 use std::alloc::Global;
 use std::process::Abort;
-use std::test::Fail;
 
 fn header(id: u16, packet: Option<Packet>) -> Header {
     let digits = [0, 0, 0, 0, 0x01, 0x39, 0x12, 0x34, 0x56, 0x78];
@@ -239,54 +238,68 @@ fn regions_and_their_deletion(rt: HostRuntime) {
 }
 
 #[test]
-fn an_authentication_with_a_tail(rt: HostRuntime) -> Result<(), Fail> {
-    let alloc = rt.alloc();
+fn an_authentication_with_a_tail(rt: HostRuntime) {
+    let code = Vec::from_slice(rt.alloc(), b"12").expect(&rt, "a code");
     let auth = Auth {
-        code: Octets::from_vec(Vec::from_slice(alloc, b"12")?),
+        code: Octets::from_vec(code),
         tail: Some(AuthTail {
             imei: [b'3'; 15],
             software: [0; 20],
         }),
     };
-    let line = view_line(alloc, 0, &header(0x0102, None), &Message::Auth(auth), 38)?;
-    assert_eq!(rt;
-        line.as_slice(),
-        b"0 2013 0x0102 auth phone=013912345678 serial=3 body=38 length=2 code=3132 imei=333333333333333333333333333333 software=0000000000000000000000000000000000000000\n".as_slice()
+    let written =
+        "0 2013 0x0102 auth phone=013912345678 serial=3 body=38 length=2 code=3132 imei=333333333333333333333333333333 software=0000000000000000000000000000000000000000\n";
+    expect_line(
+        &rt,
+        rt.alloc(),
+        0,
+        &header(0x0102, None),
+        &Message::Auth(auth),
+        38,
+        written,
     );
-    Ok(())
 }
 
 // A packet has the name of its id, and prints its octets. Digits of 257 octets do not fit into a line's room.
 #[test]
-fn parts_and_opaque_bodies(rt: HostRuntime) -> Result<(), Fail> {
-    let alloc = rt.alloc();
+fn parts_and_opaque_bodies(rt: HostRuntime) {
     let packet = Some(Packet {
         total: 3,
         number: 1,
     });
     let octets =
         b"AAAAAAAAAAAAAAAAAAAAAAAAAAAAAAAAAAAAAAAAAAAAAAAAAAAAAAAAAAAAAAAAAAAAAAAAAAAAAAAAAAAAAAAAAAAAAAAAAAAAAAAAAAAAAAAAAAAAAAAAAAAAAAAAAAAAAAAAAAAAAAAAAAAAAAAAAAAAAAAAAAAAAAAAAAAAAAAAAAAAAAAAAAAAAAAAAAAAAAAAAAAAAAAAAAAAAAAAAAAAAAAAAAAAAAAAAAAAAAAAAAAAAAAAAAAAAAAAB".as_slice();
-    let part = Message::Part(Octets::from_vec(Vec::from_slice(alloc, octets)?));
-    let line = view_line(alloc, 5, &header(0x8606, packet), &part, 257)?;
-    assert_eq!(rt;
-        line.as_slice(),
-        b"5 2013 0x8606 route phone=013912345678 serial=3 packet=1/3 body=257 part=4141414141414141414141414141414141414141414141414141414141414141414141414141414141414141414141414141414141414141414141414141414141414141414141414141414141414141414141414141414141414141414141414141414141414141414141414141414141414141414141414141414141414141414141414141414141414141414141414141414141414141414141414141414141414141414141414141414141414141414141414141414141414141414141414141414141414141414141414141414141414141414141414141414141414141414141414141414141414141414141414141414141414141414141414141414142\n".as_slice()
+    let octets = Vec::from_slice(rt.alloc(), octets).expect(&rt, "octets");
+    let part = Message::Part(Octets::from_vec(octets));
+    let written =
+        "5 2013 0x8606 route phone=013912345678 serial=3 packet=1/3 body=257 part=4141414141414141414141414141414141414141414141414141414141414141414141414141414141414141414141414141414141414141414141414141414141414141414141414141414141414141414141414141414141414141414141414141414141414141414141414141414141414141414141414141414141414141414141414141414141414141414141414141414141414141414141414141414141414141414141414141414141414141414141414141414141414141414141414141414141414141414141414141414141414141414141414141414141414141414141414141414141414141414141414141414141414141414141414141414142\n";
+    expect_line(
+        &rt,
+        rt.alloc(),
+        5,
+        &header(0x8606, packet),
+        &part,
+        257,
+        written,
     );
     let opaque = Message::Opaque {
         id: 0x8003,
-        body: Octets::new(alloc),
+        body: Octets::new(rt.alloc()),
     };
-    let line = view_line(alloc, 6, &header(0x8003, None), &opaque, 0)?;
-    assert_eq!(rt;
-        line.as_slice(),
-        b"6 2013 0x8003 opaque phone=013912345678 serial=3 body=0 body-octets=-\n".as_slice()
+    let written = "6 2013 0x8003 opaque phone=013912345678 serial=3 body=0 body-octets=-\n";
+    expect_line(
+        &rt,
+        rt.alloc(),
+        6,
+        &header(0x8003, None),
+        &opaque,
+        0,
+        written,
     );
-    Ok(())
 }
 
 #[test]
-fn refusals(rt: HostRuntime) -> Result<(), Fail> {
-    let alloc = rt.alloc();
+fn refusals(rt: HostRuntime) {
     let rows: [(Why, &str); 3] = [
         (Why::BadEscape, "4+12 refused BadEscape\n"),
         (
@@ -310,37 +323,37 @@ fn refusals(rt: HostRuntime) -> Result<(), Fail> {
             inside: 12,
             why,
         };
-        let line = refusal_line(alloc, &refusal)?;
+        let line = refusal_line(rt.alloc(), &refusal).expect(&rt, "a line");
         assert_eq!(rt; line.as_slice(), written.as_bytes());
     }
-    Ok(())
 }
 
 // A batch of two positions, of 33 and 28 octets, and a refusal.
 #[test]
-fn a_batch_in_place(rt: HostRuntime) -> Result<(), Fail> {
+fn a_batch_in_place(rt: HostRuntime) {
     let mut line = Line::new();
     let mut text = String::new(rt.alloc());
     let body =
         b"\0\x02\x01\0\x21\0\0\0\0\0\0\0\x03\x01\x31\x2d\0\x06\xbc\x3e\x40\0\0\0\0\0\0\0\0\0\0\0\0\x01\x03\0\0\x0a\0\x1c\0\0\0\0\0\0\0\x03\x01\x31\x2d\0\x06\xbc\x3e\x40\0\x0a\0\0\0\0\x24\x03\x05\x12\x34\x56";
     let view = view_batch(body).expect(&rt, "a batch");
     let view = MessageView::Batch(view);
-    push_message_view_line(&mut text, &mut line, 7, &header(0x0704, None), view, 68)?;
+    push_message_view_line(&mut text, &mut line, 7, &header(0x0704, None), view, 68).expect(
+        &rt, "room",
+    );
     let refusal = Refusal {
         at: 90,
         inside: 0,
         why: Why::Stray,
     };
-    push_refusal_line_with(&mut text, &mut line, &refusal)?;
+    push_refusal_line_with(&mut text, &mut line, &refusal).expect(&rt, "room");
     assert_eq!(rt;
         text.as_str(),
         "7 2013 0x0704 batch phone=013912345678 serial=3 body=68 count=2 kind=1 length=33 alarm=0x00000000 status=0x00000003 lat=20000000 lon=113000000 altitude=0 speed=0 direction=0 time=- item=0x01:00000a length=28 alarm=0x00000000 status=0x00000003 lat=20000000 lon=113000000 altitude=10 speed=0 direction=0 time=2024-03-05T12:34:56+08:00\n90+0 refused Stray\n"
     );
-    Ok(())
 }
 
 #[test]
-fn lines_of_responses_and_unread_octets(rt: HostRuntime) -> Result<(), Fail> {
+fn lines_of_responses_and_unread_octets(rt: HostRuntime) {
     let mut line = Line::new();
     let mut text = String::new(rt.alloc());
     let response = MessageView::TerminalAck {
@@ -348,40 +361,48 @@ fn lines_of_responses_and_unread_octets(rt: HostRuntime) -> Result<(), Fail> {
         id: 0x8103,
         result: 3,
     };
-    push_message_view_line(&mut text, &mut line, 0, &header(0x0001, None), response, 5)?;
+    push_message_view_line(&mut text, &mut line, 0, &header(0x0001, None), response, 5).expect(
+        &rt, "room",
+    );
     let response = MessageView::PlatformAck {
         reply: 9,
         id: 0x0200,
         result: 0,
     };
-    push_message_view_line(&mut text, &mut line, 20, &header(0x8001, None), response, 5)?;
+    push_message_view_line(&mut text, &mut line, 20, &header(0x8001, None), response, 5).expect(
+        &rt, "room",
+    );
     let body = b"\x41\0\x7f\xff\x10\x11\x12\x13\x14\x15\x16\x17\x18\x19\x1a\x1b\x1c\x1d";
     let opaque = MessageView::Opaque { id: 0x0900, body };
-    push_message_view_line(&mut text, &mut line, 40, &header(0x0900, None), opaque, 18)?;
+    push_message_view_line(&mut text, &mut line, 40, &header(0x0900, None), opaque, 18).expect(
+        &rt, "room",
+    );
     let packet = Some(Packet {
         total: 3,
         number: 2,
     });
     let part = MessageView::Part(b"\xc0\x0d\x7e");
-    push_message_view_line(&mut text, &mut line, 73, &header(0x0104, packet), part, 3)?;
+    push_message_view_line(&mut text, &mut line, 73, &header(0x0104, packet), part, 3).expect(
+        &rt, "room",
+    );
     assert_eq!(rt;
         text.as_str(),
         "0 2013 0x0001 terminal-ack phone=013912345678 serial=3 body=5 reply=65535 id=0x8103 result=3\n20 2013 0x8001 platform-ack phone=013912345678 serial=3 body=5 reply=9 id=0x0200 result=0\n40 2013 0x0900 opaque phone=013912345678 serial=3 body=18 body-octets=41007fff101112131415161718191a1b1c1d\n73 2013 0x0104 params phone=013912345678 serial=3 packet=2/3 body=3 part=c00d7e\n"
     );
-    Ok(())
 }
 
 // A position read in place and a message without fields, one after the other in one room.
 #[test]
-fn lines_in_one_room(rt: HostRuntime) -> Result<(), Fail> {
-    let alloc = rt.alloc();
+fn lines_in_one_room(rt: HostRuntime) {
     let mut line = Line::new();
-    let mut text = String::new(alloc);
+    let mut text = String::new(rt.alloc());
     let body =
         b"\0\0\0\0\0\0\0\x03\x01\x31\x2d\0\x06\xbc\x3e\x40\0\0\0\0\0\0\x24\x03\x05\x12\x34\x56\x01\x04\0\0\0\x0a\x30\x01\x19\x01\x03\0\0\x0a";
     let view = view_position(body).expect(&rt, "a position");
     let view = MessageView::Position(view);
-    push_message_view_line(&mut text, &mut line, 0, &header(0x0200, None), view, 42)?;
+    push_message_view_line(&mut text, &mut line, 0, &header(0x0200, None), view, 42).expect(
+        &rt, "room",
+    );
     let heartbeat = MessageView::Heartbeat;
     push_message_view_line(
         &mut text,
@@ -390,7 +411,8 @@ fn lines_in_one_room(rt: HostRuntime) -> Result<(), Fail> {
         &header(0x0002, None),
         heartbeat,
         0,
-    )?;
+    )
+    .expect(&rt, "room");
     let deregister = Message::Deregister;
     push_message_line(
         &mut text,
@@ -399,10 +421,10 @@ fn lines_in_one_room(rt: HostRuntime) -> Result<(), Fail> {
         &header(0x0003, None),
         &deregister,
         0,
-    )?;
+    )
+    .expect(&rt, "room");
     assert_eq!(rt;
         text.as_str(),
         "0 2013 0x0200 position phone=013912345678 serial=3 body=42 alarm=0x00000000 status=0x00000003 lat=20000000 lon=113000000 altitude=0 speed=0 direction=0 time=2024-03-05T12:34:56+08:00 item=0x01:10 item=0x30:25 item=0x01:00000a\n57 2013 0x0002 heartbeat phone=013912345678 serial=3 body=0\n72 2013 0x0003 deregister phone=013912345678 serial=3 body=0\n"
     );
-    Ok(())
 }
