@@ -83,7 +83,7 @@ module _ {D A B O : Type 0} (history_of : D → List (Entry A B)) (faults_of : D
       let lent = h.lent in
       let failed = h.failed in
       record {
-        words = rw h.words (ap (λ (x : ℕ). x ∷ (p.served % 2 ^ 64) ∷ []) (next_mod p.drawn (2 ^ 64)));
+        words = rw h.words (ap (λ (x : ℕ). x ∷ (p.served % 2 ^ 64) ∷ p.sleeping) (next_mod p.drawn (2 ^ 64)));
         queue = omega arith;
         room = omega arith;
         small = h.small;

@@ -14,9 +14,11 @@ use crate::steps::{Draw, Gives, Learn, Look, Number, Publish, TakesIn, TurnRule}
 use atomic_table::{Refused, Seat, Table};
 use jt_value::Memory;
 use std::alloc::{AllocFailed, Global};
+use std::hint::spin_loop;
 use std::marker::{Brand, Model};
 use std::snapshot::Snapshot;
 use std::sync::Wait;
+use std::time::Duration;
 
 /// The word of the table with the next ticket.
 const TICKET: usize = 0;
@@ -24,8 +26,19 @@ const TICKET: usize = 0;
 /// The word with the ticket that is served.
 const SERVING: usize = 1;
 
+/// The words behind these two are always 0. Callers that are not next sleep at them, each at the one of its ticket.
+const FIRST_SLEEPING: usize = 2;
+
+const SLEEPING: u64 = 62;
+
 /// The slot with the desk.
 const DESK: usize = 0;
+
+/// How often the caller that is next looks before it sleeps.
+const MOST_LOOKS: u32 = 100;
+
+/// The longest sleep of a caller that is not next, in milliseconds.
+const LONGEST_SLEEP: u64 = 5;
 
 /// One desk that many callers share, each by a pass of its own. They come to it one at a time, in the order of tickets that
 /// they draw.
@@ -48,7 +61,7 @@ impl<D: Desk> Model for Turn<D> {
 
     ghost view = { λ turn. turn.table.shared.table_id };
 
-    ghost invariant = { λ turn. (turn.table.shared.table_id.words ≡ 2) × (turn.table.shared.table_id.slots ≡ 1) };
+    ghost invariant = { λ turn. (turn.table.shared.table_id.words ≡ 64) × (turn.table.shared.table_id.slots ≡ 1) };
 }
 
 impl<D: Desk> Turn<D> {
@@ -71,7 +84,12 @@ impl<D: Desk> Turn<D> {
                 }
             }
         }
-        match Table::new(alloc, &[0, 0], slots, &start) {
+        match Table::new(
+            alloc,
+            &[0; FIRST_SLEEPING + SLEEPING as usize],
+            slots,
+            &start,
+        ) {
             Ok((table, seat)) => Ok((Turn { table }, Pass { seat, number: 0 })),
             Err(refused) => {
                 let Refused { mut slots } = refused;
@@ -179,7 +197,7 @@ impl<D: Desk> Turn<D> {
         self.table.shared.fetch_add::<Draw<D>>(seat, TICKET, 1)
     }
 
-    // Looks until the ticket is served. Between looks the thread sleeps until another ticket is.
+    // Looks until the ticket is served, and rests between looks.
     fn wait<R: Wait>(
         &self,
         rt: &R,
@@ -191,12 +209,14 @@ impl<D: Desk> Turn<D> {
         ensures table { seat.new.table_id ≡ seat.old.table_id }
         ensures took { Took D.history D.faults D.opening seat.old.me seat.new.me }
     {
+        let mut looks: u32 = 0;
         for _ in rt.forever() {
             let served = self.look(seat, ticket);
             if served == ticket {
                 return;
             }
-            self.sleep(rt, served);
+            self.rest(rt, ticket, served, looks);
+            looks = looks.saturating_add(1);
         }
         unreachable!()
     }
@@ -216,10 +236,31 @@ impl<D: Desk> Turn<D> {
         self.table.shared.load::<Look<D>>(seat, SERVING)
     }
 
-    fn sleep<R: Wait>(&self, rt: &R, served: u64) {
-        self.table
-            .shared
-            .park(rt, SERVING, (served & 0xFFFF_FFFF) as u32);
+    // The caller that is next looks some more, and then sleeps until another ticket is served. Each other sleeps at the word of
+    // its ticket. Where the wake comes before it sleeps it is lost, so this sleep has an end.
+    fn rest<R: Wait>(&self, rt: &R, ticket: u64, served: u64, looks: u32) {
+        let shared = &self.table.shared;
+        if ticket.wrapping_sub(served) > 1 {
+            let longest = Duration::from_millis(LONGEST_SLEEP);
+            shared.park_timeout(rt, sleeping_word(ticket), 0, longest);
+        } else if looks < MOST_LOOKS {
+            spin_loop();
+        } else {
+            shared.park(rt, SERVING, (served & 0xFFFF_FFFF) as u32);
+        }
+    }
+
+    // Wakes the caller whose ticket is served now, and the one that is next.
+    fn wake(&self, served: u64) {
+        let shared = &self.table.shared;
+        let waiting = shared.peek(TICKET).wrapping_sub(served);
+        if waiting > 0 {
+            shared.wake_one(SERVING);
+            shared.wake_all(sleeping_word(served));
+        }
+        if waiting > 1 {
+            shared.wake_all(sleeping_word(served.wrapping_add(1)));
+        }
     }
 
     // Takes the desk out of its slot, has it act, puts it back, and serves the next ticket.
@@ -241,13 +282,20 @@ impl<D: Desk> Turn<D> {
                     None => {}
                     Some(_) => unreachable!(),
                 }
-                self.table.shared.fetch_add::<Publish<D>>(seat, SERVING, 1);
-                self.table.shared.wake_all(SERVING);
+                let served = self.table.shared.fetch_add::<Publish<D>>(seat, SERVING, 1);
+                self.wake(served.wrapping_add(1));
                 answer
             }
             None => unreachable!(),
         }
     }
+}
+
+// The word at which a caller sleeps that is not next.
+fn sleeping_word(ticket: u64) -> usize
+    ensures { result < 64 }
+{
+    FIRST_SLEEPING + (ticket % SLEEPING) as usize
 }
 
 fn may_move<T: Send + Drop>(_value: T) {}
