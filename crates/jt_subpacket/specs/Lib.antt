@@ -1,0 +1,5 @@
+pub mod Parts
+pub mod Partials
+pub mod Fates
+pub mod Stored
+pub mod Steps

@@ -1,0 +1,13 @@
+//! Messages in packets: split, and joined again.
+#![tactic(auto)]
+
+mod assembler;
+mod key;
+mod partial;
+mod splitting;
+mod taken;
+
+pub use assembler::Assembler;
+pub use key::PartKey;
+pub use splitting::{SplitError, split};
+pub use taken::{Fate, Taken};
