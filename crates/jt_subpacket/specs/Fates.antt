@@ -49,7 +49,7 @@ goes_on ps key number body was =
 abbrev pub begins : List Partial → PartKey → ℕ → List ℕ → Taken
 begins ps key number body =
     let now = with_piece empty number body in
-    let begun = record { key = key; pieces = now } in
+    let begun : Partial = record { key = key; pieces = now } in
     if nat_lt (length ps) message_limit
     then record { dropped = None; fate = unfinished key number empty now; partial = ps ++ begun ∷ [] }
     else record { dropped = option_map (λ p. p.key) (slice_get ps 0); fate = unfinished key number empty now; partial = drop 1 ps ++ begun ∷ [] }

@@ -1,6 +1,6 @@
 //! A message of which some packets have come.
 
-ghost use Rattle.std.specs.Prelude.{◌≡◌, ℕ, ◌≤◌, ◌<◌, ◌↔◌, [], IfOk, OnOk, OnErr, IsTrue};
+ghost use Rattle.std.specs.Prelude.{◌≡◌, ℕ, ◌≤◌, ◌<◌, ◌↔◌, List, [], IfOk, OnOk, OnErr, IsTrue};
 ghost use Rattle.std.specs.FinMap.{contains_key, empty, len};
 ghost use Rattle.jt_subpacket.specs.Partials.{missing, piece, with_piece};
 ghost use Rattle.jt_subpacket.specs.Fates.{unfinished};

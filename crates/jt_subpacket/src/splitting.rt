@@ -1,6 +1,6 @@
 //! A message cut into packets.
 
-ghost use Rattle.std.specs.Prelude.{◌≡◌, ℕ, ◌+◌, ◌*◌, ◌<◌, ◌≤◌, ◌^◌, length, IfOk, IfErr, OnOk};
+ghost use Rattle.std.specs.Prelude.{◌≡◌, ℕ, ◌*◌, ◌<◌, ◌≤◌, length, IfOk, IfErr};
 ghost use Rattle.jt_subpacket.specs.Parts.{Parts, packet_header};
 ghost use Rattle.jt_subpacket.specs.Steps.{front, piece_of};
 ghost use Rattle.jt_subpacket.specs.declared.splitting.SplitError.TheVariants.{Memory as NoMemory, TooLarge};
@@ -106,8 +106,8 @@ pub fn split(
     body: &[u8],
 ) -> Result<Seq<(Header, Octets)>, SplitError>
     ensures parts { IfOk result (Parts header.now body.now) }
-    ensures fits { OnOk result (length body.now ≤ 261888) }
-    ensures too_large { (n : ℕ) → IfErr result (λ error. error ≡ TooLarge n → (n ≡ length body.now) × (261888 < n)) }
+    ensures too_large { 261888 < length body.now → result ≡ Err (TooLarge (length body.now)) }
+    ensures few { length body.now ≤ 261888 → IfErr result (λ error. error ≡ NoMemory) }
 {
     let len = body.len();
     if len > BODY_OCTETS {
