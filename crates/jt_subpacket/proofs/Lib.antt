@@ -1,3 +1,4 @@
 pub mod Packets
 pub mod Maps
 pub mod Missing
+pub mod Fates

@@ -78,7 +78,7 @@ put_is key es new number body octets p had same view is none puts =
     ∙ sym (get_put p.pieces number body other) in
     let pieces : ◌≡◌ {A = Pieces} (from_entries new) (with_piece p.pieces number body) =
     same_map nat_cmp_total nat_cmp-IsAntisymmetric _ _ at ∙ sym (cond-false (contains_key p.pieces number) p.pieces (insert p.pieces number body) (sym is ∙ none)) in
-    λ i. record { key = view i .key; pieces = pieces i }
+    λ i. record { key = (view i).key; pieces = pieces i }
 
 -- ---- what is there once one number more is
 
@@ -127,3 +127,9 @@ has_in key es p number view = ap is_some (get_in key es p number view)
 
 pub len_in : (key : PartKey) (es : List (ℕ × List ℕ)) (p : Partial) → IsStrictlySortedBy nat_cmp (keys_of es) → ◌≡◌ {A = Partial} (record { key = key; pieces = from_entries es }) p → length es ≡ len p.pieces
 len_in key es p ordered view = sym (len_is es ordered) ∙ at_pieces len key es p view
+
+pub piece_some : (key : PartKey) (es : List (ℕ × List ℕ)) (p : Partial) (number : ℕ) (octets : List ℕ) → ◌≡◌ {A = Partial} (record { key = key; pieces = from_entries es }) p → Some octets ≡ under es number → octets ≡ piece p.pieces number
+piece_some key es p number octets view there = ap (λ (o : Option (List ℕ)). unwrap_or o []) (there ∙ get_in key es p number view)
+
+pub piece_none : (key : PartKey) (es : List (ℕ × List ℕ)) (p : Partial) (number : ℕ) → ◌≡◌ {A = Partial} (record { key = key; pieces = from_entries es }) p → None ≡ under es number → [] ≡ piece p.pieces number
+piece_none key es p number view there = ap (λ (o : Option (List ℕ)). unwrap_or o []) (there ∙ get_in key es p number view)

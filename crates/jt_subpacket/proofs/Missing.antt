@@ -91,7 +91,7 @@ then_completed p number count total kept low high none counted same =
 
 pub else_completed : (p : Partial) (number : ℕ) (test : Bool) → IsPartial p → contains_key p.pieces number ≡ true → test ≡ false
     → (IsTrue test → missing_beside p.key.total p.pieces number ≡ []) × (missing_beside p.key.total p.pieces number ≡ [] → IsTrue test)
-else_completed p number test kept has no =
+else_completed p number test kept has off =
     let whole = kept.count in
     let less = kept.unfinished in
     (λ e. absurd cc,

@@ -1,3 +1,4 @@
+use Rattle.std.proofs.Common.{rules}
 use Rattle.jt_subpacket.proofs.Maps.{put_is}
 use Rattle.jt_subpacket.proofs.partial.PartialMessage.put.Goals as goal
 
