@@ -2,3 +2,4 @@ pub mod Packets
 pub mod Maps
 pub mod Missing
 pub mod Fates
+pub mod Places
