@@ -3,3 +3,4 @@ pub mod Maps
 pub mod Missing
 pub mod Fates
 pub mod Places
+pub mod Kept

@@ -34,7 +34,7 @@ length_more : (b : Bool) (xs : List ℕ) (x : ℕ) → length (cond b xs (xs ++ 
 length_more true xs x = omega arith
 length_more false xs x = length_push xs x
 
-count_more : (has : ℕ → Bool) (n : ℕ) → length (filter (λ x. not (has x)) (numbers (suc n))) ≡ length (filter (λ x. not (has x)) (numbers n)) + cond (has (suc n)) 0 1
+pub count_more : (has : ℕ → Bool) (n : ℕ) → length (filter (λ x. not (has x)) (numbers (suc n))) ≡ length (filter (λ x. not (has x)) (numbers n)) + cond (has (suc n)) 0 1
 count_more has n = ap length (passing_more has n) ∙ length_more (has (suc n)) (filter (λ x. not (has x)) (numbers n)) (suc n)
 
 -- a number above the total changes nothing
