@@ -61,8 +61,8 @@ goes ps place p number body octets key now completed kept iff on same joins new 
     let nil : missing p.key.total (with_piece p.pieces number body) ≡ [] = missing_with p.key.total p.pieces number body ∙ none in
     record {
       fate_is =
-        ap (λ (k : PartKey). Whole k.id k.first octets) same
-        ∙ ap (Whole p.key.id p.key.first) (joins ∙ sym (joined_with p.key.total p.pieces number body (absent p number (contains_key p.pieces number) refl kept none)))
-        ∙ sym (told_none p.key number p.pieces (with_piece p.pieces number body) _ nil);
+          ap (λ (k : PartKey). Whole k.id k.first octets) same
+          ∙ ap (Whole p.key.id p.key.first) (joins ∙ sym (joined_with p.key.total p.pieces number body (absent p number (contains_key p.pieces number) refl kept none)))
+          ∙ sym (told_none p.key number p.pieces (with_piece p.pieces number body) _ nil);
       now_is = new ∙ sym (ap (left_there ps place _) nil);
     }

@@ -51,8 +51,8 @@ at_put : (m : Pieces) (number : ℕ) (body : List ℕ) (P : ℕ → List ℕ →
 at_put m number body P here rest other octets e =
     elim (cases_Bool (eqb other number)) [
       | inl same ↦
-        let is : body ≡ octets = same_Some body octets (sym (get_put m number body other ∙ cond-true (eqb other number) _ _ same) ∙ e) in
-        subst (λ o. P other o) is (subst (λ n. P n body) (sym (eqb-true other number same)) here)
+          let is : body ≡ octets = same_Some body octets (sym (get_put m number body other ∙ cond-true (eqb other number) _ _ same) ∙ e) in
+          subst (λ o. P other o) is (subst (λ n. P n body) (sym (eqb-true other number same)) here)
       | inr apart ↦ rest other octets (sym (get_put m number body other ∙ cond-false (eqb other number) _ _ apart) ∙ e)
     ]
 
@@ -73,8 +73,8 @@ sound_with total m number body sound low high small =
     elim (cases_Bool (contains_key m number)) [
       | inl has ↦ subst (AreSound total) (sym (cond-true (contains_key m number) m (insert m number body) has)) sound
       | inr none ↦
-        let is : with_piece m number body ≡ insert m number body = cond-false (contains_key m number) m (insert m number body) none in
-        subst (AreSound total) (sym is) (sound_put total m number body sound none low high small is)
+          let is : with_piece m number body ≡ insert m number body = cond-false (contains_key m number) m (insert m number body) none in
+          subst (AreSound total) (sym is) (sound_put total m number body sound none low high small is)
     ]
 
 sound_of : (p : Partial) → IsPartial p → AreSound p.key.total p.pieces
@@ -134,9 +134,9 @@ module _ (key : PartKey) where
   each_updated now kept (p ∷ ps) each =
       elim (cases_Bool (same_key p.key key)) [
         | inl same ↦ subst Each (sym (cond-true (same_key p.key key) (record { key = p.key; pieces = now } ∷ ps) (p ∷ updated key now ps) same))
-          (each_cons _ ps (subst (λ (k : PartKey). IsPartial (record { key = k; pieces = now })) (sym (same_key_is p.key key same)) kept) (each_tail p ps each))
+            (each_cons _ ps (subst (λ (k : PartKey). IsPartial (record { key = k; pieces = now })) (sym (same_key_is p.key key same)) kept) (each_tail p ps each))
         | inr apart ↦ subst Each (sym (cond-false (same_key p.key key) (record { key = p.key; pieces = now } ∷ ps) (p ∷ updated key now ps) apart))
-          (each_cons p (updated key now ps) (each zero p refl) (each_updated now kept ps (each_tail p ps each)))
+            (each_cons p (updated key now ps) (each zero p refl) (each_updated now kept ps (each_tail p ps each)))
       ]
 
   length_updated : (now : Pieces) (ps : List Partial) → length (updated key now ps) ≤ length ps
@@ -148,10 +148,10 @@ module _ (key : PartKey) where
   kept_partial (p ∷ ps) was each e =
       elim (cases_Bool (same_key p.key key)) [
         | inl same ↦
-          let pieces : p.pieces ≡ was = same_Some p.pieces was (sym (cond-true (same_key p.key key) (Some p.pieces) (kept_of key ps) same) ∙ e) in
-          let keys = same_key_is p.key key same in
-          let is : p ≡ record { key = key; pieces = was } = λ i. record { key = keys i; pieces = pieces i } in
-          subst IsPartial is (each zero p refl)
+            let pieces : p.pieces ≡ was = same_Some p.pieces was (sym (cond-true (same_key p.key key) (Some p.pieces) (kept_of key ps) same) ∙ e) in
+            let keys = same_key_is p.key key same in
+            let is : p ≡ record { key = key; pieces = was } = λ i. record { key = keys i; pieces = pieces i } in
+            subst IsPartial is (each zero p refl)
         | inr apart ↦ kept_partial ps was (each_tail p ps each) (sym (cond-false (same_key p.key key) (Some p.pieces) (kept_of key ps) apart) ∙ e)
       ]
 
@@ -180,7 +180,7 @@ kept_begins ps key number body kept several few low high small =
     cond_both (ltb (length ps) 4) _ _ (λ (t : Taken). AreKept t.partial)
     (λ e. let room = ltb-true (length ps) 4 e in record { few = omega (arith, length_push ps (record { key = key; pieces = now })); each = each_push ps _ kept.each new })
     (λ e. let full = ltb-false (length ps) 4 e in
-      record { few = omega (arith, length_push (drop 1 ps) (record { key = key; pieces = now }), length_drop ps kept.few full); each = each_push (drop 1 ps) _ (each_drop ps kept.each) new })
+    record { few = omega (arith, length_push (drop 1 ps) (record { key = key; pieces = now }), length_drop ps kept.few full); each = each_push (drop 1 ps) _ (each_drop ps kept.each) new })
 
 kept_in : (ps : List Partial) (key : PartKey) (number : ℕ) (body : List ℕ) (was : Option Pieces) → kept_of key ps ≡ was → AreKept ps → 2 ≤ key.total → key.total ≤ 256 → 1 ≤ number → number ≤ key.total → length body ≤ 1023 → AreKept (taken_in ps key number body was).partial
 kept_in ps key number body None is kept several few low high small = kept_begins ps key number body kept several few low high small
@@ -190,10 +190,10 @@ kept_in ps key number body (Some was) is kept several few low high small = kept_
 pub kept_taken : (ps : List Partial) (h : Header) (body : List ℕ) (packet : Packet) → AreKept ps → 1 ≤ packet.number → packet.number ≤ packet.total → length body ≤ 1023 → AreKept (taken_as ps h body packet).partial
 kept_taken ps h body packet kept low high small =
     cond_both (ltb 256 packet.total) _ _ (λ (t : Taken). AreKept t.partial) (λ _. kept) (λ few.
-      cond_both (eqb packet.total 1) _ _ (λ (t : Taken). AreKept t.partial) (λ _. kept) (λ several.
-        let at_most = ltb-false 256 packet.total few in
-        let more = eqb-false packet.total 1 several in
-        kept_in ps (key_of h packet) packet.number body (kept_of (key_of h packet) ps) refl kept (omega arith) at_most low high small))
+    cond_both (eqb packet.total 1) _ _ (λ (t : Taken). AreKept t.partial) (λ _. kept) (λ several.
+    let at_most = ltb-false 256 packet.total few in
+    let more = eqb-false packet.total 1 several in
+    kept_in ps (key_of h packet) packet.number body (kept_of (key_of h packet) ps) refl kept (omega arith) at_most low high small))
 
 -- ---- the bound
 

@@ -53,18 +53,18 @@ count_beside m number zero none low high = absurd (omega arith)
 count_beside m number (suc n) none low high =
     elim (cases_eq (suc n) number) [
       | inl same ↦
-        let had : contains_key m (suc n) ≡ false = ap (contains_key m) same ∙ none in
-        let there : has_beside m number (suc n) ≡ true = ap (λ b. b || contains_key m (suc n)) (eq-eqb (suc n) number same) in
-        let a = count_more (has_beside m number) n ∙ ap (λ b. length (missing_beside n m number) + cond b 0 1) there in
-        let b = count_more (contains_key m) n ∙ ap (λ b. length (missing n m) + cond b 0 1) had in
-        omega (arith, a, b, count_above m number n (omega arith))
+          let had : contains_key m (suc n) ≡ false = ap (contains_key m) same ∙ none in
+          let there : has_beside m number (suc n) ≡ true = ap (λ b. b || contains_key m (suc n)) (eq-eqb (suc n) number same) in
+          let a = count_more (has_beside m number) n ∙ ap (λ b. length (missing_beside n m number) + cond b 0 1) there in
+          let b = count_more (contains_key m) n ∙ ap (λ b. length (missing n m) + cond b 0 1) had in
+          omega (arith, a, b, count_above m number n (omega arith))
       | inr apart ↦
-        let there : has_beside m number (suc n) ≡ contains_key m (suc n) = ap (λ b. b || contains_key m (suc n)) (ne_eqb (suc n) number apart) in
-        let a = count_more (has_beside m number) n ∙ ap (λ b. length (missing_beside n m number) + cond b 0 1) there in
-        let b = count_more (contains_key m) n in
-        let more : number ≡ suc n → ⊥ = λ e. apart (sym e) in
-        let below : number ≤ n = omega arith in
-        omega (arith, a, b, count_beside m number n none low below)
+          let there : has_beside m number (suc n) ≡ contains_key m (suc n) = ap (λ b. b || contains_key m (suc n)) (ne_eqb (suc n) number apart) in
+          let a = count_more (has_beside m number) n ∙ ap (λ b. length (missing_beside n m number) + cond b 0 1) there in
+          let b = count_more (contains_key m) n in
+          let more : number ≡ suc n → ⊥ = λ e. apart (sym e) in
+          let below : number ≤ n = omega arith in
+          omega (arith, a, b, count_beside m number n none low below)
     ]
 
 -- nothing is new where octets stand under the number
@@ -85,14 +85,16 @@ pub then_completed : (p : Partial) (number count total : ℕ) → IsPartial p �
     → (IsTrue (eqb (count + 1) total) → missing_beside p.key.total p.pieces number ≡ []) × (missing_beside p.key.total p.pieces number ≡ [] → IsTrue (eqb (count + 1) total))
 then_completed p number count total kept low high none counted same =
     let less = count_beside p.pieces number p.key.total none low high in
-    let whole = kept.count in
-    (λ e. let is = eqb-true (count + 1) total e in nil_from_length (missing_beside p.key.total p.pieces number) (omega arith),
-     λ e. let empty = ap length e in eq-eqb (count + 1) total (omega arith))
+    let whole = kept.count in (
+      λ e. let is = eqb-true (count + 1) total e in nil_from_length (missing_beside p.key.total p.pieces number) (omega arith),
+      λ e. let empty = ap length e in eq-eqb (count + 1) total (omega arith),
+    )
 
 pub else_completed : (p : Partial) (number : ℕ) (test : Bool) → IsPartial p → contains_key p.pieces number ≡ true → test ≡ false
     → (IsTrue test → missing_beside p.key.total p.pieces number ≡ []) × (missing_beside p.key.total p.pieces number ≡ [] → IsTrue test)
 else_completed p number test kept has off =
     let whole = kept.count in
-    let less = kept.unfinished in
-    (λ e. absurd cc,
-     λ e. absurd (not_nil (missing p.key.total p.pieces) (omega arith) (sym (same_beside p.pieces number p.key.total has) ∙ e)))
+    let less = kept.unfinished in (
+      λ e. absurd cc,
+      λ e. absurd (not_nil (missing p.key.total p.pieces) (omega arith) (sym (same_beside p.pieces number p.key.total has) ∙ e)),
+    )

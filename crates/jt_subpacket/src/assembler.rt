@@ -50,7 +50,9 @@ impl Model for Assembler {
 fn place_of(partials: &[PartialMessage], key: PartKey) -> Option<usize>
     ensures { result ≡ position (λ p. same_key p.key key) partials.now }
 {
-    partials.iter().position(|partial| partial.key().is_same(key))
+    partials
+        .iter()
+        .position(|partial| partial.key().is_same(key))
 }
 
 // Begins a message, and drops the one that began first where it is a fifth one.
@@ -102,7 +104,11 @@ fn go_on(
         return Ok(fate);
     }
     let body = partial.joined_beside(alloc, number, body)?;
-    let PartKey { id, first, total: _ } = partial.key();
+    let PartKey {
+        id,
+        first,
+        total: _,
+    } = partial.key();
     partials.remove(place);
     Ok(Fate::Whole {
         id,

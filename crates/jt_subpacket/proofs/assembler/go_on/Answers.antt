@@ -33,4 +33,4 @@ returns-clause-ok c =
     let key = c.key-id.result in
     subst (λ o. IfSome o (Answers ps c.args.place c.args.number c.args.body.now (Whole key.id key.first c.in_ok-body.body) c.remove.new.self.items)) (sym at)
     (goes ps c.args.place p c.args.number c.args.body.now c.in_ok-body.body key c.remove.new.self.items c.is_completed_by.result (c.requires.kept p at).0 c.is_completed_by.ensures c.if-not-is_completed_by.false c.key-id.ensures c.in_ok-body.ensures
-      (c.remove.ensures.items ∙ ap (λ l. remove l c.args.place) (ap (slice_set ps c.args.place) c.index_mut-partial.ensures.value ∙ set-get_or ps c.args.place p)))
+    (c.remove.ensures.items ∙ ap (λ l. remove l c.args.place) (ap (slice_set ps c.args.place) c.index_mut-partial.ensures.value ∙ set-get_or ps c.args.place p)))
