@@ -27,7 +27,7 @@ asks key p number numbers same is told body =
 told_none : (key : PartKey) (number : ℕ) (was now : Pieces) (ms : List ℕ) → ms ≡ [] → told key number was now ms ≡ Whole key.id key.first (joined key.total now)
 told_none key number was now ms e = ap (told key number was now) e
 
-told_some : (key : PartKey) (number : ℕ) (was now : Pieces) (ms : List ℕ) → (ms ≡ [] → ⊥) → told key number was now ms ≡ unfinished key number was now
+pub told_some : (key : PartKey) (number : ℕ) (was now : Pieces) (ms : List ℕ) → (ms ≡ [] → ⊥) → told key number was now ms ≡ unfinished key number was now
 told_some key number was now [] some = absurd (some refl)
 told_some key number was now (n ∷ ns) some = refl
 

@@ -29,7 +29,7 @@ record AreSound (total : ℕ) (m : Pieces) : Type 0 where
   own : (number : ℕ) (octets : List ℕ) → get m number ≡ Some octets → (1 ≤ number) × (number ≤ total)
   short : (number : ℕ) (octets : List ℕ) → get m number ≡ Some octets → length octets ≤ 1023
 
-none_in : (number : ℕ) → contains_key (empty {X = List ℕ} {R = nat_cmp}) number ≡ false
+pub none_in : (number : ℕ) → contains_key (empty {X = List ℕ} {R = nat_cmp}) number ≡ false
 none_in number = ap is_some (get-empty nat_cmp number)
 
 all_missing : (total : ℕ) → length (missing total empty) ≡ total

@@ -4,3 +4,4 @@ pub mod Missing
 pub mod Fates
 pub mod Places
 pub mod Kept
+pub mod Joining

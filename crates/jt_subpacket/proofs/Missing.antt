@@ -15,7 +15,7 @@ one_more true xs x = append-nil xs
 one_more false xs x = refl
 
 -- what passes one number on
-passing_more : (has : ℕ → Bool) (n : ℕ) → filter (λ x. not (has x)) (numbers (suc n)) ≡ cond (has (suc n)) (filter (λ x. not (has x)) (numbers n)) (filter (λ x. not (has x)) (numbers n) ++ suc n ∷ [])
+pub passing_more : (has : ℕ → Bool) (n : ℕ) → filter (λ x. not (has x)) (numbers (suc n)) ≡ cond (has (suc n)) (filter (λ x. not (has x)) (numbers n)) (filter (λ x. not (has x)) (numbers n) ++ suc n ∷ [])
 passing_more has n = filter-append (λ x. not (has x)) (numbers n) (suc n ∷ []) ∙ one_more (has (suc n)) (filter (λ x. not (has x)) (numbers n)) (suc n)
 
 pub missing_skip : (m : Pieces) (number n : ℕ) → has_beside m number (n + 1) ≡ true → missing_beside n m number ≡ missing_beside (n + 1) m number

@@ -89,7 +89,7 @@ module _ (key : PartKey) where
 -- ---- what the packet of a message is told
 
 -- what a packet of two or more is told, over what is kept of its message
-reach : (ps : List Partial) (h : Header) (body : List ℕ) (packet : Packet) → packet.total ≤ 256 → (packet.total ≡ 1 → ⊥) → taken_as ps h body packet ≡ taken_in ps (key_of h packet) packet.number body (kept_of (key_of h packet) ps)
+pub reach : (ps : List Partial) (h : Header) (body : List ℕ) (packet : Packet) → packet.total ≤ 256 → (packet.total ≡ 1 → ⊥) → taken_as ps h body packet ≡ taken_in ps (key_of h packet) packet.number body (kept_of (key_of h packet) ps)
 reach ps h body packet few several = cond-false (ltb 256 packet.total) _ _ (le-ltb _ _ few) ∙ cond-false (eqb packet.total 1) _ _ (ne_eqb _ _ several)
 
 left_is : (key : PartKey) (ps : List Partial) (place : ℕ) (a : At key ps place) (now : Pieces) (ms : List ℕ) → left_there ps place (record { key = a.message.key; pieces = now }) ms ≡ left key now ms ps
