@@ -1,0 +1,7 @@
+pub mod Packets
+pub mod Maps
+pub mod Missing
+pub mod Fates
+pub mod Places
+pub mod Kept
+pub mod Joining

@@ -1,0 +1,75 @@
+-- What the calls inside an assembler answer, and what holds of all that it keeps. Step definitions for the proofs; no public clause cites them.
+use Rattle.std.specs.Prelude.{◌≡◌, ℕ, zero, suc, ◌+◌, ◌-◌, ◌*◌, ◌≤◌, ◌<◌, Bool, ◌==◌, ◌||◌, not, if◌then◌else◌, List, [], ◌∷◌, ◌++◌, length, take, drop, Option, None, Some, slice_get, slice_set}
+use Rattle.std.specs.FinMap.{get, len, contains_key}
+use Rattle.std.specs.List.{filter, flat_map, remove}
+use Rattle.jt_header.specs.declared.header.Header.{Header}
+use Rattle.jt_subpacket.specs.Parts.{Message, packet_header}
+use Rattle.jt_subpacket.specs.Partials.{Partial, Pieces, HasNumbers, missing, numbers, piece, with_piece}
+use Rattle.jt_subpacket.specs.Fates.{told}
+use Rattle.jt_subpacket.specs.declared.taken.Fate.{Fate}
+
+-- ---- split
+
+-- the piece of a body that a packet has
+abbrev pub piece_of : List ℕ → ℕ → List ℕ
+piece_of body place = take 1023 (drop (place * 1023) body)
+
+-- the first packets of a message
+abbrev pub front : Header → ℕ → List ℕ → ℕ → List Message
+front h total body zero = []
+front h total body (suc place) = front h total body place ++ (packet_header h total place, piece_of body place) ∷ []
+
+-- ---- what is kept of a message
+
+-- whether a number is there once this one is
+abbrev pub has_beside : Pieces → ℕ → ℕ → Bool
+has_beside pieces number other = (other == number) || contains_key pieces other
+
+-- the numbers that are missing once this one is there
+abbrev pub missing_beside : ℕ → Pieces → ℕ → List ℕ
+missing_beside total pieces number = filter (λ other. not (has_beside pieces number other)) (numbers total)
+
+-- what stands under a number once this octets do under that one
+abbrev pub piece_beside : Pieces → ℕ → List ℕ → ℕ → List ℕ
+piece_beside pieces number body other = if other == number then body else piece pieces other
+
+abbrev pub joined_beside : ℕ → Pieces → ℕ → List ℕ → List ℕ
+joined_beside total pieces number body = flat_map (piece_beside pieces number body) (numbers total)
+
+-- what holds of each partial message
+pub record IsPartial (p : Partial) : Type 0 where
+  pub several : 2 ≤ p.key.total
+  pub few : p.key.total ≤ 256
+  pub count : len p.pieces + length (missing p.key.total p.pieces) ≡ p.key.total
+  pub unfinished : len p.pieces < p.key.total
+  pub own : HasNumbers p
+  pub short : (number : ℕ) (octets : List ℕ) → get p.pieces number ≡ Some octets → length octets ≤ 1023
+
+-- what holds of all that an assembler keeps
+pub record AreKept (ps : List Partial) : Type 0 where
+  pub few : length ps ≤ 4
+  pub each : (place : ℕ) (p : Partial) → slice_get ps place ≡ Some p → IsPartial p
+
+-- ---- what an assembler does
+
+-- what a packet of a message that is begun is told
+abbrev pub fate_at : Partial → ℕ → List ℕ → Fate
+fate_at p number body =
+    let now = with_piece p.pieces number body in
+    told p.key number p.pieces now (missing p.key.total now)
+
+-- the partial messages with another at a place, or none there
+abbrev pub left_there : List Partial → ℕ → Partial → List ℕ → List Partial
+left_there ps place p [] = remove ps place
+left_there ps place p (n ∷ ns) = slice_set ps place p
+
+-- the partial messages once a packet of the one at a place has come
+abbrev pub left_at : List Partial → ℕ → Partial → ℕ → List ℕ → List Partial
+left_at ps place p number body =
+    let now = with_piece p.pieces number body in
+    left_there ps place (record { key = p.key; pieces = now }) (missing p.key.total now)
+
+-- a call answered this fate of this partial messages, and left those
+pub record Answers (ps : List Partial) (place number : ℕ) (body : List ℕ) (fate : Fate) (now : List Partial) (p : Partial) : Type 0 where
+  pub fate_is : fate ≡ fate_at p number body
+  pub now_is : now ≡ left_at ps place p number body

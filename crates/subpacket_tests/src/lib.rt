@@ -1,0 +1,7 @@
+//! Tests of messages in packets.
+#![tactic(auto)]
+
+#[cfg(test)]
+mod assembling;
+#[cfg(test)]
+mod splitting;
