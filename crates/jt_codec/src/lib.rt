@@ -10,6 +10,7 @@ mod laws;
 mod message;
 mod position_reply;
 mod regions;
+mod resend;
 mod rows;
 mod text;
 mod track;
@@ -20,6 +21,7 @@ pub use frame::{frame_into, parse_frame, read_message};
 pub use judging::judge_message;
 pub use laws::{law_of_acks, law_of_bodies, law_of_frames};
 pub use message::Message;
+pub use resend::Resend;
 pub use viewing::{MessageView, view_message};
 
 #[cfg(test)]
