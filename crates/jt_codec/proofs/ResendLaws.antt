@@ -1,8 +1,8 @@
 -- The law of requests to send packets again.
-use Rattle.std.proofs.Common.{◌≡◌, ℕ, ◌+◌, ◌*◌, ◌%◌, ◌<◌, ◌≤◌, Bool, true, false, cond, ltb, eqb, inl, inr, List, length, get_or, drop, Option, Some, None, Result, Ok, Err, refl, sym, ap, subst, ◌∙◌, arith}
+use Rattle.std.proofs.Common.{◌≡◌, ℕ, ◌+◌, ◌*◌, ◌%◌, ◌<◌, ◌≤◌, Bool, true, false, cond, ltb, eqb, inl, inr, List, [], ◌∷◌, length, get_or, drop, Option, Some, None, Result, Ok, Err, refl, sym, ap, subst, ◌∙◌, arith}
 use Rattle.std.specs.Prelude.{◌&&◌, ◌⊎◌}
 use Rattle.std.specs.List.{flat_map}
-use Rattle.std.proofs.lemmas.Bool.{le-ltb, eqb-true, eq-eqb, ne_eqb}
+use Rattle.std.proofs.lemmas.Bool.{le-ltb, ltb-false, eqb-true, eqb-false, eq-eqb, ne_eqb}
 use Rattle.std.proofs.lemmas.List.{length-drop}
 use Rattle.jt_value.specs.declared.phone.Edition.{Edition}
 use Rattle.jt_value.specs.declared.phone.Edition.TheVariants.{E2013, E2019}
@@ -56,7 +56,7 @@ sound e v none =
     let b = passed (eqb (length v) 2) (truncated 2) (cond even (Some (bad_count 2)) (last e v)) a.1 in
     let c = passed even (bad_count 2) (last e v) b.1 in
     let exact = eqb-true _ _ (met (eqb (length v) (size (is_wide e (length v)) (count_in (is_wide e (length v)) v))) (bad_count 2) c.1) in
-    record { long = omega (arith, a.0, b.0); exact = exact }
+    record { long = omega (arith, ltb-false _ _ a.0, eqb-false (length v) 2 b.0); exact = exact }
 
 -- in 2013 the count has one octet, and so the length is odd
 odd : (e : Edition) (v : List ℕ) (wide : Bool) → HasWidth e wide → length v ≡ size wide (count_in wide v) → (is_2013 e && eqb (length v % 2) 0) ≡ false
@@ -215,9 +215,9 @@ placed e s p r le is =
     let all = length-drop p s in
     let even : Bool = is_2013 e && eqb (length (drop p s) % 2) 0 in
     either_placed (ltb (length (drop p s)) 2) s (truncated 0) r (cond (eqb (length (drop p s)) 2) (Some (truncated 2)) (cond even (Some (bad_count 2)) (last e (drop p s)))) is (λ _. (refl, omega arith))
-    (λ long is. either_placed (eqb (length (drop p s)) 2) s (truncated 2) r (cond even (Some (bad_count 2)) (last e (drop p s))) is (λ _. (refl, omega (arith, long, all)))
-    (λ _ is. either_placed even s (bad_count 2) r (last e (drop p s)) is (λ _. (refl, omega (arith, long, all)))
-    (λ _ is. last_placed (eqb (length (drop p s)) (size (is_wide e (length (drop p s))) (count_in (is_wide e (length (drop p s))) (drop p s)))) s (bad_count 2) r is (refl, omega (arith, long, all)))))
+    (λ long is. either_placed (eqb (length (drop p s)) 2) s (truncated 2) r (cond even (Some (bad_count 2)) (last e (drop p s))) is (λ _. (refl, omega (arith, ltb-false _ _ long, all)))
+    (λ _ is. either_placed even s (bad_count 2) r (last e (drop p s)) is (λ _. (refl, omega (arith, ltb-false _ _ long, all)))
+    (λ _ is. last_placed (eqb (length (drop p s)) (size (is_wide e (length (drop p s))) (count_in (is_wide e (length (drop p s))) (drop p s)))) s (bad_count 2) r is (refl, omega (arith, ltb-false _ _ long, all)))))
 
 -- ---- the law
 

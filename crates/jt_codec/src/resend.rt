@@ -1,6 +1,6 @@
 //! Requests to send packets again.
 
-ghost use Rattle.std.specs.Prelude.{◌≡◌, ◌≤◌, ◌↔◌, ◌++◌, length, Some, None, IsTrue, IfOk, MatchResult, OnOk};
+ghost use Rattle.std.specs.Prelude.{◌≡◌, ◌==◌, ◌≤◌, ◌↔◌, ◌++◌, length, Some, None, IsTrue, IfOk, MatchResult, OnOk};
 ghost use Rattle.jt_layout.specs.Answer.{Answers};
 ghost use Rattle.jt_layout.specs.Reading.{Finds, Gives};
 ghost use Rattle.jt_codec.specs.Resend as layouts;
@@ -143,6 +143,7 @@ pub(crate) fn read_resend(
     resend_in(alloc, edition, octets)
 }
 
+#[tactic(auto, unfolding(jt_layout::specs::Layout::number))]
 fn write_count(writer: &mut Writer, wide: bool, count: u16) -> Result<(), Memory>
     requires { (layouts.count wide).Fits count }
     ensures { OnOk result (writer.new ≡ writer.old ++ (layouts.count wide).spell count) }
