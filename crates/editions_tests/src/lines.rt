@@ -167,6 +167,10 @@ fn lines_of_both_editions(rt: HostRuntime) {
         ),
     ];
     for (octets, status, written) in rows {
-        assert_eq!(rt; is_viewed(rt.alloc(), octets, status, written), Ok(true), "{octets:?}");
+        assert_eq!(rt;
+            is_viewed(rt.alloc(), octets, status, written),
+            Ok(true),
+            "{octets:?}"
+        );
     }
 }
