@@ -27,9 +27,12 @@ use Rattle.jt_register.specs.declared.reply.RegisterReply.{RegisterReply}
 use Rattle.jt_register.specs.declared.auth.Auth.{Auth}
 use Rattle.jt_register.proofs.RegistrationLaws.{register_law, register_reply_law, auth_law}
 use Rattle.jt_codec.specs.Answer.{IsUnlessMemory}
-use Rattle.jt_codec.specs.Kinds.{terminal_ack_of, platform_ack_of, heartbeat_of, deregister_of, register_of, register_reply_of, auth_of, set_params_of, query_params_of, query_some_of, params_of, position_of, position_reply_of, query_position_of, track_of, batch_of, text_of, control_of, circles_of, rectangles_of, polygon_of, route_of, delete_circles_of, delete_rectangles_of, delete_polygons_of, delete_routes_of, opaque_of}
-use Rattle.jt_codec.specs.Layouts.{ack, position_reply, track, octet_and_text}
-use Rattle.jt_codec.specs.Bodies.{body, is_2013, id_of, Fits, HasBody, IsInside, body_octets, octets_under}
+use Rattle.jt_codec.specs.Kinds.{terminal_ack_of, platform_ack_of, heartbeat_of, deregister_of, terminal_resend_of, resend_of, register_of, register_reply_of, auth_of, set_params_of, query_params_of, query_some_of, params_of, position_of, position_reply_of, query_position_of, track_of, batch_of, text_of, kind_text_of, control_of, circles_of, rectangles_of, polygon_of, route_of, delete_circles_of, delete_rectangles_of, delete_polygons_of, delete_routes_of, opaque_of}
+use Rattle.jt_codec.specs.Layouts.{ack, position_reply, track, octet_and_text, flag_kind_and_text}
+use Rattle.jt_codec.specs.Editions.{is_2013, is_2019}
+use Rattle.jt_codec.specs.declared.resend.Resend.{Resend}
+use Rattle.jt_codec.proofs.ResendLaws.{resend_law}
+use Rattle.jt_codec.specs.Bodies.{body, id_of, Fits, HasBody, IsInside, body_octets, octets_under}
 use Rattle.jt_codec.specs.declared.message.Message.{Message}
 use Rattle.jt_codec.specs.declared.message.Message.TheVariants as message
 
@@ -57,6 +60,14 @@ heartbeat_forth _ x e = absurd cc
 deregister_forth : (m : Message) (x : Unit {0}) → deregister_of m ≡ Some x → message.Deregister ≡ m
 deregister_forth message.Deregister x e = refl
 deregister_forth _ x e = absurd cc
+
+terminal_resend_forth : (m : Message) (x : Resend) → terminal_resend_of m ≡ Some x → message.TerminalResend x ≡ m
+terminal_resend_forth (message.TerminalResend resend) x e = cc
+terminal_resend_forth _ x e = absurd cc
+
+resend_forth : (m : Message) (x : Resend) → resend_of m ≡ Some x → message.Resend x ≡ m
+resend_forth (message.Resend resend) x e = cc
+resend_forth _ x e = absurd cc
 
 register_forth : (m : Message) (x : Register) → register_of m ≡ Some x → message.Register x ≡ m
 register_forth (message.Register register) x e = cc
@@ -109,6 +120,10 @@ batch_forth _ x e = absurd cc
 text_forth : (m : Message) (x : ℕ × List ℕ) → text_of m ≡ Some x → message.Text x.0 None x.1 ≡ m
 text_forth (message.Text flag None text) x e = ap (λ (y : ℕ × List ℕ). message.Text y.0 None y.1) (some_is x (flag, text) _ e refl)
 text_forth _ x e = absurd cc
+
+kind_text_forth : (m : Message) (x : ℕ × ℕ × List ℕ) → kind_text_of m ≡ Some x → message.Text x.0 (Some x.1) x.2 ≡ m
+kind_text_forth (message.Text flag (Some kind) text) x e = ap (λ (y : ℕ × ℕ × List ℕ). message.Text y.0 (Some y.1) y.2) (some_is x (flag, kind, text) _ e refl)
+kind_text_forth _ x e = absurd cc
 
 control_forth : (m : Message) (x : ℕ × List ℕ) → control_of m ≡ Some x → message.Control x.0 x.1 ≡ m
 control_forth (message.Control command text) x e = ap (λ (y : ℕ × List ℕ). message.Control y.0 y.1) (some_is x (command, text) _ e refl)
@@ -185,6 +200,10 @@ pub octet_and_text_law : IsBody octet_and_text
 unfolding octet_and_text
 octet_and_text_law = then_body_law _ _ byte_law (λ _. rest_law)
 
+pub flag_kind_and_text_law : IsBody flag_kind_and_text
+unfolding flag_kind_and_text
+flag_kind_and_text_law = body_as_law _ _ _ (then_body_law _ _ byte_law (λ _. then_body_law _ _ byte_law (λ _. rest_law))) (λ x fits. refl) (λ m. refl)
+
 -- ---- rows
 
 -- what holds of the row of an id
@@ -243,6 +262,12 @@ if_row_2013 : (edition : Edition) (id n : ℕ) {A : Type 0} (f : Body A) (make :
     → ((own : ℕ) (v : List ℕ) → case_of (message.Opaque own v) ≡ None) → IsRow id other → IsRow id (if_body (is_2013 edition && eqb id n) (body_case f make case_of) other)
 if_row_2013 edition id n = if_row_when (is_2013 edition && eqb id n) id n (λ e. eqb-true id n (and_parts (is_2013 edition) (eqb id n) e).1)
 
+-- the row of an id in 2019 alone
+if_row_2019 : (edition : Edition) (id n : ℕ) {A : Type 0} (f : Body A) (make : A → Message) (case_of : Message → Option A) (other : Body Message) → IsBody f
+    → ((x : A) → case_of (make x) ≡ Some x) → ((m : Message) (x : A) → case_of m ≡ Some x → make x ≡ m) → ((x : A) → id_of (make x) ≡ Some n)
+    → ((own : ℕ) (v : List ℕ) → case_of (message.Opaque own v) ≡ None) → IsRow id other → IsRow id (if_body (is_2019 edition && eqb id n) (body_case f make case_of) other)
+if_row_2019 edition id n = if_row_when (is_2019 edition && eqb id n) id n (λ e. eqb-true id n (and_parts (is_2019 edition) (eqb id n) e).1)
+
 -- a row: its id, the law of its layout, and the message that has its fields
 body_row : (edition : Edition) (id : ℕ) → IsRow id (body edition id)
 unfolding body
@@ -251,9 +276,11 @@ body_row edition id =
     if_row id 0x8001 _ _ _ _ ack_law (λ x. refl) platform_ack_forth (λ x. refl) (λ _ _. refl) (
     if_row id 0x0002 _ _ _ _ empty_law (λ x. refl) heartbeat_forth (λ x. refl) (λ _ _. refl) (
     if_row id 0x0003 _ _ _ _ empty_law (λ x. refl) deregister_forth (λ x. refl) (λ _ _. refl) (
-    if_row_2013 edition id 0x0100 _ _ _ _ (register_law 5 20 7) (λ x. refl) register_forth (λ x. refl) (λ _ _. refl) (
+    if_row_2019 edition id 0x0005 _ _ _ _ (resend_law edition) (λ x. refl) terminal_resend_forth (λ x. refl) (λ _ _. refl) (
+    if_row id 0x8003 _ _ _ _ (resend_law edition) (λ x. refl) resend_forth (λ x. refl) (λ _ _. refl) (
+    if_row id 0x0100 _ _ _ _ (register_law edition) (λ x. refl) register_forth (λ x. refl) (λ _ _. refl) (
     if_row id 0x8100 _ _ _ _ register_reply_law (λ x. refl) register_reply_forth (λ x. refl) (λ _ _. refl) (
-    if_row_2013 edition id 0x0102 _ _ _ _ auth_law (λ x. refl) auth_forth (λ x. refl) (λ _ _. refl) (
+    if_row id 0x0102 _ _ _ _ (auth_law edition) (λ x. refl) auth_forth (λ x. refl) (λ _ _. refl) (
     if_row id 0x8103 _ _ _ _ params_law (λ x. refl) set_params_forth (λ x. refl) (λ _ _. refl) (
     if_row id 0x8104 _ _ _ _ empty_law (λ x. refl) query_params_forth (λ x. refl) (λ _ _. refl) (
     if_row id 0x8106 _ _ _ _ query_some_law (λ x. refl) query_some_forth (λ x. refl) (λ _ _. refl) (
@@ -264,6 +291,7 @@ body_row edition id =
     if_row id 0x8202 _ _ _ _ track_law (λ x. refl) track_forth (λ x. refl) (λ _ _. refl) (
     if_row id 0x0704 _ _ _ _ batch_law (λ x. refl) batch_forth (λ x. refl) (λ _ _. refl) (
     if_row_2013 edition id 0x8300 _ _ _ _ octet_and_text_law (λ x. refl) text_forth (λ x. refl) (λ _ _. refl) (
+    if_row_2019 edition id 0x8300 _ _ _ _ flag_kind_and_text_law (λ x. refl) kind_text_forth (λ x. refl) (λ _ _. refl) (
     if_row id 0x8105 _ _ _ _ octet_and_text_law (λ x. refl) control_forth (λ x. refl) (λ _ _. refl) (
     if_row_2013 edition id 0x8600 _ _ _ _ circles_law (λ x. refl) circles_forth (λ x. refl) (λ _ _. refl) (
     if_row_2013 edition id 0x8602 _ _ _ _ rectangles_law (λ x. refl) rectangles_forth (λ x. refl) (λ _ _. refl) (
@@ -273,7 +301,7 @@ body_row edition id =
     if_row id 0x8603 _ _ _ _ deletion_law (λ x. refl) delete_rectangles_forth (λ x. refl) (λ _ _. refl) (
     if_row id 0x8605 _ _ _ _ deletion_law (λ x. refl) delete_polygons_forth (λ x. refl) (λ _ _. refl) (
     if_row id 0x8607 _ _ _ _ deletion_law (λ x. refl) delete_routes_forth (λ x. refl) (λ _ _. refl)
-    (is_row id _ _ _ rest_law (opaque_back id) (opaque_forth id) (λ x. refl) (λ own v fits. own_opaque (eqb own id) v fits)))))))))))))))))))))))))))
+    (is_row id _ _ _ rest_law (opaque_back id) (opaque_forth id) (λ x. refl) (λ own v fits. own_opaque (eqb own id) v fits))))))))))))))))))))))))))))))
 
 pub body_law : (edition : Edition) (id : ℕ) → IsBody (body edition id)
 body_law edition id = (body_row edition id).law

@@ -1,3 +1,4 @@
 pub mod AckLaws
 pub mod BodyLaws
 pub mod FrameLaws
+pub mod ResendLaws

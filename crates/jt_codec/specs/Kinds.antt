@@ -12,6 +12,7 @@ use Rattle.jt_region_bodies.specs.declared.kind.RegionKind.TheVariants as kind
 use Rattle.jt_register.specs.declared.register.Register.{Register}
 use Rattle.jt_register.specs.declared.reply.RegisterReply.{RegisterReply}
 use Rattle.jt_register.specs.declared.auth.Auth.{Auth}
+use Rattle.jt_codec.specs.declared.resend.Resend.{Resend}
 use Rattle.jt_codec.specs.declared.message.Message.{Message}
 use Rattle.jt_codec.specs.declared.message.Message.TheVariants as message
 
@@ -30,6 +31,14 @@ heartbeat_of _ = None
 abbrev pub deregister_of : Message → Option (Unit {0})
 deregister_of message.Deregister = Some tt
 deregister_of _ = None
+
+abbrev pub terminal_resend_of : Message → Option Resend
+terminal_resend_of (message.TerminalResend resend) = Some resend
+terminal_resend_of _ = None
+
+abbrev pub resend_of : Message → Option Resend
+resend_of (message.Resend resend) = Some resend
+resend_of _ = None
 
 abbrev pub register_of : Message → Option Register
 register_of (message.Register register) = Some register
@@ -83,6 +92,11 @@ batch_of _ = None
 abbrev pub text_of : Message → Option (ℕ × List ℕ)
 text_of (message.Text flag None text) = Some (flag, text)
 text_of _ = None
+
+-- a text with a kind
+abbrev pub kind_text_of : Message → Option (ℕ × ℕ × List ℕ)
+kind_text_of (message.Text flag (Some kind) text) = Some (flag, kind, text)
+kind_text_of _ = None
 
 abbrev pub control_of : Message → Option (ℕ × List ℕ)
 control_of (message.Control command text) = Some (command, text)

@@ -1,8 +1,10 @@
 pub mod Answer
 pub mod Bodies
+pub mod Editions
 pub mod Frames
 pub mod Kinds
 pub mod Law
 pub mod Layouts
 pub mod Parsing
+pub mod Resend
 pub mod Viewing

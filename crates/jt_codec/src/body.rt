@@ -14,16 +14,17 @@ use crate::message::{
     AUTH, BATCH, CIRCLES, CONTROL, DELETE_CIRCLES, DELETE_POLYGONS, DELETE_RECTANGLES,
     DELETE_ROUTES, DEREGISTER, HEARTBEAT, Message, PARAMS, PLATFORM_ACK, POLYGON, POSITION,
     POSITION_REPLY, QUERY_PARAMS, QUERY_POSITION, QUERY_SOME, RECTANGLES, REGISTER, REGISTER_REPLY,
-    ROUTE, SET_PARAMS, TERMINAL_ACK, TEXT, TRACK,
+    RESEND, ROUTE, SET_PARAMS, TERMINAL_ACK, TERMINAL_RESEND, TEXT, TRACK,
 };
 use crate::position_reply::write_position_reply;
 use crate::regions::write_region_ids;
+use crate::resend::write_resend;
 use crate::rows::{
-    auth_row, batch_row, circles_row, control_row, params_row, polygon_row, position_reply_row,
-    position_row, query_some_row, rectangles_row, register_reply_row, register_row, route_row,
-    set_params_row, text_row, track_row,
+    auth_row, batch_row, circles_row, control_row, kind_text_row, params_row, polygon_row,
+    position_reply_row, position_row, query_some_row, rectangles_row, register_reply_row,
+    register_row, resend_row, route_row, set_params_row, terminal_resend_row, text_row, track_row,
 };
-use crate::text::write_octet_and_text;
+use crate::text::{write_octet_and_text, write_text};
 use crate::track::write_track;
 use jt_params::{write_params, write_params_reply, write_query_some};
 use jt_position::{write_batch, write_position};
@@ -64,9 +65,11 @@ fn read_row(alloc: Global, edition: Edition, id: u16, octets: &[u8]) -> Result<M
             read_empty(octets)?;
             Ok(Message::Deregister)
         }
-        (Edition::E2013, REGISTER) => register_row(alloc, octets),
+        (Edition::E2019, TERMINAL_RESEND) => terminal_resend_row(alloc, edition, octets),
+        (_, RESEND) => resend_row(alloc, edition, octets),
+        (_, REGISTER) => register_row(alloc, edition, octets),
         (_, REGISTER_REPLY) => register_reply_row(alloc, octets),
-        (Edition::E2013, AUTH) => auth_row(alloc, octets),
+        (_, AUTH) => auth_row(alloc, edition, octets),
         (_, SET_PARAMS) => set_params_row(alloc, octets),
         (_, QUERY_PARAMS) => {
             read_empty(octets)?;
@@ -83,6 +86,7 @@ fn read_row(alloc: Global, edition: Edition, id: u16, octets: &[u8]) -> Result<M
         (_, TRACK) => track_row(octets),
         (_, BATCH) => batch_row(alloc, octets),
         (Edition::E2013, TEXT) => text_row(alloc, octets),
+        (Edition::E2019, TEXT) => kind_text_row(alloc, octets),
         (_, CONTROL) => control_row(alloc, octets),
         (Edition::E2013, CIRCLES) => circles_row(alloc, octets),
         (Edition::E2013, RECTANGLES) => rectangles_row(alloc, octets),
@@ -108,9 +112,10 @@ fn read_row(alloc: Global, edition: Edition, id: u16, octets: &[u8]) -> Result<M
     }
 }
 
-/// Reads the body of a message with this id, of any length. The refusals are Truncated at a field that passes the end, and
-/// Trailing at the first octet after the last field, with `inside` counted in the body and `at` 0; the first counts. Under
-/// an id that has no row of the edition, every body is opaque.
+/// Reads the body of a message with this id, of any length. The refusals are Truncated at a field that passes the end,
+/// Trailing at the first octet after the last field, and BadCount at the count of a request to send packets again that is not
+/// that of its numbers, with `inside` counted in the body and `at` 0; the first counts. Under an id that has no row of the
+/// edition, every body is opaque.
 pub fn read_body(
     alloc: Global,
     edition: Edition,
@@ -153,6 +158,9 @@ fn write_row(alloc: Global, edition: Edition, message: &Message) -> Result<Octet
         }
         Message::Heartbeat | Message::Deregister | Message::QueryParams | Message::QueryPosition =>
             Ok(Octets::new(alloc)),
+        Message::TerminalResend(resend) | Message::Resend(resend) => write_resend(
+            alloc, edition, resend,
+        ),
         Message::Register(register) => write_register(alloc, edition, register),
         Message::RegisterReply(reply) => write_register_reply(alloc, reply),
         Message::Auth(auth) => write_auth(alloc, edition, auth),
@@ -163,7 +171,7 @@ fn write_row(alloc: Global, edition: Edition, message: &Message) -> Result<Octet
         Message::PositionReply { reply, position } => write_position_reply(alloc, *reply, position),
         Message::Track { interval, validity } => write_track(alloc, *interval, *validity),
         Message::Batch(batch) => write_batch(alloc, batch),
-        Message::Text { flag, text, .. } => write_octet_and_text(alloc, *flag, text),
+        Message::Text { flag, kind, text } => write_text(alloc, edition, *flag, *kind, text),
         Message::Control { command, text } => write_octet_and_text(alloc, *command, text),
         Message::Circles { setting, list } => write_circles(alloc, *setting, list),
         Message::Rectangles { setting, list } => write_rectangles(alloc, *setting, list),

@@ -8,6 +8,7 @@ ghost use Rattle.jt_codec.specs.declared.message.Message.TheVariants as message;
 use crate::regions::{
     circles_fit, deletion_fits, deletion_id, polygon_fits, rectangles_fit, route_fits,
 };
+use crate::resend::Resend;
 use jt_layout::octets_fit;
 use jt_params::{Param, params_fit, params_reply_fits, query_some_fits};
 use jt_position::{Batch, Position};
@@ -23,6 +24,10 @@ pub(crate) const PLATFORM_ACK: u16 = 0x8001;
 pub(crate) const HEARTBEAT: u16 = 0x0002;
 
 pub(crate) const DEREGISTER: u16 = 0x0003;
+
+pub(crate) const TERMINAL_RESEND: u16 = 0x0005;
+
+pub(crate) const RESEND: u16 = 0x8003;
 
 pub(crate) const REGISTER: u16 = 0x0100;
 
@@ -88,11 +93,15 @@ pub enum Message {
     Heartbeat,
     /// The terminal asks to be registered no longer. No fields.
     Deregister,
-    /// The terminal asks to be registered. So far in 2013 alone.
+    /// The terminal asks the platform for packets again. 2019 alone.
+    TerminalResend(Resend),
+    /// The platform asks the terminal for packets again.
+    Resend(Resend),
+    /// The terminal asks to be registered.
     Register(Register),
     /// The platform's answer to a registration.
     RegisterReply(RegisterReply),
-    /// The terminal authenticates itself. So far in 2013 alone.
+    /// The terminal authenticates itself.
     Auth(Auth),
     /// The platform sets parameters, at most 255.
     SetParams(Seq<Param>),
@@ -123,7 +132,7 @@ pub enum Message {
     /// The terminal reports positions together.
     Batch(Batch),
     /// The platform shows or reads out a text, whose octets are not converted. The flag has a bit for each way. The kind is
-    /// None in 2013. So far in 2013 alone.
+    /// None in 2013 and Some in 2019. Every octet is accepted as a kind.
     Text {
         flag: u8,
         kind: Option<u8>,
@@ -173,6 +182,8 @@ impl Message {
             Message::PlatformAck { .. } => Some(PLATFORM_ACK),
             Message::Heartbeat => Some(HEARTBEAT),
             Message::Deregister => Some(DEREGISTER),
+            Message::TerminalResend(_) => Some(TERMINAL_RESEND),
+            Message::Resend(_) => Some(RESEND),
             Message::Register(_) => Some(REGISTER),
             Message::RegisterReply(_) => Some(REGISTER_REPLY),
             Message::Auth(_) => Some(AUTH),
@@ -214,9 +225,11 @@ impl Message {
             | Message::Deregister
             | Message::QueryParams
             | Message::QueryPosition => true,
-            Message::Register(register) => register_fits(edition, register),
+            Message::TerminalResend(resend) => terminal_resend_fits(edition, resend),
+            Message::Resend(resend) => resend.fits(edition),
+            Message::Register(register) => register.fits(edition),
             Message::RegisterReply(reply) => reply.fits(),
-            Message::Auth(auth) => auth_fits(edition, auth),
+            Message::Auth(auth) => auth.fits(edition),
             Message::SetParams(params) => params_fit(params),
             Message::QuerySome(ids) => query_some_fits(ids),
             Message::Params { reply, params } => params_reply_fits(*reply, params),
@@ -240,25 +253,14 @@ impl Message {
     }
 }
 
-// Whether the edition has a row for the registration, and octets for it.
+// Whether the edition has a row for the terminal's request, and octets for it.
 #[tactic(auto, unfolding(crate::specs::Bodies::body))]
-fn register_fits(edition: Edition, register: &Register) -> bool
-    ensures { IsTrue result ↔ Fits edition (message.Register register.now) }
+fn terminal_resend_fits(edition: Edition, resend: &Resend) -> bool
+    ensures { IsTrue result ↔ Fits edition (message.TerminalResend resend.now) }
 {
     match edition {
-        Edition::E2013 => register.fits(edition),
-        Edition::E2019 => false,
-    }
-}
-
-// Whether the edition has a row for the authentication, and octets for it.
-#[tactic(auto, unfolding(crate::specs::Bodies::body))]
-fn auth_fits(edition: Edition, auth: &Auth) -> bool
-    ensures { IsTrue result ↔ Fits edition (message.Auth auth.now) }
-{
-    match edition {
-        Edition::E2013 => auth.fits(edition),
-        Edition::E2019 => false,
+        Edition::E2013 => false,
+        Edition::E2019 => resend.fits(edition),
     }
 }
 
@@ -271,12 +273,16 @@ fn track_fits(interval: u16, validity: Option<u32>) -> bool
 }
 
 // Whether the edition has a row for the text, and octets for it.
-#[tactic(auto, unfolding(crate::specs::Bodies::body, crate::specs::Layouts::octet_and_text, jt_layout::specs::Layout::number, jt_layout::specs::Layout::rest))]
+#[tactic(auto, unfolding(crate::specs::Bodies::body, crate::specs::Layouts::octet_and_text, crate::specs::Layouts::flag_kind_and_text, jt_layout::specs::Layout::number, jt_layout::specs::Layout::rest))]
 fn text_fits(edition: Edition, flag: u8, kind: Option<u8>, text: &Octets) -> bool
     ensures { IsTrue result ↔ Fits edition (message.Text flag kind text.now) }
 {
     match (edition, kind) {
         (Edition::E2013, None) => octets_fit(text.as_slice(), text.len()),
+        (Edition::E2019, Some(kind)) => {
+            let _kind = kind;
+            octets_fit(text.as_slice(), text.len())
+        }
         _ => false,
     }
 }
@@ -298,7 +304,8 @@ pub(crate) fn is_opaque(edition: Edition, id: u16, octets: &[u8]) -> bool
         (_, TERMINAL_ACK | PLATFORM_ACK | HEARTBEAT | DEREGISTER | REGISTER_REPLY) => false,
         (_, SET_PARAMS | QUERY_PARAMS | QUERY_SOME | PARAMS | TRACK | CONTROL) => false,
         (_, POSITION | POSITION_REPLY | QUERY_POSITION | BATCH) => false,
-        (Edition::E2013, REGISTER | AUTH | TEXT) => false,
+        (_, RESEND | REGISTER | AUTH | TEXT) => false,
+        (Edition::E2019, TERMINAL_RESEND) => false,
         (_, DELETE_CIRCLES | DELETE_RECTANGLES | DELETE_POLYGONS | DELETE_ROUTES) => false,
         (Edition::E2013, CIRCLES | RECTANGLES | POLYGON | ROUTE) => false,
         _ => true,

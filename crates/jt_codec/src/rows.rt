@@ -1,19 +1,21 @@
 //! Rows of the body table. Each has a function of its own, since a function makes room for all that its branches may hold.
 
-ghost use Rattle.std.specs.Prelude.{◌≡◌, None};
+ghost use Rattle.std.specs.Prelude.{◌≡◌, None, Some};
 ghost use Rattle.jt_layout.specs.Answer.{Answers};
 ghost use Rattle.jt_layout.specs.Layout.{body_case};
 ghost use Rattle.jt_params.specs.Params.{params, params_reply, query_some};
 ghost use Rattle.jt_position.specs.Positions.{position, batch};
 ghost use Rattle.jt_region_bodies.specs.Regions.{circles, rectangles, polygon, route};
-ghost use Rattle.jt_register.specs.Registration.{register_2013, register_reply, auth_2013};
-ghost use Rattle.jt_codec.specs.Kinds.{register_of, register_reply_of, auth_of, set_params_of, query_some_of, params_of, position_of, position_reply_of, batch_of, track_of, text_of, control_of, circles_of, rectangles_of, polygon_of, route_of};
-ghost use Rattle.jt_codec.specs.Layouts.{position_reply, track, octet_and_text};
+ghost use Rattle.jt_register.specs.Registration.{register, register_reply, auth};
+ghost use Rattle.jt_codec.specs.Kinds.{terminal_resend_of, resend_of, register_of, register_reply_of, auth_of, set_params_of, query_some_of, params_of, position_of, position_reply_of, batch_of, track_of, text_of, kind_text_of, control_of, circles_of, rectangles_of, polygon_of, route_of};
+ghost use Rattle.jt_codec.specs.Layouts.{position_reply, track, octet_and_text, flag_kind_and_text};
+ghost use Rattle.jt_codec.specs.Resend.{resend};
 ghost use Rattle.jt_codec.specs.declared.message.Message.TheVariants as message;
 
 use crate::message::Message;
 use crate::position_reply::read_position_reply;
-use crate::text::read_octet_and_text;
+use crate::resend::read_resend;
+use crate::text::{read_flag_kind_and_text, read_octet_and_text};
 use crate::track::read_track;
 use jt_params::{read_params, read_params_reply, read_query_some};
 use jt_position::{read_batch, read_position};
@@ -24,10 +26,38 @@ use std::alloc::Global;
 
 #[inline(never)]
 #[tactic(auto, using(jt_layout::proofs::Answering::answers_case))]
-pub(crate) fn register_row(alloc: Global, octets: &[u8]) -> Result<Message, CodecError>
-    ensures { Answers (body_case register_2013 message.Register register_of) octets.now result }
+pub(crate) fn terminal_resend_row(
+    alloc: Global,
+    edition: Edition,
+    octets: &[u8],
+) -> Result<Message, CodecError>
+    ensures { Answers (body_case (resend edition) message.TerminalResend terminal_resend_of) octets.now result }
 {
-    Ok(Message::Register(read_register(alloc, Edition::E2013, octets)?))
+    Ok(Message::TerminalResend(read_resend(alloc, edition, octets)?))
+}
+
+#[inline(never)]
+#[tactic(auto, using(jt_layout::proofs::Answering::answers_case))]
+pub(crate) fn resend_row(
+    alloc: Global,
+    edition: Edition,
+    octets: &[u8],
+) -> Result<Message, CodecError>
+    ensures { Answers (body_case (resend edition) message.Resend resend_of) octets.now result }
+{
+    Ok(Message::Resend(read_resend(alloc, edition, octets)?))
+}
+
+#[inline(never)]
+#[tactic(auto, using(jt_layout::proofs::Answering::answers_case))]
+pub(crate) fn register_row(
+    alloc: Global,
+    edition: Edition,
+    octets: &[u8],
+) -> Result<Message, CodecError>
+    ensures { Answers (body_case (register edition) message.Register register_of) octets.now result }
+{
+    Ok(Message::Register(read_register(alloc, edition, octets)?))
 }
 
 #[inline(never)]
@@ -40,10 +70,14 @@ pub(crate) fn register_reply_row(alloc: Global, octets: &[u8]) -> Result<Message
 
 #[inline(never)]
 #[tactic(auto, using(jt_layout::proofs::Answering::answers_case))]
-pub(crate) fn auth_row(alloc: Global, octets: &[u8]) -> Result<Message, CodecError>
-    ensures { Answers (body_case auth_2013 message.Auth auth_of) octets.now result }
+pub(crate) fn auth_row(
+    alloc: Global,
+    edition: Edition,
+    octets: &[u8],
+) -> Result<Message, CodecError>
+    ensures { Answers (body_case (auth edition) message.Auth auth_of) octets.now result }
 {
-    Ok(Message::Auth(read_auth(alloc, Edition::E2013, octets)?))
+    Ok(Message::Auth(read_auth(alloc, edition, octets)?))
 }
 
 #[inline(never)]
@@ -112,6 +146,17 @@ pub(crate) fn text_row(alloc: Global, octets: &[u8]) -> Result<Message, CodecErr
 {
     let (flag, text) = read_octet_and_text(alloc, octets)?;
     let kind = None;
+    Ok(Message::Text { flag, kind, text })
+}
+
+// A text of 2019, which has a kind.
+#[inline(never)]
+#[tactic(auto, using(jt_layout::proofs::Answering::answers_case))]
+pub(crate) fn kind_text_row(alloc: Global, octets: &[u8]) -> Result<Message, CodecError>
+    ensures { Answers (body_case flag_kind_and_text (λ x. message.Text x.0 (Some x.1) x.2) kind_text_of) octets.now result }
+{
+    let (flag, kind, text) = read_flag_kind_and_text(alloc, octets)?;
+    let kind = Some(kind);
     Ok(Message::Text { flag, kind, text })
 }
 

@@ -20,19 +20,19 @@ last_cut c some =
     let n : (length c - 1) + 1 ≡ length c = omega arith in
     sym (take_all (length c) c (omega arith)) ∙ ap (λ (k : ℕ). take k c) (sym n) ∙ take_more c (length c - 1) 0 (omega arith)
 
--- attributes of 2013 are the sum of their bits
-pub bits_sum : (a len p b : ℕ) → a < 2 ^ 16 → a % 2 ^ 10 ≡ len → a / 2 ^ 10 % 2 ^ 3 ≡ 0 → a / 2 ^ 13 % 2 ≡ p → a / 2 ^ 14 % 2 ≡ 0 → a / 2 ^ 15 % 2 ≡ b
-    → len + p * 2 ^ 13 + 0 * 2 ^ 14 + b * 2 ^ 15 ≡ a
-bits_sum a len p b lt e10 e12 e13 e14 e15 = omega arith
+-- attributes are the sum of their bits
+pub bits_sum : (a len p e b : ℕ) → a < 2 ^ 16 → a % 2 ^ 10 ≡ len → a / 2 ^ 10 % 2 ^ 3 ≡ 0 → a / 2 ^ 13 % 2 ≡ p → a / 2 ^ 14 % 2 ≡ e → a / 2 ^ 15 % 2 ≡ b
+    → len + p * 2 ^ 13 + e * 2 ^ 14 + b * 2 ^ 15 ≡ a
+bits_sum a len p e b lt e10 e12 e13 e14 e15 = omega arith
 
 -- such a sum has these bits
-pub record Bits (a len p b : ℕ) : Type 0 where
+pub record Bits (a len p e b : ℕ) : Type 0 where
   pub fits : a < 2 ^ 16
   pub len_bits : a % 2 ^ 10 ≡ len
   pub plain : a / 2 ^ 10 % 2 ^ 3 ≡ 0
   pub bit13 : a / 2 ^ 13 % 2 ≡ p
-  pub bit14 : a / 2 ^ 14 % 2 ≡ 0
+  pub bit14 : a / 2 ^ 14 % 2 ≡ e
   pub bit15 : a / 2 ^ 15 % 2 ≡ b
 
-pub bits_of_sum : (len p b : ℕ) → len < 2 ^ 10 → p < 2 → b < 2 → Bits (len + p * 2 ^ 13 + 0 * 2 ^ 14 + b * 2 ^ 15) len p b
-bits_of_sum len p b short one other = record { fits = omega arith; len_bits = omega arith; plain = omega arith; bit13 = omega arith; bit14 = omega arith; bit15 = omega arith }
+pub bits_of_sum : (len p e b : ℕ) → len < 2 ^ 10 → p < 2 → e < 2 → b < 2 → Bits (len + p * 2 ^ 13 + e * 2 ^ 14 + b * 2 ^ 15) len p e b
+bits_of_sum len p e b short one two other = record { fits = omega arith; len_bits = omega arith; plain = omega arith; bit13 = omega arith; bit14 = omega arith; bit15 = omega arith }

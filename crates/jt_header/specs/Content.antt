@@ -67,11 +67,15 @@ abbrev pub IsPacket : Option Packet → Type 0
 IsPacket None = Unit {0}
 IsPacket (Some packet) = (0 < packet.number) × (packet.number ≤ packet.total) × (packet.total < 2 ^ 16)
 
--- a header of an edition that is read: so far of 2013
+-- an octet in 2019, and 0 in 2013, where the header has none
+abbrev pub IsVersion : Edition → ℕ → Type 0
+IsVersion E2013 version = version ≡ 0
+IsVersion E2019 version = version < 2 ^ 8
+
+-- numbers within their fields, a phone of the header's edition, and a packet number from 1 to the total
 pub record IsHeader (h : Header) : Type 0 where
-  pub edition : h.edition ≡ E2013
   pub id : h.id < 2 ^ 16
-  pub version : h.version ≡ 0
+  pub version : IsVersion h.edition h.version
   pub phone_edition : h.phone.edition ≡ h.edition
   pub phone : IsPhone h.phone
   pub serial : h.serial < 2 ^ 16

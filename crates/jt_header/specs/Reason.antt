@@ -7,7 +7,7 @@ use Rattle.jt_value.specs.declared.refusal.Why.{Why}
 use Rattle.jt_value.specs.declared.refusal.Why.TheVariants as why
 use Rattle.jt_value.specs.declared.refusal.Refusal.{Refusal}
 use Rattle.jt_escape.specs.Frame.{check_of}
-use Rattle.jt_header.specs.Fields.{attributes_at, bit_at, encryption_bits, length_bits, edition_in, header_len_in, body_len_at, phone_place, phone_at, packet_place, packet_at, header_at, body_at}
+use Rattle.jt_header.specs.Fields.{attributes_at, encryption_bits, length_bits, edition_in, header_len_in, body_len_at, phone_place, phone_at, packet_place, packet_at, header_at, body_at}
 use Rattle.jt_header.specs.declared.header.Packet.{Packet}
 use Rattle.jt_header.specs.declared.header.Header.{Header}
 
@@ -31,10 +31,6 @@ check_mismatch content =
     let computed = check_of (take last content) in
     let found = slice_index content last in
     when (not (computed == found)) (refusal last (why.CheckMismatch computed found))
-
--- bit 14 is set; no row once both editions are read
-unfoldable pub other_edition : ℕ → Option Refusal
-other_edition attributes = when (bit_at 14 attributes == 1) (refusal 2 why.OtherEdition)
 
 unfoldable pub encrypted : ℕ → Option Refusal
 encrypted attributes = when (not (encryption_bits attributes == 0)) (refusal 2 why.Encrypted)
@@ -68,7 +64,6 @@ reason content =
     first_of (
     too_short content
     ∷ check_mismatch content
-    ∷ other_edition attributes
     ∷ encrypted attributes
     ∷ length_mismatch attributes (body_len_at content)
     ∷ phone_digit edition (phone_at edition content)

@@ -29,8 +29,12 @@ impl Attributes {
         ensures { result.0 ≡ attributes header.now body_len }
     {
         let packet = if header.packet.is_some() { PACKET } else { 0 };
+        let edition = match header.edition {
+            Edition::E2013 => 0,
+            Edition::E2019 => EDITION,
+        };
         let bit15 = if header.bit15 { BIT15 } else { 0 };
-        Attributes(body_len + packet + bit15)
+        Attributes(body_len + packet + edition + bit15)
     }
 
     /// The body's length in octets.

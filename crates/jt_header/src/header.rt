@@ -14,13 +14,13 @@ pub struct Packet {
 /// What stands before the body in a content (the standard's header).
 #[derive(Clone, Copy, Debug, PartialEq, Eq)]
 pub struct Header {
-    /// The edition by whose layout the header is written. So far only headers of 2013 are read and written.
+    /// The edition by whose layout the header is written.
     pub edition: Edition,
     /// The message id.
     pub id: u16,
     /// Attribute bit 15, which has no meaning: it is carried and written back (this project's own rule).
     pub bit15: bool,
-    /// The protocol version, 0 in 2013, where the header has none.
+    /// The protocol version of 2019, an octet. It is 0 in 2013, where the header has none.
     pub version: u8,
     /// The phone, of the header's edition.
     pub phone: Phone,

@@ -1,11 +1,11 @@
 //! Reading the header of a content, or the first reason against it.
 
 ghost use Rattle.std.specs.Prelude.{◌≡◌, ◌+◌, ◌<◌, ◌≤◌, ◌^◌, ℕ, List, [], ◌∷◌, length, IfOk, IfErr, MatchResult, IsOkAnd, None, Some};
-ghost use Rattle.jt_value.specs.Phone.{digits_of};
+ghost use Rattle.jt_value.specs.Phone.{digits_of, field_len};
 ghost use Rattle.jt_header.specs.Content.{Content};
-ghost use Rattle.jt_header.specs.Fields.{attributes_at, edition_in, header_len_in, packet_at, word_at};
+ghost use Rattle.jt_header.specs.Fields.{attributes_at, edition_in, header_len_in, packet_at, packet_place, phone_place, serial_place, version_at, word_at};
 ghost use Rattle.jt_header.specs.Law.{IsContentOfItsFields, IsLengthOfContent, IsNeverBoth, IsOneContent, IsOneOrTheOther, IsOneReason, IsReadBack};
-ghost use Rattle.jt_header.specs.Reason.{Reads, Rejects, bad_packet_number, check_mismatch, encrypted, first_of, length_mismatch, other_edition, phone_digit, reason, too_short};
+ghost use Rattle.jt_header.specs.Reason.{Reads, Rejects, bad_packet_number, check_mismatch, encrypted, first_of, length_mismatch, phone_digit, reason, too_short};
 ghost use Rattle.jt_header.specs.declared.header.Header.{Header};
 
 use crate::attributes::Attributes;
@@ -13,16 +13,54 @@ use crate::header::{Header, Packet};
 use jt_escape::check;
 use jt_value::{Edition, Phone, Refusal, Why};
 
-// Where the fields of a header of 2013 stand.
+// Where the first fields of a header stand.
 const ID: usize = 0;
 
 const ATTRIBUTES: usize = 2;
 
-const PHONE: usize = 4;
+const VERSION: usize = 4;
 
-const SERIAL: usize = 10;
+// Where the other fields stand in an edition.
+#[derive(Clone, Copy)]
+struct Places {
+    phone: usize,
+    serial: usize,
+    packet: usize,
+}
 
-const PACKET: usize = 12;
+const PLACES_2013: Places = Places {
+    phone: 4,
+    serial: 10,
+    packet: 12,
+};
+
+const PLACES_2019: Places = Places {
+    phone: 5,
+    serial: 15,
+    packet: 17,
+};
+
+#[inline(always)]
+fn places_of(edition: Edition) -> Places
+    ensures { result ≡ record { phone = phone_place edition; serial = serial_place edition; packet = packet_place edition } }
+{
+    match edition {
+        Edition::E2013 => PLACES_2013,
+        Edition::E2019 => PLACES_2019,
+    }
+}
+
+// The protocol version, which a header of 2013 has not.
+#[inline(always)]
+fn version(edition: Edition, content: &[u8]) -> u8
+    requires { 5 ≤ length content.now }
+    ensures { result ≡ version_at edition content.now }
+{
+    match edition {
+        Edition::E2013 => 0,
+        Edition::E2019 => content[VERSION],
+    }
+}
 
 fn refusal(inside: usize, why: Why) -> Refusal
     requires { inside < 2 ^ 63 }
@@ -79,17 +117,12 @@ fn check_octet(content: &[u8]) -> Result<(), Refusal>
     Ok(())
 }
 
-// Whether the attributes are those of a message that is read, with a body of this length.
+// Whether the attributes are those of a plain message with a body of this length.
 #[inline(always)]
-#[tactic(auto, unfolding(crate::specs::Reason::other_edition, crate::specs::Reason::encrypted, crate::specs::Reason::length_mismatch))]
+#[tactic(auto, unfolding(crate::specs::Reason::encrypted, crate::specs::Reason::length_mismatch))]
 fn attributes_hold(attributes: Attributes, actual: u16) -> Result<(), Refusal>
-    ensures rows { Rejects result (first_of
-        (other_edition attributes.0 ∷ encrypted attributes.0 ∷ length_mismatch attributes.0 actual ∷ [])) }
-    ensures edition { IfOk result (λ _. edition_in attributes.0 ≡ Edition.E2013) }
+    ensures { Rejects result (first_of (encrypted attributes.0 ∷ length_mismatch attributes.0 actual ∷ [])) }
 {
-    if attributes.edition() == Edition::E2019 {
-        return Err(refusal(ATTRIBUTES, Why::OtherEdition));
-    }
     if attributes.is_encrypted() {
         return Err(refusal(ATTRIBUTES, Why::Encrypted));
     }
@@ -102,32 +135,33 @@ fn attributes_hold(attributes: Attributes, actual: u16) -> Result<(), Refusal>
 
 #[inline(always)]
 #[tactic(auto, unfolding(crate::specs::Reason::phone_digit))]
-fn phone(field: &[u8]) -> Result<Phone, Refusal>
-    requires { length field.now ≡ 6 }
-    ensures row { Rejects result (phone_digit Edition.E2013 field.now) }
-    ensures value { IfOk result (λ phone. phone
-        ≡ record { edition = Edition.E2013; digits = digits_of Edition.E2013 field.now }) }
+fn phone(edition: Edition, field: &[u8]) -> Result<Phone, Refusal>
+    requires { length field.now ≡ field_len edition }
+    ensures row { Rejects result (phone_digit edition field.now) }
+    ensures value { IfOk result (λ phone. phone ≡ record { edition = edition; digits = digits_of edition field.now }) }
 {
-    let at_digit = |offset| refusal(PHONE + offset as usize, Why::PhoneDigit);
-    Phone::from_octets(Edition::E2013, field).map_err(at_digit)
+    let start = places_of(edition).phone;
+    let at_digit = |offset| refusal(start + offset as usize, Why::PhoneDigit);
+    Phone::from_octets(edition, field).map_err(at_digit)
 }
 
 #[inline(always)]
 #[tactic(auto, unfolding(crate::specs::Reason::bad_packet_number, crate::specs::Fields::packet_at))]
-fn packet(content: &[u8], attributes: Attributes) -> Result<Option<Packet>, Refusal>
+fn packet(edition: Edition, content: &[u8], attributes: Attributes) -> Result<Option<Packet>, Refusal>
     requires attributes { attributes.0 ≡ attributes_at content.now }
-    requires edition { edition_in attributes.0 ≡ Edition.E2013 }
+    requires edition { edition ≡ edition_in attributes.0 }
     requires room { header_len_in attributes.0 < length content.now }
-    ensures row { Rejects result (bad_packet_number Edition.E2013 (packet_at Edition.E2013 content.now)) }
-    ensures value { IfOk result (λ packet. packet ≡ packet_at Edition.E2013 content.now) }
+    ensures row { Rejects result (bad_packet_number edition (packet_at edition content.now)) }
+    ensures value { IfOk result (λ packet. packet ≡ packet_at edition content.now) }
 {
     if !attributes.has_packet() {
         return Ok(None);
     }
-    let total = word(content, PACKET);
-    let number = word(content, PACKET + 2);
+    let start = places_of(edition).packet;
+    let total = word(content, start);
+    let number = word(content, start + 2);
     if total == 0 || number == 0 || number > total {
-        return Err(refusal(PACKET, Why::BadPacketNumber));
+        return Err(refusal(start, Why::BadPacketNumber));
     }
     Ok(Some(Packet { total, number }))
 }
@@ -145,24 +179,26 @@ fn read(content: &[u8]) -> Result<(Header, &[u8]), Refusal>
     let start = attributes.header_len();
     let end = content.len() - 1;
     attributes_hold(attributes, (end - start) as u16)?;
-    let phone = phone(&content[PHONE..SERIAL])?;
-    let packet = packet(content, attributes)?;
+    let edition = attributes.edition();
+    let places = places_of(edition);
+    let phone = phone(edition, &content[places.phone..places.serial])?;
+    let packet = packet(edition, content, attributes)?;
     let header = Header {
-        edition: Edition::E2013,
+        edition,
         id: word(content, ID),
         bit15: attributes.bit15(),
-        version: 0,
+        version: version(edition, content),
         phone,
-        serial: word(content, SERIAL),
+        serial: word(content, places.serial),
         packet,
     };
     Ok((header, &content[start..end]))
 }
 
 /// The header and the body of a content of at most 1,045 octets (the standard's framing and header), or why the octets are
-/// none. The reasons, of which the first counts, are this project's own: TooShort, CheckMismatch, OtherEdition where
-/// attribute bit 14 is set, Encrypted, LengthMismatch, PhoneDigit, BadPacketNumber. `inside` is the offset in the content,
-/// and `at` is 0.
+/// none. The edition is that of attribute bit 14. The reasons, of which the first counts, are this project's own: TooShort,
+/// CheckMismatch, Encrypted, LengthMismatch, PhoneDigit, BadPacketNumber. `inside` is the offset in the content, and `at` is
+/// 0.
 #[inline(always)]
 pub fn read_header(content: &[u8]) -> Result<(Header, &[u8]), Refusal>
     requires { length content.now ≤ 1045 }

@@ -6,9 +6,10 @@ ghost use Rattle.jt_header.specs.Content.{IsHeader, header_len, header_octets};
 use crate::attributes::Attributes;
 use crate::header::Header;
 use arrayvec::ArrayVec;
+use jt_value::Edition;
 
 /// Writes the header before a body of `body_len` octets, at most 1,023, into an empty `out` (the standard's header). The
-/// header is one that is read: of 2013, with a phone of that edition, and a packet number from 1 to the total.
+/// header is of either edition, with a phone of that edition, version 0 in 2013, and a packet number from 1 to the total.
 pub fn write_header(header: &Header, body_len: u16, out: &mut ArrayVec<u8, 1045>)
     requires header { IsHeader header.now }
     requires body_len { body_len < 2 ^ 10 }
@@ -19,6 +20,9 @@ pub fn write_header(header: &Header, body_len: u16, out: &mut ArrayVec<u8, 1045>
 {
     put(out, &header.id.to_be_bytes());
     put(out, &Attributes::new(header, body_len).0.to_be_bytes());
+    if header.edition == Edition::E2019 {
+        put(out, &[header.version]);
+    }
     put(out, header.phone.octets().as_slice());
     put(out, &header.serial.to_be_bytes());
     if let Some(packet) = header.packet {

@@ -1,6 +1,7 @@
 -- Circles, rectangles, polygons and routes, and their deletion, as the standard's message bodies of 2013 have them. To be believed.
-use Rattle.std.specs.Prelude.{ℕ, ◌/◌, ◌%◌, ◌^◌, ◌==◌, Bool, List, Option}
-use Rattle.jt_layout.specs.Layout.{Part, Body, byte, word, dword, octets_of, ◌▹◌, ended, part_as, body_as, only_if, counted}
+use Rattle.std.specs.Prelude.{◌≡◌, ℕ, ◌/◌, ◌%◌, ◌^◌, ◌==◌, Bool, List, ◌++◌, length, take, drop, Option}
+use Rattle.jt_value.specs.Octets.{AreOctets}
+use Rattle.jt_layout.specs.Layout.{Part, Body, byte, word, dword, octets_of, ◌▹◌, ended, part_as, part_typed, body_as, only_if, counted}
 use Rattle.jt_region_bodies.specs.declared.limit.Limit.{Limit}
 use Rattle.jt_region_bodies.specs.declared.circle.Circle.{Circle}
 use Rattle.jt_region_bodies.specs.declared.rectangle.Rectangle.{Rectangle}
@@ -26,9 +27,12 @@ has_limit attribute = bit 1 attribute
 abbrev pub has_thresholds : ℕ → Bool
 has_thresholds attribute = bit 0 attribute
 
--- start BCD[6] and end BCD[6]
+-- start BCD[6] and end BCD[6], twelve octets together
+unfoldable pub period : Part (List ℕ)
+period = part_typed (octets_of 6 ▹ λ _. octets_of 6) (λ x. x.0 ++ x.1) (λ times. (take 6 times, drop 6 times)) (λ times. (length times ≡ 12) × AreOctets times)
+
 abbrev pub times_of : ℕ → Part (Option (List ℕ))
-times_of attribute = only_if (has_times attribute) (octets_of 12)
+times_of attribute = only_if (has_times attribute) period
 
 -- top speed W in km/h and duration B in seconds
 unfoldable pub limit : Part Limit

@@ -3,7 +3,7 @@
 ghost use Rattle.std.specs.Prelude.{◌≡◌, ◌≤◌, ◌↔◌, ◌++◌, IsTrue, OnOk};
 ghost use Rattle.std.specs.Io.{StartsWith};
 ghost use Rattle.jt_layout.specs.Reading.{Finds};
-ghost use Rattle.jt_region_bodies.specs.Regions.{bit, times_of, limit_of, thresholds_of};
+ghost use Rattle.jt_region_bodies.specs.Regions.{bit, period, times_of, limit_of, thresholds_of};
 
 use crate::limit::Limit;
 use jt_layout::{Reader, Writer, octets_fit};
@@ -21,6 +21,24 @@ fn bit_1(attribute: u16) -> bool
     bit_0(attribute >> 1)
 }
 
+// How many octets a time has.
+const TIME: usize = 6;
+
+// Start and end.
+#[tactic(auto, unfolding(crate::specs::Regions::period))]
+fn read_period(reader: &mut Reader<'_>) -> Result<[u8; 2 * TIME], Refusal>
+    ensures value { Finds (λ times. (times, reader.new.place)) result (period.read reader.old.octets reader.old.place) }
+    ensures octets { reader.new.octets ≡ reader.old.octets }
+    ensures onward { OnOk result (reader.old.place ≤ reader.new.place) }
+{
+    let start = reader.slice(TIME)?;
+    let end = reader.slice(TIME)?;
+    let mut times = [0; 2 * TIME];
+    times[..TIME].copy_from_slice(start);
+    times[TIME..].copy_from_slice(end);
+    Ok(times)
+}
+
 // The times, if there are any.
 #[tactic(auto, unfolding(jt_layout::specs::Layout::only_if))]
 pub fn read_times(reader: &mut Reader<'_>, attribute: u16) -> Result<Option<[u8; 12]>, Refusal>
@@ -31,12 +49,11 @@ pub fn read_times(reader: &mut Reader<'_>, attribute: u16) -> Result<Option<[u8;
     if !bit_0(attribute) {
         return Ok(None);
     }
-    let mut times = [0; 12];
-    times.copy_from_slice(reader.slice(12)?);
+    let times = read_period(reader)?;
     Ok(Some(times))
 }
 
-#[tactic(auto, unfolding(jt_layout::specs::Layout::only_if, jt_layout::specs::Layout::octets_of))]
+#[tactic(auto, using(crate::proofs::RegionLaws::spell_period), unfolding(jt_layout::specs::Layout::only_if))]
 pub fn write_times(
     writer: &mut Writer,
     attribute: u16,
@@ -53,7 +70,7 @@ pub fn write_times(
     }
 }
 
-#[tactic(auto, unfolding(jt_layout::specs::Layout::only_if, jt_layout::specs::Layout::octets_of))]
+#[tactic(auto, unfolding(jt_layout::specs::Layout::only_if, crate::specs::Regions::period))]
 pub fn times_fit(attribute: u16, times: &Option<[u8; 12]>) -> bool
     ensures { IsTrue result ↔ (times_of attribute).Fits times.now }
 {

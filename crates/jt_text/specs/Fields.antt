@@ -9,6 +9,7 @@ use Rattle.jt_text.specs.ParamFields.{params_fields, query_some_fields}
 use Rattle.jt_text.specs.PositionFields.{position_fields, batch_fields}
 use Rattle.jt_text.specs.RegionFields.{circles_fields, rectangles_fields, polygon_fields, route_fields, deletion_fields}
 use Rattle.jt_text.specs.RegistrationFields.{register_fields, register_reply_fields, auth_fields}
+use Rattle.jt_text.specs.ResendFields.{resend_fields}
 
 -- what is answered, and the result
 unfoldable pub ack_fields : ℕ → ℕ → ℕ → List ℕ
@@ -19,6 +20,8 @@ fields_of (message.TerminalAck reply id result) = ack_fields reply id result
 fields_of (message.PlatformAck reply id result) = ack_fields reply id result
 fields_of message.Heartbeat = []
 fields_of message.Deregister = []
+fields_of (message.TerminalResend resend) = resend_fields resend
+fields_of (message.Resend resend) = resend_fields resend
 fields_of (message.Register register) = register_fields register
 fields_of (message.RegisterReply reply) = register_reply_fields reply
 fields_of (message.Auth auth) = auth_fields auth

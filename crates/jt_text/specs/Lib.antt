@@ -7,5 +7,6 @@ pub mod PositionFields
 pub mod Refusals
 pub mod RegionFields
 pub mod RegistrationFields
+pub mod ResendFields
 pub mod Times
 pub mod Values

@@ -3,7 +3,7 @@ use Rattle.std.specs.Prelude.{ℕ, List, [], ◌++◌, codes}
 use Rattle.std.specs.Fmt.{decimal}
 use Rattle.jt_value.specs.declared.refusal.Refusal.{Refusal}
 use Rattle.jt_value.specs.declared.refusal.Why.{Why}
-use Rattle.jt_value.specs.declared.refusal.Why.TheVariants.{Stray, EmptyFrame, TooLong, BadEscape, TooShort, CheckMismatch, OtherEdition, Encrypted, LengthMismatch, PhoneDigit, BadPacketNumber, Truncated, Trailing, BadCount}
+use Rattle.jt_value.specs.declared.refusal.Why.TheVariants.{Stray, EmptyFrame, TooLong, BadEscape, TooShort, CheckMismatch, Encrypted, LengthMismatch, PhoneDigit, BadPacketNumber, Truncated, Trailing, BadCount}
 use Rattle.jt_text.specs.Values.{byte_digits}
 
 -- a reason's name
@@ -14,7 +14,6 @@ why_name TooLong = codes "TooLong"
 why_name BadEscape = codes "BadEscape"
 why_name TooShort = codes "TooShort"
 why_name (CheckMismatch computed found) = codes "CheckMismatch"
-why_name OtherEdition = codes "OtherEdition"
 why_name Encrypted = codes "Encrypted"
 why_name (LengthMismatch declared actual) = codes "LengthMismatch"
 why_name PhoneDigit = codes "PhoneDigit"
@@ -32,7 +31,6 @@ why_values EmptyFrame = []
 why_values TooLong = []
 why_values BadEscape = []
 why_values TooShort = []
-why_values OtherEdition = []
 why_values Encrypted = []
 why_values PhoneDigit = []
 why_values BadPacketNumber = []

@@ -15,39 +15,41 @@ use jt_header::{Header, Packet};
 use jt_value::{Edition, Memory, Octets, Phone};
 use std::alloc::{AllocError, Global};
 
-// The name of a message id of 2013.
+// The name of a message id in an edition.
 #[tactic(auto, unfolding(crate::specs::Names::id_name))]
-pub(crate) fn id_name(id: u16) -> &'static str
-    ensures name { result.now ≡ id_name id }
+pub(crate) fn id_name(edition: Edition, id: u16) -> &'static str
+    ensures name { result.now ≡ id_name edition id }
     ensures short { length result.now ≤ 17 }
 {
-    match id {
-        0x0001 => "terminal-ack",
-        0x8001 => "platform-ack",
-        0x0002 => "heartbeat",
-        0x0003 => "deregister",
-        0x0100 => "register",
-        0x8100 => "register-reply",
-        0x0102 => "auth",
-        0x8103 => "set-params",
-        0x8104 => "query-params",
-        0x8106 => "query-some",
-        0x0104 => "params",
-        0x0200 => "position",
-        0x0201 => "position-reply",
-        0x8201 => "query-position",
-        0x8202 => "track",
-        0x0704 => "batch",
-        0x8300 => "text",
-        0x8105 => "control",
-        0x8600 => "circles",
-        0x8601 => "delete-circles",
-        0x8602 => "rectangles",
-        0x8603 => "delete-rectangles",
-        0x8604 => "polygon",
-        0x8605 => "delete-polygons",
-        0x8606 => "route",
-        0x8607 => "delete-routes",
+    match (edition, id) {
+        (_, 0x0001) => "terminal-ack",
+        (_, 0x8001) => "platform-ack",
+        (_, 0x0002) => "heartbeat",
+        (_, 0x0003) => "deregister",
+        (_, 0x8003) => "resend",
+        (_, 0x0100) => "register",
+        (_, 0x8100) => "register-reply",
+        (_, 0x0102) => "auth",
+        (_, 0x8103) => "set-params",
+        (_, 0x8104) => "query-params",
+        (_, 0x8106) => "query-some",
+        (_, 0x0104) => "params",
+        (_, 0x0200) => "position",
+        (_, 0x0201) => "position-reply",
+        (_, 0x8201) => "query-position",
+        (_, 0x8202) => "track",
+        (_, 0x0704) => "batch",
+        (_, 0x8300) => "text",
+        (_, 0x8105) => "control",
+        (_, 0x8601) => "delete-circles",
+        (_, 0x8603) => "delete-rectangles",
+        (_, 0x8605) => "delete-polygons",
+        (_, 0x8607) => "delete-routes",
+        (Edition::E2019, 0x0005) => "terminal-resend",
+        (Edition::E2013, 0x8600) => "circles",
+        (Edition::E2013, 0x8602) => "rectangles",
+        (Edition::E2013, 0x8604) => "polygon",
+        (Edition::E2013, 0x8606) => "route",
         _ => "opaque",
     }
 }
@@ -68,7 +70,7 @@ fn name(header: &Header, message: &Message) -> &'static str
     ensures short { length result.now ≤ 17 }
 {
     match naming_id(header, message) {
-        Some(id) => id_name(id),
+        Some(id) => id_name(header.edition, id),
         None => "opaque",
     }
 }

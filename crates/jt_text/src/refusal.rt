@@ -19,7 +19,6 @@ fn why_name(why: Why) -> &'static str
         Why::BadEscape => "BadEscape",
         Why::TooShort => "TooShort",
         Why::CheckMismatch { .. } => "CheckMismatch",
-        Why::OtherEdition => "OtherEdition",
         Why::Encrypted => "Encrypted",
         Why::LengthMismatch { .. } => "LengthMismatch",
         Why::PhoneDigit => "PhoneDigit",

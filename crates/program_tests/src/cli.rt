@@ -117,8 +117,8 @@ fn views(rt: HostRuntime) {
         ),
         (
             b"\x7e\x00\x02\x40\x00\x01\x00\x00\x00\x00\x01\x39\x12\x34\x56\x78\x00\x00\x73\x7e",
-            Status::Refused,
-            "0+2 refused OtherEdition\nframes=0 refused=1\n",
+            Status::Done,
+            "0 2019 0x0002 heartbeat phone=00000000013912345678 serial=0 version=1 body=0\nframes=1 refused=0\n",
         ),
         (
             b"\x7e\x00\x02\x00\x01\x01\x39\x12\x34\x56\x78\x00\x00\x33\x7e",

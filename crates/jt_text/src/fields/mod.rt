@@ -5,6 +5,7 @@ mod params;
 mod position;
 mod regions;
 mod registration;
+mod resend;
 
 ghost use Rattle.std.specs.Prelude.{◌≡◌, ◌+◌, ◌≤◌, ◌++◌, length, string_bytes, OnOk};
 ghost use Rattle.std.specs.Io.{StartsWith};
@@ -22,6 +23,7 @@ pub(crate) use position::{push_item_views, push_position_views, put_fixed};
 use position::{push_batch, push_position};
 use regions::{push_circles, push_deletion, push_polygon, push_rectangles, push_route};
 use registration::{push_auth, push_register, push_register_reply};
+use resend::push_resend;
 use std::alloc::AllocError;
 
 /// The fields of a general response, in front of a line.
@@ -96,6 +98,7 @@ pub(crate) fn push_fields(
         }
         Message::Heartbeat | Message::Deregister | Message::QueryParams | Message::QueryPosition =>
             Ok(()),
+        Message::TerminalResend(resend) | Message::Resend(resend) => push_resend(text, resend),
         Message::Register(register) => push_register(text, line, register),
         Message::RegisterReply(reply) => push_register_reply(text, line, reply),
         Message::Auth(auth) => push_auth(text, line, auth),
