@@ -2,8 +2,9 @@
 use Rattle.std.proofs.Common.{◌≡◌, ℕ, List, Option, Some, None, refl, sym, ap, subst, ◌∙◌}
 use Rattle.std.specs.Prelude.{IsSomeAnd}
 use Rattle.jt_store.specs.declared.row.Registered.{Registered}
+use Rattle.jt_store.specs.Memory.{owner_of}
 use Rattle.jt_store.specs.Registry.{Indexes, IsRegistry}
-use Rattle.jt_store.specs.Tables.{HasName, AreNamedOnce, plates, terminals}
+use Rattle.jt_store.specs.Tables.{HasName, IsHolder, IsOwner, AreNamedOnce, plates, terminals}
 
 -- the index has the phone of each name
 pub indexed : (name_of : Registered → List ℕ) (registered : List ℕ → Option Registered) (phone_of : List ℕ → Option (List ℕ)) (key name : List ℕ)
@@ -27,3 +28,8 @@ named_once registered of_plate of_terminal is = record {
   terminal = λ key other name has also. once terminals registered of_terminal key other name is.terminal has also;
   trimmed = is.trimmed;
 }
+
+-- the phone of 2019 with the digits of the holder
+pub owner_is : (name_of : Registered → List ℕ) (registered : List ℕ → Option Registered) (name : List ℕ) (key : Option (List ℕ)) → IsHolder name_of registered name key → IsOwner name_of registered name (owner_of key)
+owner_is name_of registered name None h = h
+owner_is name_of registered name (Some key) h = (refl, h)

@@ -1,10 +1,10 @@
 //! Maps by the digits of phones.
 
-ghost use Rattle.std.specs.Prelude.{◌≡◌, ℕ, List, [], IfOk, OnOk, OnErr, Some, None, option_copied, if◌then◌else◌};
+ghost use Rattle.std.specs.Prelude.{◌≡◌, ℕ, List, [], ◌∷◌, ◌++◌, IfOk, OnOk, OnErr, Some, None, option_copied, if◌then◌else◌};
 ghost use Rattle.jt_value.specs.Sameness.{same_key};
-ghost use Rattle.jt_store.specs.Memory.{under};
+ghost use Rattle.jt_store.specs.Memory.{list_under, under};
 
-use jt_value::Memory;
+use jt_value::{Memory, Seq};
 use std::alloc::Global;
 use std::collections::BTreeMap;
 use std::marker::Model;
@@ -61,5 +61,27 @@ impl<T> ByPhone<T> {
         ensures others { (q : List ℕ) → under self.new q ≡ (if same_key key.now q then None else under self.old q) }
     {
         self.values.remove(key)
+    }
+}
+
+impl<T> ByPhone<Seq<T>> {
+    /// Puts an item at the end of a phone's list.
+    pub fn push(&mut self, alloc: Global, key: Key, item: T) -> Result<(), Memory>
+    where
+        T: Drop,
+        ensures ok { OnOk result ((q : List ℕ) → list_under self.new q ≡ list_under self.old q ++ (if same_key key q then item ∷ [] else [])) }
+        ensures err { OnErr result ((q : List ℕ) → list_under self.new q ≡ list_under self.old q) }
+    {
+        match self.values.get_mut(&key) {
+            Some(list) => {
+                list.push(item)?;
+                return Ok(());
+            }
+            None => {}
+        }
+        let mut list = Seq::new(alloc);
+        list.push(item)?;
+        self.values.insert(key, list)?;
+        Ok(())
     }
 }

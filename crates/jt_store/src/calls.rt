@@ -1,7 +1,7 @@
 //! Which calls of a store in memory fail.
 
-ghost use Rattle.std.specs.Prelude.{◌≡◌, ◌↔◌, false, Contains, if◌then◌else◌};
-ghost use Rattle.jt_store.specs.Tables.{counted};
+ghost use Rattle.std.specs.Prelude.{◌≡◌, ◌≤◌, ◌↔◌, false, Contains, if◌then◌else◌};
+ghost use Rattle.jt_store.specs.Tables.{counted, Rose};
 
 use jt_value::Seq;
 
@@ -33,6 +33,8 @@ impl Calls {
     pub fn goes(&mut self) -> bool
         ensures count { (self.new.count ≡ counted self.old.count) × (self.new.failing ≡ self.old.failing) }
         ensures faults { self.new.faults ≡ (if result then self.old.faults else counted self.old.faults) }
+        ensures later { self.old.faults ≤ self.new.faults }
+        ensures rose { result ≡ false → Rose self.old.faults self.new.faults }
         ensures failed { (result ≡ false) ↔ Contains self.old.failing (counted self.old.count) }
     {
         self.count = self.count.saturating_add(1);

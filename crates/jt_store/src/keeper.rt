@@ -1,6 +1,6 @@
 //! What keeps a platform's registrations and rows.
 
-ghost use Rattle.std.specs.Prelude.{◌≡◌, ◌<◌, ◌≤◌, ◌^◌, ℕ, Bool, None, Some, Option, IfOk, IfSome};
+ghost use Rattle.std.specs.Prelude.{◌≡◌, ◌<◌, ◌≤◌, ◌^◌, ℕ, Bool, None, Some, Option, IfOk, IfSome, OnOk};
 ghost use Rattle.jt_value.specs.Sameness.{key_of};
 ghost use Rattle.jt_store.specs.Tables.{Tables, Told, IsTrimmed, MayRegister, MayAppend, AreRows, AreNamedOnce, last_of, Finds, FindsFrom, plates, terminals, IsOwner, row_added, registered_set, Reads, Writes, Appends, HasCause, IsSteady};
 
@@ -29,7 +29,7 @@ pub trait Keeper {
     /// What the phone is registered with. None exactly where it is not registered.
     fn registered(&mut self, alloc: Global, phone: &Phone) -> Result<Option<Registered>, StoreError>
         ensures answer { Reads (tables self.old) (tables self.new) (λ t found. found ≡ t.registered (key_of phone.now)) result }
-        ensures names { Told (tables self.old) (λ t. AreNamedOnce t.registered) }
+        ensures names { OnOk result (Told (tables self.old) (λ t. AreNamedOnce t.registered)) }
         ensures limit { limit self.new ≡ limit self.old }
         ensures cause { HasCause (faults self.old) (faults self.new) result }
         ensures steady { IsSteady (may_fail self.old) (may_fail self.new) result };
@@ -37,7 +37,7 @@ pub trait Keeper {
     /// The phone of 2019 with the digits of the one that is registered with this plate. None exactly where none is.
     fn plate_owner(&mut self, alloc: Global, plate: &[u8]) -> Result<Option<Phone>, StoreError>
         ensures answer { Reads (tables self.old) (tables self.new) (λ t found. IsOwner plates t.registered plate.now found) result }
-        ensures names { Told (tables self.old) (λ t. AreNamedOnce t.registered) }
+        ensures names { OnOk result (Told (tables self.old) (λ t. AreNamedOnce t.registered)) }
         ensures limit { limit self.new ≡ limit self.old }
         ensures cause { HasCause (faults self.old) (faults self.new) result }
         ensures steady { IsSteady (may_fail self.old) (may_fail self.new) result };
@@ -49,7 +49,7 @@ pub trait Keeper {
         terminal: &[u8],
     ) -> Result<Option<Phone>, StoreError>
         ensures answer { Reads (tables self.old) (tables self.new) (λ t found. IsOwner terminals t.registered terminal.now found) result }
-        ensures names { Told (tables self.old) (λ t. AreNamedOnce t.registered) }
+        ensures names { OnOk result (Told (tables self.old) (λ t. AreNamedOnce t.registered)) }
         ensures limit { limit self.new ≡ limit self.old }
         ensures cause { HasCause (faults self.old) (faults self.new) result }
         ensures steady { IsSteady (may_fail self.old) (may_fail self.new) result };

@@ -5,10 +5,17 @@ mod by_phone;
 mod calls;
 mod error;
 mod keeper;
+mod mem_keeper;
 mod names;
 mod registry;
 mod row;
+mod rows;
+mod unit;
+mod vault;
 
 pub use error::StoreError;
 pub use keeper::Keeper;
+pub use mem_keeper::MemKeeper;
 pub use row::{Registered, Row};
+pub use unit::{Loaded, Unit};
+pub use vault::Vault;
