@@ -1,2 +1,5 @@
 pub mod Octets
 pub mod Phone
+pub mod Room
+pub mod Sameness
+pub mod Serials

@@ -1,12 +1,18 @@
 //! Values that every layer names: editions and phones, refusals, want of memory, and lists.
 #![tactic(auto)]
 
+mod buffer;
 mod memory;
 mod phone;
+mod placing;
 mod refusal;
 mod seq;
+mod serials;
 
+pub use buffer::Buffer;
 pub use memory::Memory;
 pub use phone::{Edition, Phone};
+pub use placing::Place;
 pub use refusal::{CodecError, Refusal, Why};
 pub use seq::{Octets, Seq};
+pub use serials::{gap, law_serials, place};

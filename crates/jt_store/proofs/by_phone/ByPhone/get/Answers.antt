@@ -1,0 +1,7 @@
+use Rattle.std.proofs.Common.{◌∙◌, ap}
+use Rattle.jt_store.specs.Memory.{under}
+use Rattle.jt_store.proofs.Pairs.{found}
+use Rattle.jt_store.proofs.by_phone.ByPhone.get.Goals as goal
+
+pub returns : goal.returns
+returns g c = c.get.ensures.value ∙ found c.self.inside.values.entries c.args.key.now ∙ ap (λ pairs. under pairs c.args.key.now) c.self.view_is

@@ -1,0 +1,4 @@
+pub mod Memory
+pub mod Registry
+pub mod Tables
+pub mod Vaults

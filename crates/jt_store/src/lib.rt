@@ -1,0 +1,21 @@
+//! Stores: what keeps a platform's registrations and rows, and what keeps a terminal's fixes and units.
+#![tactic(auto)]
+
+mod by_phone;
+mod calls;
+mod error;
+mod keeper;
+mod mem_keeper;
+mod names;
+mod registry;
+mod row;
+mod rows;
+mod unit;
+mod vault;
+
+pub use error::StoreError;
+pub use keeper::Keeper;
+pub use mem_keeper::MemKeeper;
+pub use row::{Registered, Row};
+pub use unit::{Loaded, Unit};
+pub use vault::Vault;
