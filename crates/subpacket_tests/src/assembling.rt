@@ -1,6 +1,8 @@
+ghost use Rattle.std.specs.Prelude.{◌≡◌};
+
 use jt_header::{Header, Packet};
 use jt_params::{ParamValue, read_params_reply};
-use jt_subpacket::{Assembler, Fate, PartKey, Taken};
+use jt_subpacket::{Assembler, Fate, PartKey, Taken, joined_header};
 use jt_value::{Edition, Octets, Phone, Seq};
 use std::test::Fail;
 
@@ -9,6 +11,24 @@ const FRONT: [u8; 2] = *b"\x00\x07";
 const MIDDLE: [u8; 10] = *b"\x02\x00\x00\x00\x01\x04\x00\x00\x00\x3c";
 
 const END: [u8; 8] = *b"\x00\x00\x00\x13\x03abc";
+
+// The header of a 0x0104.
+fn header(serial: u16, packet: Option<Packet>) -> Header
+    ensures { result.packet ≡ packet }
+{
+    Header {
+        edition: Edition::E2013,
+        id: 0x0104,
+        bit15: false,
+        version: 0,
+        phone: Phone {
+            edition: Edition::E2013,
+            digits: [0, 0, 0, 0, 0x01, 0x39, 0x12, 0x34, 0x56, 0x78],
+        },
+        serial,
+        packet,
+    }
+}
 
 // What a packet of 0x0104 is told, None for what is no packet.
 fn take(
@@ -21,19 +41,8 @@ fn take(
     if number == 0 || number > total || body.len() > 1023 {
         return None;
     }
-    let header = Header {
-        edition: Edition::E2013,
-        id: 0x0104,
-        bit15: false,
-        version: 0,
-        phone: Phone {
-            edition: Edition::E2013,
-            digits: [0, 0, 0, 0, 0x01, 0x39, 0x12, 0x34, 0x56, 0x78],
-        },
-        serial,
-        packet: Some(Packet { total, number }),
-    };
-    assembler.take(&header, body).ok()
+    let packet = header(serial, Some(Packet { total, number }));
+    assembler.take(&packet, body).ok()
 }
 
 fn is_kept(taken: Option<Taken>) -> bool {
@@ -161,5 +170,14 @@ fn octets_that_are_kept_stay(rt: HostRuntime) -> Result<(), Fail> {
         body.as_slice(),
         b"\x00\x07\x02\x00\x00\x00\x01\x04\x00\x00\x00\x3c".as_slice()
     );
+    Ok(())
+}
+
+#[test]
+fn headers_of_joined_messages(rt: HostRuntime) -> Result<(), Fail> {
+    for (serial, number, first) in [(10, 1, 10), (12, 3, 10), (0, 2, 65_535), (254, 256, 65_535)] {
+        let packet = header(serial, Some(Packet { total: 256, number }));
+        assert_eq!(rt; joined_header(&packet), header(first, None));
+    }
     Ok(())
 }
