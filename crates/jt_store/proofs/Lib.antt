@@ -1,3 +1,4 @@
 pub mod Pairs
 pub mod Registering
 pub mod Rising
+pub mod Stocks
