@@ -1,3 +1,4 @@
+pub mod Nearness
 pub mod Pairs
 pub mod Registering
 pub mod Rising

@@ -5,6 +5,7 @@ mod by_phone;
 mod calls;
 mod error;
 mod keeper;
+mod law;
 mod mem_keeper;
 mod mem_vault;
 mod names;
@@ -16,6 +17,7 @@ mod vault;
 
 pub use error::StoreError;
 pub use keeper::Keeper;
+pub use law::law_verdicts;
 pub use mem_keeper::MemKeeper;
 pub use mem_vault::MemVault;
 pub use row::{Registered, Row};
