@@ -1,9 +1,8 @@
 -- What holds of all that an assembler keeps goes on to hold, and bounds it.
-use Rattle.std.proofs.Common.{◌≡◌, ℕ, zero, suc, ◌+◌, ◌-◌, ◌*◌, ◌≤◌, ◌<◌, Bool, true, false, cond, eqb, ltb, List, [], ◌∷◌, ◌++◌, length, drop, Option, Some, None, refl, sym, ap, subst, ◌∙◌, arith, inl, inr}
+use Rattle.std.proofs.Common.{◌≡◌, ℕ, zero, suc, ◌+◌, ◌*◌, ◌≤◌, ◌<◌, Bool, true, false, cond, eqb, ltb, List, [], ◌∷◌, ◌++◌, length, drop, Option, Some, None, refl, sym, ap, subst, ◌∙◌, arith, inl, inr}
 use Rattle.std.specs.Prelude.{slice_get}
 use Rattle.std.specs.Cmp.{nat_cmp_total}
 use Rattle.std.specs.FinMap.{get, len, insert, empty, contains_key, get-empty, len-insert, len-empty}
-use Rattle.std.specs.List.{flat_map}
 use Rattle.std.specs.Option.{unwrap_or, is_some}
 use Rattle.std.specs.Ordering.{nat_cmp}
 use Rattle.std.proofs.lemmas.Bool.{cond-true, cond-false, eqb-true, cases_Bool, cond_both, eqb-false, ltb-false, ltb-true}
@@ -15,11 +14,10 @@ use Rattle.jt_header.specs.declared.header.Packet.{Packet}
 use Rattle.jt_subpacket.specs.declared.key.PartKey.{PartKey}
 use Rattle.jt_subpacket.specs.Partials.{IsBounded, Partial, Pieces, all_octets_kept, joined, key_of, kept_of, missing, numbers, octets_kept, piece, same_key, updated, with_piece, without}
 use Rattle.jt_subpacket.specs.Fates.{Taken, begins, goes_on, left, taken_as, taken_in}
-use Rattle.jt_subpacket.specs.Steps.{AreKept, IsPartial, missing_beside}
+use Rattle.jt_subpacket.specs.Steps.{AreKept, IsPartial}
 use Rattle.jt_subpacket.proofs.Maps.{get_put, missing_with}
 use Rattle.jt_subpacket.proofs.Missing.{count_beside, count_more}
 use Rattle.jt_subpacket.proofs.Places.{same_key_is}
-use Rattle.jt_subpacket.proofs.Packets.{get_left, get_last}
 
 -- ---- the pieces of one message
 

@@ -1,5 +1,5 @@
 -- What one more packet is told, and the partial messages that packets leave (this project's own rules). To be believed.
-use Rattle.std.specs.Prelude.{◌≡◌, ℕ, ◌==◌, nat_lt, nat_le, if◌then◌else◌, List, [], ◌∷◌, ◌++◌, length, drop, Option, None, Some, slice_get}
+use Rattle.std.specs.Prelude.{ℕ, ◌==◌, nat_lt, if◌then◌else◌, List, [], ◌∷◌, ◌++◌, length, drop, Option, None, Some, slice_get}
 use Rattle.std.specs.FinMap.{empty, contains_key}
 use Rattle.std.specs.Option.{option_map}
 use Rattle.jt_header.specs.declared.header.Header.{Header}
@@ -58,7 +58,7 @@ abbrev pub taken_in : List Partial → PartKey → ℕ → List ℕ → Option P
 taken_in ps key number body None = begins ps key number body
 taken_in ps key number body (Some was) = goes_on ps key number body was
 
--- a packet of more than 256 is refused, and the only packet of a message is the whole of it
+-- a total above 256 is refused, and the only packet of a message is the whole of it
 abbrev pub taken_as : List Partial → Header → List ℕ → Packet → Taken
 taken_as ps h body packet =
     if nat_lt packet_limit packet.total then record { dropped = None; fate = TooMany packet.total; partial = ps }

@@ -34,7 +34,7 @@ impl Model for Assembler {
     ghost use Rattle.std.specs.Prelude.{List};
     ghost use Rattle.std.specs.Coded.{coded_list};
     ghost use Rattle.jt_subpacket.specs.Partials.{Partial};
-    ghost use Rattle.jt_subpacket.specs.Steps.{Answers, AreKept, IsPartial};
+    ghost use Rattle.jt_subpacket.specs.Steps.{AreKept};
     ghost use Rattle.jt_subpacket.specs.Stored.{partial_code};
 
     ghost Value = { List Partial };

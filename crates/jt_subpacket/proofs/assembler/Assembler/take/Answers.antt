@@ -1,5 +1,4 @@
-use Rattle.std.proofs.Common.{◌≡◌, sym, subst, arith}
-use Rattle.jt_header.specs.declared.header.Packet.{Packet}
+use Rattle.std.proofs.Common.{sym, subst, arith}
 use Rattle.jt_header.specs.Content.{IsPacket}
 use Rattle.jt_subpacket.specs.Steps.{AreKept}
 use Rattle.jt_subpacket.proofs.Kept.{bounded, kept_taken}
