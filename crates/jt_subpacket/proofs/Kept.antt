@@ -22,10 +22,10 @@ use Rattle.jt_subpacket.proofs.Places.{same_key_is}
 -- ---- the pieces of one message
 
 -- what holds of pieces, whole or not
-record AreSound (total : ℕ) (m : Pieces) : Type 0 where
-  count : len m + length (missing total m) ≡ total
-  own : (number : ℕ) (octets : List ℕ) → get m number ≡ Some octets → (1 ≤ number) × (number ≤ total)
-  short : (number : ℕ) (octets : List ℕ) → get m number ≡ Some octets → length octets ≤ 1023
+pub record AreSound (total : ℕ) (m : Pieces) : Type 0 where
+  pub count : len m + length (missing total m) ≡ total
+  pub own : (number : ℕ) (octets : List ℕ) → get m number ≡ Some octets → (1 ≤ number) × (number ≤ total)
+  pub short : (number : ℕ) (octets : List ℕ) → get m number ≡ Some octets → length octets ≤ 1023
 
 pub none_in : (number : ℕ) → contains_key (empty {X = List ℕ} {R = nat_cmp}) number ≡ false
 none_in number = ap is_some (get-empty nat_cmp number)
@@ -36,7 +36,7 @@ all_missing (suc n) =
     let more = count_more (contains_key (empty {X = List ℕ} {R = nat_cmp})) n ∙ ap (λ b. length (missing n empty) + cond b 0 1) (none_in (suc n)) in
     omega (arith, more, all_missing n)
 
-sound_empty : (total : ℕ) → AreSound total empty
+pub sound_empty : (total : ℕ) → AreSound total empty
 sound_empty total = record {
   count = omega (arith, all_missing total, len-empty nat_cmp (List ℕ));
   own = λ number octets e. absurd (none-some octets (sym (get-empty nat_cmp number) ∙ e));
@@ -66,7 +66,7 @@ sound_put total m number body sound none low high small is =
       short = at_put m number body (λ n octets. length octets ≤ 1023) small sound.short;
     }
 
-sound_with : (total : ℕ) (m : Pieces) (number : ℕ) (body : List ℕ) → AreSound total m → 1 ≤ number → number ≤ total → length body ≤ 1023 → AreSound total (with_piece m number body)
+pub sound_with : (total : ℕ) (m : Pieces) (number : ℕ) (body : List ℕ) → AreSound total m → 1 ≤ number → number ≤ total → length body ≤ 1023 → AreSound total (with_piece m number body)
 sound_with total m number body sound low high small =
     elim (cases_Bool (contains_key m number)) [
       | inl has ↦ subst (AreSound total) (sym (cond-true (contains_key m number) m (insert m number body) has)) sound
@@ -75,7 +75,7 @@ sound_with total m number body sound low high small =
           subst (AreSound total) (sym is) (sound_put total m number body sound none low high small is)
     ]
 
-sound_of : (p : Partial) → IsPartial p → AreSound p.key.total p.pieces
+pub sound_of : (p : Partial) → IsPartial p → AreSound p.key.total p.pieces
 sound_of p kept = record { count = kept.count; own = kept.own; short = kept.short }
 
 partial_of : (key : PartKey) (m : Pieces) → 2 ≤ key.total → key.total ≤ 256 → AreSound key.total m → 0 < length (missing key.total m) → IsPartial (record { key = key; pieces = m })
@@ -141,7 +141,7 @@ module _ (key : PartKey) where
   length_updated now [] = omega arith
   length_updated now (p ∷ ps) = let rest = length_updated now ps in length_cond (same_key p.key key) (record { key = p.key; pieces = now } ∷ ps) (p ∷ updated key now ps) (suc (length ps)) (omega arith) (omega arith)
 
-  kept_partial : (ps : List Partial) (was : Pieces) → Each ps → kept_of key ps ≡ Some was → IsPartial (record { key = key; pieces = was })
+  pub kept_partial : (ps : List Partial) (was : Pieces) → Each ps → kept_of key ps ≡ Some was → IsPartial (record { key = key; pieces = was })
   kept_partial [] was each e = absurd (none-some was e)
   kept_partial (p ∷ ps) was each e =
       elim (cases_Bool (same_key p.key key)) [
@@ -199,7 +199,7 @@ length_piece : (o : Option (List ℕ)) → ((octets : List ℕ) → o ≡ Some o
 length_piece None short = omega arith
 length_piece (Some octets) short = short octets refl
 
-length_joined : (m : Pieces) (n : ℕ) → ((number : ℕ) (octets : List ℕ) → get m number ≡ Some octets → length octets ≤ 1023) → length (joined n m) ≤ n * 1023
+pub length_joined : (m : Pieces) (n : ℕ) → ((number : ℕ) (octets : List ℕ) → get m number ≡ Some octets → length octets ≤ 1023) → length (joined n m) ≤ n * 1023
 length_joined m zero short = omega arith
 length_joined m (suc n) short =
     let split = ap length (flat_map-append (piece m) (numbers n) (suc n ∷ []) ∙ ap (λ xs. joined n m ++ xs) (append-nil (piece m (suc n)))) ∙ length-append (joined n m) (piece m (suc n)) in
