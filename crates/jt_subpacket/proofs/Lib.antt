@@ -6,3 +6,4 @@ pub mod Places
 pub mod Kept
 pub mod Joining
 pub mod RoundTrip
+pub mod Limits

@@ -1,17 +1,15 @@
 -- What is split is joined again.
-use Rattle.std.proofs.Common.{◌≡◌, ℕ, zero, suc, ◌+◌, ◌-◌, ◌≤◌, ◌<◌, ◌%◌, List, [], ◌∷◌, ◌++◌, length, take, get_or, Option, Some, None, refl, sym, ap, subst, ◌∙◌, arith, add-one}
+use Rattle.std.proofs.Common.{◌≡◌, ℕ, zero, suc, ◌+◌, ◌-◌, ◌≤◌, ◌<◌, ◌%◌, List, [], ◌∷◌, ◌++◌, length, take, get_or, Option, Some, refl, sym, ap, subst, ◌∙◌, arith, add-one}
 use Rattle.std.specs.Prelude.{IfSome, slice_get}
 use Rattle.std.specs.List.{flat_map}
 use Rattle.std.specs.Option.{option_map, unwrap_or}
-use Rattle.std.proofs.lemmas.List.{append-nil, take_all, take_more}
+use Rattle.std.proofs.lemmas.List.{take_all, take_more}
 use Rattle.std.proofs.lemmas.List.Concat.{flat_map-append}
 use Rattle.std.proofs.lemmas.Option.{slice_get-get_or, slice_get_within}
 use Rattle.jt_header.specs.declared.header.Header.{Header}
-use Rattle.jt_header.specs.declared.header.Packet.{Packet}
-use Rattle.jt_subpacket.specs.declared.key.PartKey.{PartKey}
-use Rattle.jt_subpacket.specs.Parts.{InPackets, Message, packet_header}
+use Rattle.jt_subpacket.specs.Parts.{Message, packet_header}
 use Rattle.jt_subpacket.specs.Partials.{numbers}
-use Rattle.jt_subpacket.specs.Joining.{IsJoinedAgain, IsPacketOf, number_of, octets_in, whole_body}
+use Rattle.jt_subpacket.specs.Joining.{IsJoinedAgain, IsPacketOf, number_of, octets_in}
 
 abbrev body_of : Message → List ℕ
 body_of q = q.1
