@@ -25,12 +25,7 @@ fn is_trimmed(terminal: &[u8]) -> bool
     ensures { IsTrue result → IsTrimmed terminal.now }
 {
     match terminal.last() {
-        Some(octet) => {
-            if *octet == 0 {
-                return false;
-            }
-            true
-        }
+        Some(octet) => *octet != 0,
         None => true,
     }
 }
