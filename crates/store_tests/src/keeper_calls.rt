@@ -1,7 +1,10 @@
 //! Calls of a keeper that look first whether they may be made.
 
-ghost use Rattle.std.specs.Prelude.{◌≡◌, ◌<◌, ◌^◌, IfSome, IsTrue};
-ghost use Rattle.jt_store.specs.Tables.{IsTrimmed, MayAppend};
+ghost use Rattle.std.specs.Prelude.{◌≡◌, ◌<◌, ◌^◌, Some, IfSome, IsTrue};
+ghost use Rattle.jt_value.specs.Sameness.{key_of};
+ghost use Rattle.jt_store.specs.Memory.{tables_of};
+ghost use Rattle.jt_store.specs.Tables.{IsTrimmed, MayAppend, Reads, plates, terminals};
+ghost use Rattle.store_tests.specs.Free.{IsFree};
 
 use jt_store::{Keeper, MemKeeper, Registered, Row, StoreError};
 use jt_value::{Octets, Phone};
@@ -47,6 +50,38 @@ pub fn put(
     keeper.append(alloc, phone, &row)
 }
 
+// Whether no other phone has a plate.
+fn is_free_plate(
+    alloc: Global,
+    keeper: &mut MemKeeper,
+    phone: &Phone,
+    plate: &[u8],
+) -> Result<bool, StoreError>
+    ensures { Reads (Some (tables_of keeper.old)) (Some (tables_of keeper.new)) (λ t free. IsFree plates t.registered (key_of phone.now) plate.now free) result }
+{
+    match keeper.plate_owner(alloc, plate) {
+        Ok(Some(owner)) => Ok(owner.same(phone)),
+        Ok(None) => Ok(true),
+        Err(error) => Err(error),
+    }
+}
+
+// Whether no other phone has a terminal id.
+fn is_free_terminal(
+    alloc: Global,
+    keeper: &mut MemKeeper,
+    phone: &Phone,
+    terminal: &[u8],
+) -> Result<bool, StoreError>
+    ensures { Reads (Some (tables_of keeper.old)) (Some (tables_of keeper.new)) (λ t free. IsFree terminals t.registered (key_of phone.now) terminal.now free) result }
+{
+    match keeper.terminal_owner(alloc, terminal) {
+        Ok(Some(owner)) => Ok(owner.same(phone)),
+        Ok(None) => Ok(true),
+        Err(error) => Err(error),
+    }
+}
+
 /// Registers a phone, where no other has its names.
 pub fn enrol(
     alloc: Global,
@@ -62,21 +97,13 @@ pub fn enrol(
     if !is_trimmed(registered.terminal.as_slice()) {
         return Ok(false);
     }
-    match keeper.plate_owner(alloc, registered.plate.as_slice())? {
-        Some(owner) => {
-            if !owner.same(phone) {
-                return Ok(false);
-            }
-        }
-        None => {}
+    let plate = is_free_plate(alloc, keeper, phone, registered.plate.as_slice())?;
+    if !plate {
+        return Ok(false);
     }
-    match keeper.terminal_owner(alloc, registered.terminal.as_slice())? {
-        Some(owner) => {
-            if !owner.same(phone) {
-                return Ok(false);
-            }
-        }
-        None => {}
+    let terminal = is_free_terminal(alloc, keeper, phone, registered.terminal.as_slice())?;
+    if !terminal {
+        return Ok(false);
     }
     keeper.register(alloc, phone, &registered)?;
     Ok(true)

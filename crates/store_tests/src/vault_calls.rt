@@ -1,5 +1,6 @@
 //! Calls of a vault that look first whether they may be made.
 
+use jt_position::law_fixes;
 use jt_store::{MemVault, StoreError, Unit, Vault};
 use jt_value::{Octets, gap};
 use std::alloc::Global;
@@ -22,6 +23,7 @@ pub fn form_next(alloc: Global, vault: &mut MemVault) -> Result<bool, StoreError
         body: Octets::from_vec(Vec::from_slice(alloc, fix.as_slice())?),
         count: 1,
     };
+    law_fixes();
     vault.form(alloc, &unit)?;
     Ok(true)
 }
