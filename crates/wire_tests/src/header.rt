@@ -1,9 +1,10 @@
 use arrayvec::ArrayVec;
 use jt_header::{Header, Packet, read_header, write_header};
 use jt_value::{Edition, Phone, Refusal, Why};
+use std::test::Fail;
 
 #[test]
-fn refusals(rt: HostRuntime) {
+fn refusals(rt: HostRuntime) -> Result<(), Fail> {
     let rows: [(&[u8], u64, Why); 18] = [
         (b"\x00", 1, Why::TooShort),
         (b"\x00\x02\x00\x00", 4, Why::TooShort),
@@ -102,6 +103,7 @@ fn refusals(rt: HostRuntime) {
         let refusal = Refusal { at: 0, inside, why };
         assert_eq!(rt; read_header(content), Err(refusal));
     }
+    Ok(())
 }
 
 fn header(id: u16, bit15: bool, serial: u16, packet: Option<Packet>) -> Header {
@@ -121,7 +123,7 @@ fn header(id: u16, bit15: bool, serial: u16, packet: Option<Packet>) -> Header {
 }
 
 #[test]
-fn contents(rt: HostRuntime) {
+fn contents(rt: HostRuntime) -> Result<(), Fail> {
     let first = Some(Packet {
         total: 3,
         number: 1,
@@ -163,4 +165,5 @@ fn contents(rt: HostRuntime) {
         assert!(rt; content.starts_with(out.as_slice()));
         assert_eq!(rt; out.len() + rest.len() + 1, content.len());
     }
+    Ok(())
 }

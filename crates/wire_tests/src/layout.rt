@@ -1,27 +1,29 @@
 use jt_layout::{Reader, Writer, all_fit, octets_fit};
 use jt_value::{CodecError, Refusal, Why};
+use std::test::Fail;
 
 fn refusal(inside: u64, why: Why) -> Refusal {
     Refusal { at: 0, inside, why }
 }
 
 #[test]
-fn fields_come_in_order(rt: HostRuntime) {
+fn fields_come_in_order(rt: HostRuntime) -> Result<(), Fail> {
     let body = [1, 2, 3, 4, 5, 6, 7, 0xAA, 0xBB, 0xCC, 0xDD];
     let mut reader = Reader::new(&body);
     assert_eq!(rt; reader.byte(), Ok(1));
     assert_eq!(rt; reader.word(), Ok(0x0203));
     assert_eq!(rt; reader.dword(), Ok(0x0405_0607));
     assert_eq!(rt; reader.slice(1), Ok([0xAA].as_slice()));
-    let copied = reader.octets(rt.alloc(), 1).expect(&rt, "octets");
+    let copied = reader.octets(rt.alloc(), 1)?;
     assert_eq!(rt; copied.as_slice(), [0xBB].as_slice());
     assert_eq!(rt; (reader.place(), reader.left()), (9, 2));
     assert!(rt; !reader.is_at_end());
     assert_eq!(rt; reader.end(), Err(refusal(9, Why::Trailing)));
-    let rest = reader.rest(rt.alloc()).expect(&rt, "octets");
+    let rest = reader.rest(rt.alloc())?;
     assert_eq!(rt; rest.as_slice(), [0xCC, 0xDD].as_slice());
     assert!(rt; reader.is_at_end());
     assert_eq!(rt; reader.end(), Ok(()));
+    Ok(())
 }
 
 #[test]
@@ -38,14 +40,14 @@ fn a_field_that_passes_the_end_is_truncated_where_it_begins(rt: HostRuntime) {
 }
 
 #[test]
-fn lists_of_a_count_and_up_to_the_end(rt: HostRuntime) {
+fn lists_of_a_count_and_up_to_the_end(rt: HostRuntime) -> Result<(), Fail> {
     let body = [0, 1, 0, 2, 0, 0, 0, 3, 0, 0, 0, 4, 9];
     let mut reader = Reader::new(&body);
-    let words = reader.list::<u16>(rt.alloc(), 2).expect(&rt, "words");
+    let words = reader.list::<u16>(rt.alloc(), 2)?;
     assert_eq!(rt; words.as_slice(), [1, 2].as_slice());
-    let mut inner = reader.within(8).expect(&rt, "octets");
+    let mut inner = reader.within(8)?;
     assert_eq!(rt; inner.place(), 4);
-    let dwords = inner.all::<u32>(rt.alloc()).expect(&rt, "words");
+    let dwords = inner.all::<u32>(rt.alloc())?;
     assert_eq!(rt; dwords.as_slice(), [3, 4].as_slice());
     assert_eq!(rt; reader.place(), 12);
     assert_eq!(rt; reader.within(2).err(), Some(refusal(12, Why::Truncated)));
@@ -54,19 +56,18 @@ fn lists_of_a_count_and_up_to_the_end(rt: HostRuntime) {
         short,
         Some(CodecError::Refused(refusal(12, Why::Truncated)))
     );
+    Ok(())
 }
 
 #[tactic(auto, unfolding(jt_layout::specs::Layout::number))]
 #[test]
-fn what_is_written_comes_in_order(rt: HostRuntime) {
+fn what_is_written_comes_in_order(rt: HostRuntime) -> Result<(), Fail> {
     let mut writer = Writer::new(rt.alloc());
-    writer.byte(1).expect(&rt, "room");
-    writer.word(0x0203).expect(&rt, "room");
-    writer.dword(0x0405_0607).expect(&rt, "room");
-    writer.octets(&[8, 9]).expect(&rt, "room");
-    writer
-        .list::<u16>(rt.alloc(), &[0x0A0B, 0x0C0D])
-        .expect(&rt, "room");
+    writer.byte(1)?;
+    writer.word(0x0203)?;
+    writer.dword(0x0405_0607)?;
+    writer.octets(&[8, 9])?;
+    writer.list::<u16>(rt.alloc(), &[0x0A0B, 0x0C0D])?;
     let octets = writer.finish();
     let expected = [1, 2, 3, 4, 5, 6, 7, 8, 9, 10, 11, 12, 13];
     assert_eq!(rt; octets.as_slice(), expected.as_slice());
@@ -74,4 +75,5 @@ fn what_is_written_comes_in_order(rt: HostRuntime) {
     assert!(rt; all_fit::<u32>(&[0, 0xFFFF_FFFF]));
     assert!(rt; octets_fit(&[1, 2], 2));
     assert!(rt; !octets_fit(&[1, 2], 3));
+    Ok(())
 }

@@ -1,8 +1,8 @@
 use jt_outside::{Got, MemSink, MemSource, Put, Sink, Source, StdSink, StdSource, write_all};
 use jt_value::{Memory, Octets, Seq};
-use std::alloc::Global;
 use std::io;
 use std::io::{ErrorKind, Read};
+use std::test::Fail;
 
 // A reader whose every read gives an error.
 #[derive(Drop)]
@@ -23,21 +23,12 @@ fn reads<S: Source>(source: &mut S) -> [(Got, [u8; 2]); 3] {
     reads
 }
 
-fn source(alloc: Global, octets: &[u8], failing: &[u64]) -> Result<MemSource, Memory> {
-    let octets = Octets::from_vec(octets.to_vec(alloc)?);
-    let failing = Seq::from_vec(failing.to_vec(alloc)?);
-    Ok(MemSource::new(octets, failing))
-}
-
-fn sink(alloc: Global, room: u64, failing: u64) -> Result<MemSink, Memory> {
-    let mut calls = Seq::new(alloc);
-    calls.push(failing)?;
-    MemSink::new(alloc, room, calls)
-}
-
 #[test]
-fn a_source_in_memory(rt: HostRuntime) {
-    let mut source = source(rt.alloc(), &[7, 8, 9], &[2, 5]).expect(&rt, "a source");
+fn a_source_in_memory(rt: HostRuntime) -> Result<(), Fail> {
+    let alloc = rt.alloc();
+    let octets = Octets::from_vec(vec![in alloc; 7, 8, 9]?);
+    let failing = Seq::from_vec(vec![in alloc; 2, 5]?);
+    let mut source = MemSource::new(octets, failing);
     let first = reads(&mut source);
     assert_eq!(rt; first[0], (Got::Bytes(2), [7, 8]));
     assert_eq!(rt; first[1].0, Got::Failed);
@@ -47,10 +38,12 @@ fn a_source_in_memory(rt: HostRuntime) {
     assert_eq!(rt; second[0].0, Got::End);
     assert_eq!(rt; second[1].0, Got::Failed);
     assert_eq!(rt; second[2].0, Got::End);
+    Ok(())
 }
 
 #[test]
-fn a_sink_in_memory(rt: HostRuntime) {
+fn a_sink_in_memory(rt: HostRuntime) -> Result<(), Fail> {
+    let alloc = rt.alloc();
     let octets = [7, 8, 9, 10, 11];
     for (room, failing, all, written) in [
         (5, 0, true, 5),
@@ -59,18 +52,20 @@ fn a_sink_in_memory(rt: HostRuntime) {
         (9, 1, false, 0),
         (0, 0, false, 0),
     ] {
-        let mut sink = sink(rt.alloc(), room, failing).expect(&rt, "a sink");
+        let failing = Seq::from_vec(vec![in alloc; failing]?);
+        let mut sink = MemSink::new(alloc, room, failing)?;
         assert_eq!(rt; write_all(&mut sink, &octets), all);
         assert_eq!(rt; sink.octets(), &octets[..written]);
     }
-    let mut full = sink(rt.alloc(), 3, 0).expect(&rt, "a sink");
-    assert_eq!(rt; full.write(&octets), Put::Count(3));
-    let vast = sink(rt.alloc(), u64::MAX, 0);
+    let full = MemSink::new(alloc, 3, Seq::new(alloc))?.write(&octets);
+    assert_eq!(rt; full, Put::Count(3));
+    let vast = MemSink::new(alloc, u64::MAX, Seq::new(alloc));
     assert!(rt; matches!(vast, Err(Memory)));
+    Ok(())
 }
 
 #[test]
-fn sources_over_std(rt: HostRuntime) {
+fn over_std(rt: HostRuntime) -> Result<(), Fail> {
     let octets = [7, 8, 9];
     let gave = reads(&mut StdSource::new(octets.as_slice()));
     assert_eq!(rt; gave[0], (Got::Bytes(2), [7, 8]));
@@ -79,15 +74,11 @@ fn sources_over_std(rt: HostRuntime) {
     assert_eq!(rt; gave[2].0, Got::End);
     let failed = reads(&mut StdSource::new(Broken));
     assert_eq!(rt; failed[0].0, Got::Failed);
-}
-
-#[test]
-fn sinks_over_std(rt: HostRuntime) {
-    let octets = [7, 8, 9];
     let mut taken = Vec::new(rt.alloc());
     assert!(rt; write_all(&mut StdSink::new(&mut taken), &octets));
     assert_eq!(rt; taken.as_slice(), octets.as_slice());
     let mut room = [0; 2];
     assert!(rt; !write_all(&mut StdSink::new(room.as_mut_slice()), &octets));
     assert_eq!(rt; room, [7, 8]);
+    Ok(())
 }

@@ -5,7 +5,7 @@ use jt_escape::{Split, check, escape_into};
 use jt_header::{Header, Packet, write_header};
 use jt_stream::{Stream, StreamItem};
 use jt_value::{Edition, Phone, Refusal, Why};
-use std::alloc::{AllocError, Global};
+use std::test::Fail;
 
 const HEARTBEAT: [u8; 15] = [
     0x7E, 0x00, 0x02, 0x00, 0x00, 0x01, 0x39, 0x12, 0x34, 0x56, 0x78, 0x00, 0x00, 0x32, 0x7E,
@@ -259,20 +259,16 @@ fn packets(rt: HostRuntime) {
     );
 }
 
-// The frame of a body of 1,023 flags.
-fn frame_of_flags(alloc: Global) -> Result<Vec<u8>, AllocError> {
-    let mut octets = b"\x7E\x0F\xFF\x03\xFF\x01\x39\x12\x34\x56\x78\x00\x00".to_vec(alloc)?;
-    for _ in 0..1023 {
-        octets.extend_from_slice(b"\x7D\x02")?;
-    }
-    octets.extend_from_slice(b"\x42\x7E")?;
-    Ok(octets)
-}
-
 #[test]
-fn written_back(rt: HostRuntime) {
-    let line = frame_of_flags(rt.alloc()).expect(&rt, "a frame");
-    assert_eq!(rt; line.len(), 2061);
+fn written_back(rt: HostRuntime) -> Result<(), Fail> {
+    let mut line = [0; 2061];
+    line[..13].copy_from_slice(b"\x7E\x0F\xFF\x03\xFF\x01\x39\x12\x34\x56\x78\x00\x00");
+    for place in 0..1023 {
+        line[13 + 2 * place] = 0x7D;
+        line[14 + 2 * place] = 0x02;
+    }
+    line[2059] = 0x42;
+    line[2060] = 0x7E;
     let mut stream = Stream::new();
     assert_eq!(rt; stream.take(&line), (2061, StreamItem::Frame));
     let (place, read, body) = stream.frame().expect(&rt, "a frame");
@@ -293,4 +289,5 @@ fn written_back(rt: HostRuntime) {
     let mut frame = ArrayVec::new();
     escape_into(content.as_slice(), &mut frame);
     assert_eq!(rt; frame.as_slice(), line.as_slice());
+    Ok(())
 }
