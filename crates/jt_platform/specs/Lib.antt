@@ -1,0 +1,5 @@
+pub mod Codes
+pub mod History
+pub mod Allowed
+pub mod Calls
+pub mod Hub
