@@ -246,6 +246,17 @@ impl<P: Keeper> Hub<P> {
         ensures close { request.now ≡ Close → IsOwed self.old.history self.old.reserved session → result ≡ Accepted }
         ensures reason { HasReason (P.faults self.old.keeper) (P.faults self.new.keeper) (P.may_fail self.old.keeper) (P.may_fail self.new.keeper) result }
     {
+        self.answer_to(session, request)
+    }
+
+    pub(crate) fn answer_to(&mut self, session: u32, request: &Request) -> Reply
+        ensures allowed { is_trouble result ≡ false → Allowed (opening_of (P.tables self.old.start) (P.limit self.old.start) self.old.fleet self.old.secret) (newest self.old.history) session request.now result }
+        ensures history { self.new.history ≡ history_by session request.now result self.old.history }
+        ensures opening { (self.new.start ≡ self.old.start) × (self.new.fleet ≡ self.old.fleet) × (self.new.secret ≡ self.old.secret) × (self.new.reserved ≡ self.old.reserved) }
+        ensures keeper { IsAt (P.tables self.new.start) (P.tables self.new.keeper) (P.limit self.new.start) (P.limit self.new.keeper) self.new.history }
+        ensures close { request.now ≡ Close → IsOwed self.old.history self.old.reserved session → result ≡ Accepted }
+        ensures reason { HasReason (P.faults self.old.keeper) (P.faults self.new.keeper) (P.may_fail self.old.keeper) (P.may_fail self.new.keeper) result }
+    {
         let _ = &self.history;
         let is_owed = is_owed_close(self.history.as_slice(), self.reserved, session, request);
         let Ok(copy) = copy_request(self.alloc, request) else {

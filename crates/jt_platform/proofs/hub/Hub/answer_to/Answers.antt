@@ -1,5 +1,5 @@
 use Rattle.jt_platform.proofs.Acting.{room_close, room_entry, at_acted, owed_counts}
-use Rattle.jt_platform.proofs.hub.Hub.act.Goals as goal
+use Rattle.jt_platform.proofs.hub.Hub.answer_to.Goals as goal
 
 pub make_room-requires-clause-one : goal.make_room-requires-clause-one
 make_room-requires-clause-one g c =
