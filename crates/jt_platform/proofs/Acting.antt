@@ -13,7 +13,9 @@ use Rattle.jt_platform.specs.declared.request.Reply.TheVariants as say
 use Rattle.jt_platform.specs.declared.request.Entry.{Entry}
 use Rattle.jt_platform.specs.History.{newest, is_close, rows_after, row_of, registration_after, registered_by, tables_after}
 use Rattle.jt_platform.specs.Calls.{tables_by, open_upto, HasRoom}
-use Rattle.jt_platform.specs.Hub.{IsAt, IsOwed}
+use Rattle.jt_platform.specs.declared.request.Fleet.{Fleet}
+use Rattle.jt_platform.specs.Allowed.{AnyReply, Allowed, Legal, is_trouble, makes_entry}
+use Rattle.jt_platform.specs.Hub.{IsAt, IsOwed, opening_of}
 use Rattle.jt_platform.proofs.Rooms.{open_entry, open_close, open_more}
 
 pub newest_push : (h : List Entry) (e : Entry) → newest (h ++ e ∷ []) ≡ e ∷ newest h
@@ -136,3 +138,45 @@ room_more h reserved owed spare upto left room above enough =
       kept = enough;
       few = omega (arith, above, few);
     }
+
+-- the table speaks of the opening's tables by what the history leaves of them alone
+any_same : (a b : Option Tables) (limit : ℕ) (fleet : Fleet) (secret : List ℕ) (now : Option Tables) (h : List Entry) (l : ℕ) (q : Request) (r : Reply)
+    → AnyReply (opening_of a limit fleet secret) now h l q r → AnyReply (opening_of b limit fleet secret) now h l q r
+any_same a b limit fleet secret now h l (ask.Register p register) r is = is
+any_same a b limit fleet secret now h l (ask.Auth p code) r is = is
+any_same a b limit fleet secret now h l (ask.Unit p serial id body) r is = is
+any_same a b limit fleet secret now h l (ask.Deregister p) r is = is
+any_same a b limit fleet secret now h l (ask.Other p id) r is = is
+any_same a b limit fleet secret now h l ask.Close r is = is
+
+allowed_now : (start now : Option Tables) (first limit : ℕ) (fleet : Fleet) (secret : List ℕ) (h scanned : List Entry) (l : ℕ) (q : Request) (r : Reply) → IsAt start now first limit h → scanned ≡ h
+    → AnyReply (opening_of now limit fleet secret) now (newest scanned) l q r → Allowed (opening_of start first fleet secret) (newest h) l q r
+allowed_now start now first limit fleet secret h scanned l q r at scan is =
+    subst (λ t. AnyReply (opening_of start first fleet secret) t (newest h) l q r) at.tables
+    (subst (λ n. AnyReply (opening_of start n fleet secret) now (newest h) l q r) at.limit
+    (subst (λ x. AnyReply (opening_of start limit fleet secret) now (newest x) l q r) scan (any_same now start limit fleet secret now (newest scanned) l q r is)))
+
+calm : (r : Reply) → makes_entry r ≡ true → is_trouble r ≡ false
+calm (say.Registered c) makes = refl
+calm (say.Denied n) makes = refl
+calm say.Accepted makes = refl
+calm (say.Stored n) makes = refl
+calm (say.Repeat n) makes = refl
+calm (say.Renumbered n) makes = refl
+calm say.NotLive makes = refl
+calm (say.Fenced n) makes = refl
+calm (say.ListFull n) makes = cc
+calm say.StoreFault makes = cc
+calm say.Memory makes = cc
+
+-- the history after an entry is legal
+pub legal_acted : (start now : Option Tables) (first limit : ℕ) (fleet : Fleet) (secret : List ℕ) (h scanned roomy after : List Entry) (l : ℕ) (q copy : Request) (r said : Reply)
+    → Legal (opening_of start first fleet secret) (newest h) → IsAt start now first limit h → scanned ≡ h → makes_entry r ≡ true
+    → (is_trouble r ≡ false → AnyReply (opening_of now limit fleet secret) now (newest scanned) l q r)
+    → copy ≡ q → said ≡ r → roomy ≡ h → after ≡ roomy ++ record { session = l; request = copy; reply = said } ∷ [] → Legal (opening_of start first fleet secret) (newest after)
+legal_acted start now first limit fleet secret h scanned roomy after l q copy r said legal at scan makes reply copied replied same push =
+    subst (λ x. Legal (opening_of start first fleet secret) x) (sym (grown h roomy after (entry l copy said) same push ∙ whole))
+    (allowed_now start now first limit fleet secret h scanned l q r at scan (reply (calm r makes)), legal)
+  where
+    whole : entry l copy said ∷ newest h ≡ entry l q r ∷ newest h
+    whole = rw (copied, replied) refl

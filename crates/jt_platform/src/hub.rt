@@ -3,7 +3,7 @@
 ghost use Rattle.std.specs.Prelude.{◌≡◌, ◌≢◌, ◌≤◌, ◌<◌, ◌+◌, ◌-◌, ◌^◌, [], false, true, max, IfOk, IfErr, IsTrue, ◌↔◌, OnOk, OnErr, IsOk, if◌then◌else◌};
 ghost use Rattle.jt_value.specs.Sameness.{key_of};
 ghost use Rattle.jt_platform.specs.History.{newest, closed};
-ghost use Rattle.jt_platform.specs.Allowed.{AnyReply, Allowed, is_trouble};
+ghost use Rattle.jt_platform.specs.Allowed.{AnyReply, Allowed, Legal, is_trouble};
 ghost use Rattle.jt_platform.specs.Allowed.{makes_entry as makes_an_entry};
 ghost use Rattle.jt_platform.specs.Calls.{tables_by, code_said, IsGuard, IsCoded};
 ghost use Rattle.jt_platform.specs.Hub.{HubValue, history_by, opening_of, IsAt, IsOwed, HasReason};
@@ -175,14 +175,16 @@ pub struct Hub<P: Keeper> {
 }
 
 impl<P: Keeper> Model for Hub<P> {
-    ghost use Rattle.jt_platform.specs.Hub.{HubValue, IsAt};
+    ghost use Rattle.jt_platform.specs.Hub.{HubValue, IsAt, opening_of};
     ghost use Rattle.jt_platform.specs.Calls.{HasRoom};
+    ghost use Rattle.jt_platform.specs.Allowed.{Legal};
+    ghost use Rattle.jt_platform.specs.History.{newest};
 
     ghost Value = { HubValue P };
 
     ghost view = { λ h. record { keeper = h.keeper; start = h.start.value; fleet = h.fleet; secret = h.secret; history = h.history.items; reserved = h.reserved } };
 
-    ghost invariant = { λ h. IsAt (P.tables h.start.value) (P.tables h.keeper) (P.limit h.start.value) (P.limit h.keeper) h.history.items × HasRoom h.history.items h.reserved h.owed h.history.spare };
+    ghost invariant = { λ h. IsAt (P.tables h.start.value) (P.tables h.keeper) (P.limit h.start.value) (P.limit h.keeper) h.history.items × HasRoom h.history.items h.reserved h.owed h.history.spare × Legal (opening_of (P.tables h.start.value) (P.limit h.start.value) h.fleet h.secret) (newest h.history.items) };
 }
 
 impl<P: Keeper> Hub<P> {
@@ -210,9 +212,10 @@ impl<P: Keeper> Hub<P> {
         })
     }
 
-    /// The entries, oldest first.
+    /// The entries, oldest first. Each reply is one that the entries before it allow.
     pub fn history(&self) -> &[Entry]
-        ensures { result.now ≡ self.now.history }
+        ensures entries { result.now ≡ self.now.history }
+        ensures legal { Legal (opening_of (P.tables self.now.start) (P.limit self.now.start) self.now.fleet self.now.secret) (newest self.now.history) }
     {
         self.history.as_slice()
     }
@@ -296,7 +299,8 @@ impl<P: Keeper> Hub<P> {
 
     /// The keeper and the history, with no memory taken.
     pub fn into_parts(self) -> (P, Seq<Entry>)
-        ensures { (result.0 ≡ self.keeper) × (result.1 ≡ self.history) }
+        ensures parts { (result.0 ≡ self.keeper) × (result.1 ≡ self.history) }
+        ensures legal { Legal (opening_of (P.tables self.start) (P.limit self.start) self.fleet self.secret) (newest self.history) }
     {
         let Hub {
             alloc: _,

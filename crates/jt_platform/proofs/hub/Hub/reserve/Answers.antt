@@ -12,4 +12,5 @@ invariant_of-self-2 g c =
     rw (ensured.items, c.from.ensures) (
       c.self.invariant.0,
       room_more inside.history.items inside.reserved inside.owed inside.history.spare c.args.upto c.reserve.new.self.spare c.self.invariant.1 above (subst (λ n. inside.owed + n ≤ c.reserve.new.self.spare) c.from.ensures ensured.room),
+      c.self.invariant.2,
     )
