@@ -108,6 +108,9 @@ fn is_written_back(alloc: Global, content: &[u8], frame: &[u8]) -> Result<bool, 
     requires { length content.now ≤ 1045 }
 {
     let (header, message) = parse_frame(alloc, content)?;
+    if !message.fits(header.edition) {
+        return Ok(false);
+    }
     let body = write_body(alloc, header.edition, &message)?;
     let body = body.as_slice();
     if body.len() > 1023 {
