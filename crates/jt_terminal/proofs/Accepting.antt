@@ -116,11 +116,11 @@ module _ (h : Held) (s : State) (serial : ℕ) (u : OneUnit) (more : List OneUni
   names_it = subst (λ (row : Option Row). IsTrue (is_acceptance ack && is_named ack row)) (sym found.1)
       (both (is_acceptance ack) (is_named ack (Some (row_after found.0 u))) accepting (subst (λ (n : ℕ). IsTrue ((ack.reply == n) && (ack.id == u.id))) (sym (serial_back found.0 u.serial small.0)) named))
 
-  pub accept_steps : AreSteps h s (Some ack) (record { state = accepted s u more; steps = rule.Changes Accepts ∷ []; end = None })
+  pub accept_steps : AreSteps (machine_of h s) h (Some ack) (record { state = accepted s u more; steps = rule.Changes Accepts ∷ []; end = None })
   accept_steps = record {
     may = ((ap is_up live, omega (arith, some), names_it), tt);
     to = ap (λ (n : ℕ). record (machine_of h s) { accepted = h.accepted + 1; reach = n }) sent_is;
-    in_order = record { order = order; serials = small.1; mark = small.0; next = o.next; sent = let within = subst (λ (us : List OneUnit). s.sent ≤ length us) is o.sent in omega (arith, within) };
+    in_order = record { order = order; serials = small.1; phase = o.phase; mark = small.0; next = o.next; sent = let within = subst (λ (us : List OneUnit). s.sent ≤ length us) is o.sent in omega (arith, within) };
     agrees = record {
       known = let lt = found.3 in omega (arith, lt);
       units = found.2 ∙ ap (λ (n : ℕ). drop n h.units) next;

@@ -37,7 +37,7 @@ loosen_step m just step.Loses may = may
 loosen_step m just step.Restarts may = may
 loosen_step m just (step.Codes code) may = may
 
-loosen : (m : Machine) (just : Option Acknowledgement) (xs : List TerminalStep) → MayRun m None xs → MayRun m just xs
+pub loosen : (m : Machine) (just : Option Acknowledgement) (xs : List TerminalStep) → MayRun m None xs → MayRun m just xs
 loosen m just [] may = may
 loosen m just (x ∷ xs) may = (loosen_step m just x may.0, may.1)
 
@@ -45,21 +45,26 @@ may_append : (m : Machine) (just : Option Acknowledgement) (xs ys : List Termina
 may_append m just [] ys may more = loosen m just ys more
 may_append m just (x ∷ xs) ys may more = (may.0, may_append (stepped m x) None xs ys may.1 more)
 
-pub and_then_steps : (held : Held) (s : State) (just : Option Acknowledgement) (r : Ruled) (more : State → Ruled) → AreSteps held s just r → AreSteps (held_after r.steps held) r.state None (more r.state) → AreSteps held s just (and_then r more)
-and_then_steps held s just r more one two =
-    let parts = as_steps-append (machine_of held s) r.steps (more r.state).steps in
+pub and_then_steps : (m : Machine) (held : Held) (just : Option Acknowledgement) (r : Ruled) (more : State → Ruled) → AreSteps m held just r → AreSteps (machine_of (held_after r.steps held) r.state) (held_after r.steps held) None (more r.state) → AreSteps m held just (and_then r more)
+and_then_steps m held just r more one two =
+    let parts = as_steps-append m r.steps (more r.state).steps in
     let behind = held_after-append r.steps (more r.state).steps held in
     record {
-      may = subst (λ (steps : List TerminalStep). MayRun (machine_of held s) just steps) (sym parts)
-          (may_append (machine_of held s) just (as_steps (machine_of held s) r.steps) (as_steps (run (machine_of held s) (as_steps (machine_of held s) r.steps)) (more r.state).steps) one.may
-          (subst (λ (m : Machine). MayRun m None (as_steps m (more r.state).steps)) (sym one.to) two.may));
-      to = ap (run (machine_of held s)) parts
-          ∙ (run-append (machine_of held s) (as_steps (machine_of held s) r.steps) (as_steps (run (machine_of held s) (as_steps (machine_of held s) r.steps)) (more r.state).steps)
-          ∙ (ap (λ (m : Machine). run m (as_steps m (more r.state).steps)) one.to
+      may = subst (λ (steps : List TerminalStep). MayRun m just steps) (sym parts)
+          (may_append m just (as_steps m r.steps) (as_steps (run m (as_steps m r.steps)) (more r.state).steps) one.may
+          (subst (λ (n : Machine). MayRun n None (as_steps n (more r.state).steps)) (sym one.to) two.may));
+      to = ap (run m) parts
+          ∙ (run-append m (as_steps m r.steps) (as_steps (run m (as_steps m r.steps)) (more r.state).steps)
+          ∙ (ap (λ (n : Machine). run n (as_steps n (more r.state).steps)) one.to
           ∙ (two.to ∙ ap (λ (h : Held). machine_of h (more r.state).state) (sym behind))));
       in_order = two.in_order;
       agrees = subst (λ (h : Held). Agrees h (more r.state).state) (sym behind) two.agrees;
     }
 
-pub stays_steps : (held : Held) (s : State) → IsInOrder s → Agrees held s → AreSteps held s None (rule.stays s)
-stays_steps held s order agrees = record { may = tt; to = refl; in_order = order; agrees = agrees }
+pub stays_steps : (held : Held) (s : State) (just : Option Acknowledgement) → IsInOrder s → Agrees held s → AreSteps (machine_of held s) held just (rule.stays s)
+stays_steps held s just order agrees = record { may = tt; to = refl; in_order = order; agrees = agrees }
+
+-- the same steps behind any response, from an equal machine
+pub behind_any : (m n : Machine) (held : Held) (just : Option Acknowledgement) (r : Ruled) → n ≡ m → AreSteps m held None r → AreSteps n held just r
+behind_any m n held just r same one = subst (λ (x : Machine). AreSteps x held just r) (sym same)
+    (record { may = loosen m just (as_steps m r.steps) one.may; to = one.to; in_order = one.in_order; agrees = one.agrees })

@@ -170,11 +170,11 @@ module _ (carries : UnitCarriesFirstFixes) (h : Held) (s : State) (o : IsInOrder
     short = o.order.short;
   }
 
-  pub form_steps : AreSteps h s None (record { state = with_unit s u (fix ∷ more); steps = rule.Changes (Forms u) ∷ []; end = None })
+  pub form_steps : AreSteps (machine_of h s) h None (record { state = with_unit s u (fix ∷ more); steps = rule.Changes (Forms u) ∷ []; end = None })
   form_steps = record {
     may = (may, tt);
     to = ap (λ (rows : List Row). record (machine_of h s) { units = rows }) (sym units_are);
-    in_order = record { order = order; serials = serials_push s.units u o.serials (let lt = o.next in omega (arith, serial, lt)); mark = o.mark; next = omega arith; sent = let le = o.sent in omega (arith, length-append s.units (u ∷ []), le) };
+    in_order = record { order = order; serials = serials_push s.units u o.serials (let lt = o.next in omega (arith, serial, lt)); phase = o.phase; mark = o.mark; next = omega arith; sent = let le = o.sent in omega (arith, length-append s.units (u ∷ []), le) };
     agrees = record {
       known = let le = a.known in omega (arith, length-append h.units (u ∷ []), le);
       units = ap (λ (us : List OneUnit). us ++ u ∷ []) a.units ∙ sym (drop-append-le h.accepted h.units (u ∷ []) a.known);

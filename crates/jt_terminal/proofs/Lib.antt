@@ -5,3 +5,5 @@ mod Accepting
 mod Composing
 mod Filling
 mod Controlling
+mod Speaking
+mod Ruling

@@ -104,10 +104,18 @@ abbrev pub AreSerials : List OneUnit → Type 0
 AreSerials [] = Unit {0}
 AreSerials (unit ∷ units) = (unit.serial < 65536) × AreSerials units
 
+-- the serial of a registration or an authentication has sixteen bits
+abbrev pub IsPhase : Phase → Type 0
+IsPhase Down = Unit {0}
+IsPhase (Registering serial) = serial < 65536
+IsPhase (Authenticating serial) = serial < 65536
+IsPhase (Live serial) = serial < 65536
+
 -- the terminal's own lists are in order, as those that a vault loads are, and it sent no more units than there are
 pub record IsInOrder (s : State) : Type 0 where
   pub order : AreInOrder s.mark s.next s.units s.code
   pub serials : AreSerials s.units
+  pub phase : IsPhase s.phase
   pub mark : s.mark < 65536
   pub next : s.next < 65536
   pub sent : s.sent ≤ length s.units

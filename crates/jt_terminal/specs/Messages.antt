@@ -1,14 +1,13 @@
 -- The messages of a terminal, and the platform's responses. To be believed. Headers and bodies are the standard's.
-use Rattle.std.specs.Prelude.{ℕ, ◌==◌, ◌||◌, Bool, false, List, [], Option, None, Some}
+use Rattle.std.specs.Prelude.{ℕ, ◌==◌, ◌||◌, ◌≡◌, ◌≤◌, Bool, false, List, length, Option, None, IsSomeAnd}
 use Rattle.jt_value.specs.declared.phone.Edition.{Edition}
 use Rattle.jt_value.specs.declared.phone.Edition.TheVariants.{E2013, E2019}
 use Rattle.jt_value.specs.declared.phone.Phone.{Phone}
 use Rattle.jt_header.specs.declared.header.Header.{Header}
 use Rattle.jt_escape.specs.Frame.{framed}
-use Rattle.jt_header.specs.Content.{content_of}
-use Rattle.jt_register.specs.Registration.{register, auth}
-use Rattle.jt_codec.specs.declared.message.Message.{Message}
-use Rattle.jt_codec.specs.declared.message.Message.TheVariants as message
+use Rattle.jt_header.specs.Content.{content_of, IsPhone}
+use Rattle.jt_register.specs.Registration.{register, auth, auth_tail}
+use Rattle.jt_register.specs.declared.auth.AuthTail.{AuthTail}
 use Rattle.jt_terminal.specs.declared.settings.Settings.{Settings}
 
 -- the protocol version of a terminal's headers, which those of 2013 have not
@@ -32,15 +31,23 @@ register_octets settings = (register settings.phone.edition).spell settings.regi
 abbrev pub auth_octets : Settings → List ℕ → List ℕ
 auth_octets settings code = (auth settings.phone.edition).spell (record { code = code; tail = settings.tail })
 
+-- a tail in 2019 alone
+abbrev pub IsTail : Edition → Option AuthTail → Type 0
+IsTail E2013 tail = tail ≡ None
+IsTail E2019 tail = IsSomeAnd tail auth_tail.Fits
+
+-- a good phone, a registration that its edition has octets for, with a plate of at most 255 octets, and a tail in 2019 alone
+pub record AreSettings (settings : Settings) : Type 0 where
+  pub phone : IsPhone settings.phone
+  pub register : (register settings.phone.edition).Fits settings.register
+  pub plate : length settings.register.plate ≤ 255
+  pub tail : IsTail settings.phone.edition settings.tail
+
 -- the platform's general response 0x8001: the serial and the id of the message that is answered, and the result
 pub record Acknowledgement : Type 0 where
   pub reply : ℕ
   pub id : ℕ
   pub result : ℕ
-
-abbrev pub acknowledged : Message → Option Acknowledgement
-acknowledged (message.PlatformAck reply id result) = Some (record { reply = reply; id = id; result = result })
-acknowledged _ = None
 
 -- success, or an alarm that is handled
 abbrev pub is_acceptance : Acknowledgement → Bool

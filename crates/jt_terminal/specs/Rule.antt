@@ -69,6 +69,18 @@ pub data Event : Type 0 where
   -- a heartbeat is to be sent
   Beat : Event
 
+-- the platform's response that was just read, if it was one
+abbrev pub response_in : Message → Option Acknowledgement
+response_in (message.PlatformAck reply id result) = Some (record { reply = reply; id = id; result = result })
+response_in _ = None
+
+abbrev pub response : Event → Option Acknowledgement
+response Opened = None
+response (Received h m) = response_in m
+response (Tick now) = None
+response Lost = None
+response Beat = None
+
 -- ---- what it does
 
 pub data Step : Type 0 where

@@ -111,7 +111,7 @@ MayStep m just Restarts = Unit {0}
 MayStep m just (Codes code) = Unit {0}
 
 abbrev pub is_in : List ℕ → ℕ → Bool
-is_in serials serial = list_any (λ other. other == serial) serials
+is_in serials serial = list_any (λ other. serial == other) serials
 
 -- the serials of authentications, each once
 abbrev pub auths_by : List ℕ → Header → List ℕ
@@ -133,13 +133,13 @@ stepped m Restarts = without_line m
 stepped m (Codes code) = record m { code = code }
 
 -- the response accepts an authentication of this line
-abbrev pub lets_in : Machine → Option Acknowledgement → Bool
-lets_in m None = false
-lets_in m (Some ack) = (ack.result == 0) && ((ack.id == 0x0102) && is_in m.auths ack.reply)
+abbrev pub lets_in : List ℕ → Acknowledgement → Bool
+lets_in auths ack = (ack.result == 0) && ((ack.id == 0x0102) && is_in auths ack.reply)
 
 -- the terminal once it read this response, if it read one
 abbrev pub hears : Machine → Option Acknowledgement → Machine
-hears m just = record m { ready = m.ready || lets_in m just }
+hears m None = m
+hears m (Some ack) = record m { ready = m.ready || lets_in m.auths ack }
 
 abbrev pub unit_octets : Phone → Option Row → List ℕ
 unit_octets phone None = []

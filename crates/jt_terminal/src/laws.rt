@@ -1,6 +1,6 @@
 //! Laws of the terminal's rule, which is defined in specs/Rule.
 
-ghost use Rattle.jt_terminal.specs.Law.{ControlKeepsTheLastPlace, EachAcceptanceIsSteps, EachWindowIsSteps, FittingIsGreatest, UnitCarriesFirstFixes};
+ghost use Rattle.jt_terminal.specs.Law.{ControlKeepsTheLastPlace, FittingIsGreatest, RuleTakesSteps, UnitCarriesFirstFixes};
 
 /// Units are formed of the first fixes that wait: as many as a body of at most 1,023 octets can carry.
 pub fn law_forming()
@@ -10,11 +10,10 @@ pub fn law_forming()
     jt_position::law_fixes();
 }
 
-/// What the rule does while a terminal is Live is steps that any terminal may take.
+/// What the rule does at each event is steps that any terminal may take, and control messages keep the last serial for a unit.
 pub fn law_rule()
     ensures control { ControlKeepsTheLastPlace }
-    ensures window { EachWindowIsSteps }
-    ensures acceptance { EachAcceptanceIsSteps }
+    ensures steps { RuleTakesSteps }
 {
     jt_position::law_fixes();
 }
