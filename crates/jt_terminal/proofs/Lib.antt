@@ -7,3 +7,4 @@ mod Filling
 mod Controlling
 mod Speaking
 mod Ruling
+mod Cutting

@@ -1,5 +1,5 @@
 -- The laws of the terminal's rule. To be believed.
-use Rattle.std.specs.Prelude.{◌≡◌, ◌≢◌, ℕ, suc, ◌+◌, ◌<◌, ◌≤◌, List, [], ◌∷◌, length, take, drop, Option, None, Some, IsTrue, ◌^◌, All}
+use Rattle.std.specs.Prelude.{◌≡◌, ◌≢◌, ℕ, suc, ◌+◌, ◌<◌, ◌≤◌, List, [], ◌∷◌, ◌++◌, length, take, drop, Option, None, Some, IsTrue, ◌^◌, All}
 use Rattle.jt_value.specs.Serials.{gap_of}
 use Rattle.jt_position.specs.Fixes.{IsFix, fixes_of}
 use Rattle.jt_store.specs.declared.unit.Unit.{Unit as OneUnit}
@@ -7,7 +7,7 @@ use Rattle.jt_store.specs.Vaults.{Held, IsUnit}
 use Rattle.jt_terminal.specs.Forming.{batch_of, body_limit, fitting, unit_of}
 use Rattle.jt_terminal.specs.Messages.{Acknowledgement, AreSettings}
 use Rattle.jt_terminal.specs.Steps.{Machine, MayRun, run, hears}
-use Rattle.jt_terminal.specs.Rule.{State, Event, Ruled, after_control, response, rule}
+use Rattle.jt_terminal.specs.Rule.{State, Event, Ruled, Step, Sends, Says, Changes, Opens, Loses, after_control, down, response, rule}
 use Rattle.jt_terminal.specs.Machines.{machine_of, as_steps, held_after, Agrees, IsInOrder}
 
 -- a batch may have at most 1,023 octets where it has at most so many fixes, and only there
@@ -39,3 +39,22 @@ pub record AreSteps (m : Machine) (held : Held) (just : Option Acknowledgement) 
 abbrev pub RuleTakesSteps : Type 0
 RuleTakesSteps = (held : Held) (s : State) (event : Event) → AreSettings s.settings → IsInOrder s → Agrees held s
     → AreSteps (hears (machine_of held s) (response event)) held (response event) (rule s event)
+
+-- the changes of the vault among these steps, in order, and then the loss of the line
+abbrev pub changes_then_loss : List Step → List Step
+changes_then_loss [] = Loses ∷ []
+changes_then_loss (Changes change ∷ steps) = Changes change ∷ changes_then_loss steps
+changes_then_loss (Sends older unit ∷ steps) = changes_then_loss steps
+changes_then_loss (Says h body ∷ steps) = changes_then_loss steps
+changes_then_loss (Opens ∷ steps) = changes_then_loss steps
+changes_then_loss (Loses ∷ steps) = changes_then_loss steps
+
+-- Wherever these steps are cut short, the changes of the vault so far and then the loss of the line are steps of the machine, and lead to
+-- the machine of the terminal without a line over what the vault then holds.
+abbrev pub AreCutSteps : Held → State → Option Acknowledgement → List Step → Type 0
+AreCutSteps held s just steps = (done left : List Step) → steps ≡ done ++ left → let m = hears (machine_of held s) just in
+    MayRun m just (as_steps m (changes_then_loss done)) × (run m (as_steps m (changes_then_loss done)) ≡ machine_of (held_after done held) (down s))
+
+-- an event that is cut short, as by want of memory, is steps that any terminal may take too
+abbrev pub RuleIsCutInSteps : Type 0
+RuleIsCutInSteps = (held : Held) (s : State) (event : Event) → AreSettings s.settings → IsInOrder s → Agrees held s → AreCutSteps held s (response event) (rule s event).steps

@@ -1,6 +1,6 @@
 //! Laws of the terminal's rule, which is defined in specs/Rule.
 
-ghost use Rattle.jt_terminal.specs.Law.{ControlKeepsTheLastPlace, FittingIsGreatest, RuleTakesSteps, UnitCarriesFirstFixes};
+ghost use Rattle.jt_terminal.specs.Law.{ControlKeepsTheLastPlace, FittingIsGreatest, RuleIsCutInSteps, RuleTakesSteps, UnitCarriesFirstFixes};
 
 /// Units are formed of the first fixes that wait: as many as a body of at most 1,023 octets can carry.
 pub fn law_forming()
@@ -10,10 +10,12 @@ pub fn law_forming()
     jt_position::law_fixes();
 }
 
-/// What the rule does at each event is steps that any terminal may take, and control messages keep the last serial for a unit.
+/// What the rule does at each event, to its end or cut short, is steps that any terminal may take; and control messages leave
+/// the last serial before the limit to a unit.
 pub fn law_rule()
     ensures control { ControlKeepsTheLastPlace }
     ensures steps { RuleTakesSteps }
+    ensures cut { RuleIsCutInSteps }
 {
     jt_position::law_fixes();
 }

@@ -1,3 +1,5 @@
+use Rattle.jt_terminal.specs.Rule.{response, rule}
+use Rattle.jt_terminal.proofs.Cutting.{cut_steps}
 use Rattle.jt_terminal.proofs.Batches.{unit_carries}
 use Rattle.jt_terminal.proofs.Controlling.{last_place}
 use Rattle.jt_terminal.proofs.Ruling.{rule_steps}
@@ -8,3 +10,7 @@ returns-clause-control c = last_place
 
 pub returns-clause-steps : goal.returns-clause-steps
 returns-clause-steps c = rule_steps (unit_carries c.law_fixes.ensures)
+
+pub returns-clause-cut : goal.returns-clause-cut
+returns-clause-cut c = λ held s event good o a.
+    cut_steps held s (response event) (rule s event).steps (rule_steps (unit_carries c.law_fixes.ensures) held s event good o a).may
