@@ -106,7 +106,8 @@ pub fn parse_frame(alloc: Global, content: &[u8]) -> Result<(Header, Message), C
 }
 
 /// The frame of a header and a body of at most 1,023 octets, put into an empty `out` (the standard's framing). The header is
-/// one that is read: of 2013, with a phone of that edition, and a packet number from 1 to the total.
+/// one that is read: of either edition, with a phone of that edition, version 0 in 2013, and a packet number from 1 to the
+/// total.
 pub fn frame_into(header: &Header, body: &[u8], out: &mut ArrayVec<u8, 2092>)
     requires header { IsHeader header.now }
     requires body { length body.now < 2 ^ 10 }

@@ -2,3 +2,4 @@ pub mod Memory
 pub mod Registry
 pub mod Tables
 pub mod Vaults
+pub mod Verdicts

@@ -4,7 +4,7 @@ ghost use Rattle.std.specs.Prelude.{◌≡◌, IfOk};
 
 use jt_position::Fix;
 use jt_value::{Memory, Octets, Seq};
-use std::alloc::Global;
+use std::alloc::{AllocError, Global};
 
 /// A message with fixes that is sent until it is accepted. It fits one packet.
 #[derive(Drop)]
@@ -37,15 +37,23 @@ pub struct Loaded {
     pub accepted: u64,
 }
 
-/// The same unit again.
-pub(crate) fn copy_unit(alloc: Global, unit: &Unit) -> Result<Unit, Memory>
-    ensures { IfOk result (λ copy. copy ≡ unit.now) }
+impl Clone for Unit {
+    ghost is_clone = { λ unit clone. clone ≡ unit };
+
+    fn clone(&self) -> Result<Unit, AllocError> {
+        Ok(Unit {
+            serial: self.serial,
+            id: self.id,
+            body: self.body.clone()?,
+            count: self.count,
+        })
+    }
+}
+
+/// The list of a slice's items, whose clones equal them.
+pub(crate) fn copy_slice<T: Clone + Drop>(alloc: Global, items: &[T]) -> Result<Seq<T>, Memory>
+    requires { (item clone : T) → T.is_clone item clone → clone ≡ item }
+    ensures { IfOk result (λ copy. copy ≡ items.now) }
 {
-    let body = unit.body.copy(alloc)?;
-    Ok(Unit {
-        serial: unit.serial,
-        id: unit.id,
-        body,
-        count: unit.count,
-    })
+    Ok(Seq::from_vec(Vec::from_clones(alloc, items)?))
 }

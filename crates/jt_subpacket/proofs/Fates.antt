@@ -1,12 +1,12 @@
 -- What a packet is told, and what is left then.
-use Rattle.std.proofs.Common.{◌≡◌, ℕ, zero, suc, ◌+◌, ◌≤◌, ◌<◌, Bool, true, false, cond, not, eqb, ◌||◌, List, [], ◌∷◌, ◌++◌, length, Option, Some, None, refl, sym, ap, subst, ◌∙◌, arith, inl, inr}
+use Rattle.std.proofs.Common.{◌≡◌, ℕ, Bool, true, false, eqb, List, [], ◌∷◌, refl, sym, ap, ◌∙◌, arith}
 use Rattle.std.specs.Prelude.{IsTrue, slice_set}
 use Rattle.std.specs.List.{remove}
 use Rattle.std.specs.FinMap.{contains_key}
 use Rattle.std.proofs.lemmas.Bool.{cond-true, eq-eqb, both_ways}
 use Rattle.jt_subpacket.specs.declared.key.PartKey.{PartKey}
 use Rattle.jt_subpacket.specs.declared.taken.Fate.{Fate}
-use Rattle.jt_subpacket.specs.declared.taken.Fate.TheVariants.{TooMany, Whole, Resend, Repeat, Kept}
+use Rattle.jt_subpacket.specs.declared.taken.Fate.TheVariants.{Whole, Resend}
 use Rattle.jt_subpacket.specs.Partials.{Partial, Pieces, joined, missing, with_piece}
 use Rattle.jt_subpacket.specs.Fates.{told, unfinished}
 use Rattle.jt_subpacket.specs.Steps.{Answers, IsPartial, joined_beside, left_there, missing_beside}

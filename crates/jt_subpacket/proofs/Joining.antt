@@ -1,14 +1,13 @@
 -- The packets of one message, in any order and with repeats, are joined to it.
-use Rattle.std.proofs.Common.{◌≡◌, ℕ, zero, suc, ◌+◌, ◌-◌, ◌*◌, ◌≤◌, ◌<◌, ◌%◌, ◌^◌, Bool, true, false, cond, not, eqb, ltb, ◌||◌, ◌&&◌, List, [], ◌∷◌, ◌++◌, length, drop, Option, Some, None, refl, sym, ap, subst, ◌∙◌, arith, inl, inr}
-use Rattle.std.specs.Prelude.{slice_get}
+use Rattle.std.proofs.Common.{◌≡◌, ℕ, zero, suc, ◌+◌, ◌-◌, ◌≤◌, ◌<◌, ◌%◌, ◌^◌, Bool, true, false, cond, not, eqb, ltb, ◌||◌, ◌&&◌, List, [], ◌∷◌, ◌++◌, length, drop, Option, Some, None, refl, sym, ap, subst, ◌∙◌, arith, inl, inr}
 use Rattle.std.specs.FinMap.{get, insert, empty, contains_key, get-empty}
-use Rattle.std.specs.List.{filter, flat_map, list_any, AllByRecursion}
-use Rattle.std.specs.Option.{unwrap_or, is_some, option_map}
+use Rattle.std.specs.List.{filter, list_any, AllByRecursion}
+use Rattle.std.specs.Option.{unwrap_or, is_some}
 use Rattle.std.specs.Ordering.{nat_cmp}
-use Rattle.std.proofs.lemmas.Bool.{cond-true, cond-false, eqb-true, eq-eqb, ne_eqb, cases_Bool, cases_eq, cond_both, both_ways, or_left, or_right, le-ltb, lt-ltb}
+use Rattle.std.proofs.lemmas.Bool.{cond-true, cond-false, eqb-true, eq-eqb, ne_eqb, cases_Bool, cases_eq, cond_both, both_ways, or_left, or_right, le-ltb}
 use Rattle.std.proofs.lemmas.List.{append-nil, length_push}
 use Rattle.std.proofs.lemmas.List.Concat.{flat_map-append}
-use Rattle.std.proofs.lemmas.Option.{same_Some, none-some}
+use Rattle.std.proofs.lemmas.Option.{none-some}
 use Rattle.jt_header.specs.declared.header.Header.{Header}
 use Rattle.jt_header.specs.declared.header.Packet.{Packet}
 use Rattle.jt_subpacket.specs.declared.key.PartKey.{PartKey}
@@ -37,12 +36,12 @@ nil_all t zero e n low high = absurd (omega arith)
 nil_all t (suc k) e n low high =
     elim (cases_Bool (t (suc k))) [
       | inl here ↦
-        elim (cases_eq n (suc k)) [
-          | inl same ↦ ap t same ∙ here
-          | inr apart ↦
-            let below : n ≤ k = omega arith in
-            nil_all t k (sym (passing_more t k ∙ cond-true (t (suc k)) _ _ here) ∙ e) n low below
-        ]
+          elim (cases_eq n (suc k)) [
+            | inl same ↦ ap t same ∙ here
+            | inr apart ↦
+                let below : n ≤ k = omega arith in
+                nil_all t k (sym (passing_more t k ∙ cond-true (t (suc k)) _ _ here) ∙ e) n low below
+          ]
       | inr none ↦ absurd (none_pushed _ (suc k) (sym (passing_more t k ∙ cond-false (t (suc k)) _ _ none) ∙ e))
     ]
 
@@ -75,23 +74,23 @@ module _ (octets : ℕ → List ℕ) where
       let n = number_of q in
       elim (cases_Bool (contains_key m n)) [
         | inl there ↦
-          ap (λ (p : Pieces). get p k) (cond-true (contains_key m n) m (insert m n q.1) there) ∙ are k
-          ∙ elim (cases_eq n k) [
-            | inl same ↦
-              let had : has packets k ≡ true = ap (has packets) (sym same) ∙ sym (contains_is packets m are n) ∙ there in
-              cond-true (has packets k) _ _ had ∙ sym (cond-true (eqb n k || has packets k) _ _ (or_left (eqb n k) (has packets k) (eq-eqb n k same)))
-            | inr apart ↦ ap (λ b. cond (b || has packets k) (Some (octets k)) None) (sym (ne_eqb n k apart))
-          ]
+            ap (λ (p : Pieces). get p k) (cond-true (contains_key m n) m (insert m n q.1) there) ∙ are k
+            ∙ elim (cases_eq n k) [
+              | inl same ↦
+                  let had : has packets k ≡ true = ap (has packets) (sym same) ∙ sym (contains_is packets m are n) ∙ there in
+                  cond-true (has packets k) _ _ had ∙ sym (cond-true (eqb n k || has packets k) _ _ (or_left (eqb n k) (has packets k) (eq-eqb n k same)))
+              | inr apart ↦ ap (λ b. cond (b || has packets k) (Some (octets k)) None) (sym (ne_eqb n k apart))
+            ]
         | inr absent ↦
-          ap (λ (p : Pieces). get p k) (cond-false (contains_key m n) m (insert m n q.1) absent) ∙ get_put m n q.1 k
-          ∙ elim (cases_eq n k) [
-            | inl same ↦
-              cond-true (eqb k n) _ _ (eq-eqb k n (sym same)) ∙ ap (λ o. Some o) (body ∙ ap octets same)
-              ∙ sym (cond-true (eqb n k || has packets k) _ _ (or_left (eqb n k) (has packets k) (eq-eqb n k same)))
-            | inr apart ↦
-              cond-false (eqb k n) _ _ (ne_eqb k n (λ e. apart (sym e))) ∙ are k
-              ∙ ap (λ b. cond (b || has packets k) (Some (octets k)) None) (sym (ne_eqb n k apart))
-          ]
+            ap (λ (p : Pieces). get p k) (cond-false (contains_key m n) m (insert m n q.1) absent) ∙ get_put m n q.1 k
+            ∙ elim (cases_eq n k) [
+              | inl same ↦
+                  cond-true (eqb k n) _ _ (eq-eqb k n (sym same)) ∙ ap (λ o. Some o) (body ∙ ap octets same)
+                  ∙ sym (cond-true (eqb n k || has packets k) _ _ (or_left (eqb n k) (has packets k) (eq-eqb n k same)))
+              | inr apart ↦
+                  cond-false (eqb k n) _ _ (ne_eqb k n (λ e. apart (sym e))) ∙ are k
+                  ∙ ap (λ b. cond (b || has packets k) (Some (octets k)) None) (sym (ne_eqb n k apart))
+            ]
       ]
 
   nil_there : (total : ℕ) (packets : List Message) (m : Pieces) → AreOf octets packets m → missing total m ≡ [] → AreAllThere total packets
@@ -148,14 +147,16 @@ module _ (key : PartKey) where
   updated_kept (p ∷ ps) was m e =
       elim (cases_Bool (same_key p.key key)) [
         | inl same ↦
-          let is : updated key m (p ∷ ps) ≡ record { key = p.key; pieces = m } ∷ ps = cond-true (same_key p.key key) _ _ same in
-          (ap (kept_of key) is ∙ cond-true (same_key p.key key) _ _ same,
-           ap (without key) is ∙ cond-true (same_key p.key key) ps _ same ∙ sym (cond-true (same_key p.key key) ps _ same))
+            let is : updated key m (p ∷ ps) ≡ record { key = p.key; pieces = m } ∷ ps = cond-true (same_key p.key key) _ _ same in (
+              ap (kept_of key) is ∙ cond-true (same_key p.key key) _ _ same,
+              ap (without key) is ∙ cond-true (same_key p.key key) ps _ same ∙ sym (cond-true (same_key p.key key) ps _ same),
+            )
         | inr apart ↦
-          let is : updated key m (p ∷ ps) ≡ p ∷ updated key m ps = cond-false (same_key p.key key) _ _ apart in
-          let rest = updated_kept ps was m (sym (cond-false (same_key p.key key) _ _ apart) ∙ e) in
-          (ap (kept_of key) is ∙ cond-false (same_key p.key key) _ _ apart ∙ rest.0,
-           ap (without key) is ∙ cond-false (same_key p.key key) _ _ apart ∙ ap (λ l. p ∷ l) rest.1 ∙ sym (cond-false (same_key p.key key) _ _ apart))
+            let is : updated key m (p ∷ ps) ≡ p ∷ updated key m ps = cond-false (same_key p.key key) _ _ apart in
+            let rest = updated_kept ps was m (sym (cond-false (same_key p.key key) _ _ apart) ∙ e) in (
+              ap (kept_of key) is ∙ cond-false (same_key p.key key) _ _ apart ∙ rest.0,
+              ap (without key) is ∙ cond-false (same_key p.key key) _ _ apart ∙ ap (λ l. p ∷ l) rest.1 ∙ sym (cond-false (same_key p.key key) _ _ apart),
+            )
       ]
 
 -- ---- one packet more
@@ -172,7 +173,7 @@ kept_apart id serial body e = cc
 not_whole : (key : PartKey) (number : ℕ) (was now : Pieces) → IsWhole (unfinished key number was now) → ⊥
 not_whole key number was now =
     cond_both (eqb number key.total) _ _ (λ (f : Fate). IsWhole f → ⊥) (λ _ w. resend_apart _ _ _ _ _ w.3) (λ _.
-      cond_both (contains_key was number) _ _ (λ (f : Fate). IsWhole f → ⊥) (λ _ w. repeat_apart _ _ _ w.3) (λ _ w. kept_apart _ _ _ w.3))
+    cond_both (contains_key was number) _ _ (λ (f : Fate). IsWhole f → ⊥) (λ _ w. repeat_apart _ _ _ w.3) (λ _ w. kept_apart _ _ _ w.3))
 
 left_some : (key : PartKey) (now : Pieces) (ps : List Partial) (ms : List ℕ) → (ms ≡ [] → ⊥) → left key now ms ps ≡ updated key now ps
 left_some key now ps [] some = absurd (some refl)
@@ -205,17 +206,19 @@ module _ (key : PartKey) (octets : ℕ → List ℕ) where
       let kept = updated_kept key ps was now e in
       record {
         whole = λ all.
-          let nil : missing key.total now ≡ [] = there_nil octets key.total (q ∷ packets) now are all in
-          (ap (told key n was now) nil ∙ ap (Whole key.id key.first) (joined_there octets key.total (q ∷ packets) now are all),
-           ap (λ ms. kept_of key (left key now ms ps)) nil ∙ holds.one);
+            let nil : missing key.total now ≡ [] = there_nil octets key.total (q ∷ packets) now are all in (
+              ap (told key n was now) nil ∙ ap (Whole key.id key.first) (joined_there octets key.total (q ∷ packets) now are all),
+              ap (λ ms. kept_of key (left key now ms ps)) nil ∙ holds.one,
+            );
         before = λ some.
-          let more : missing key.total now ≡ [] → ⊥ = λ nil. some (nil_there octets key.total (q ∷ packets) now are nil) in
-          let stays : left key now (missing key.total now) ps ≡ updated key now ps = left_some key now ps (missing key.total now) more in
-          (λ w. not_whole key n was now (subst IsWhole (told_some key n was now (missing key.total now) more) w),
-           record {
-             pieces = λ k. ap (λ l. get (unwrap_or (kept_of key l) empty) k) stays ∙ ap (λ (o : Option Pieces). get (unwrap_or o empty) k) kept.0 ∙ are k;
-             one = ap (λ l. kept_of key (without key l)) stays ∙ ap (kept_of key) kept.1 ∙ holds.one;
-           });
+            let more : missing key.total now ≡ [] → ⊥ = λ nil. some (nil_there octets key.total (q ∷ packets) now are nil) in
+            let stays : left key now (missing key.total now) ps ≡ updated key now ps = left_some key now ps (missing key.total now) more in (
+              λ w. not_whole key n was now (subst IsWhole (told_some key n was now (missing key.total now) more) w),
+              record {
+                pieces = λ k. ap (λ l. get (unwrap_or (kept_of key l) empty) k) stays ∙ ap (λ (o : Option Pieces). get (unwrap_or o empty) k) kept.0 ∙ are k;
+                one = ap (λ l. kept_of key (without key l)) stays ∙ ap (kept_of key) kept.1 ∙ holds.one;
+              },
+            );
       }
 
   pushed : (ps : List Partial) (packets : List Message) (m : Pieces) → kept_of key ps ≡ None → AreOf octets packets m → Holds key octets packets (ps ++ record { key = key; pieces = m } ∷ [])
@@ -246,8 +249,8 @@ module _ (key : PartKey) (octets : ℕ → List ℕ) where
       record {
         whole = λ all. absurd (not_all packets q several old all);
         before = λ _. cond_both (ltb (length ps) 4) _ _ (λ (t : Taken). (IsWhole t.fate → ⊥) × Holds key octets (q ∷ packets) t.partial)
-          (λ _. (not_whole key n empty now, pushed ps (q ∷ packets) now e are))
-          (λ _. (not_whole key n empty now, pushed (drop 1 ps) (q ∷ packets) now (drop_none key ps e) are));
+            (λ _. (not_whole key n empty now, pushed ps (q ∷ packets) now e are))
+            (λ _. (not_whole key n empty now, pushed (drop 1 ps) (q ∷ packets) now (drop_none key ps e) are));
       }
 
   stepped : (ps : List Partial) (packets : List Message) (q : Message) (was : Option Pieces) → kept_of key ps ≡ was → 2 ≤ key.total → Holds key octets packets ps → q.1 ≡ octets (number_of q)
@@ -326,13 +329,14 @@ module _ (key : PartKey) (octets : ℕ → List ℕ) where
   law_whole ps packets q is e are some all =
       elim (cases_eq key.total 1) [
         | inl one ↦
-          let told_only = only_told (left_over ps packets) q is one are.0 in
-          (ap (λ (t : Taken). t.fate) told_only ∙ only_whole q is one are.0,
-           ap (λ (t : Taken). kept_of key t.partial) told_only ∙ ap (λ l. kept_of key (left_over ps l)) (nothing_yet packets one are.1 some) ∙ e)
+            let told_only = only_told (left_over ps packets) q is one are.0 in (
+              ap (λ (t : Taken). t.fate) told_only ∙ only_whole q is one are.0,
+              ap (λ (t : Taken). kept_of key t.partial) told_only ∙ ap (λ l. kept_of key (left_over ps l)) (nothing_yet packets one are.1 some) ∙ e,
+            )
         | inr several ↦
-          let low = is.some in
-          let two : 2 ≤ key.total = omega arith in
-          (one_step (left_over ps packets) packets q is are.0 two (after ps packets is two e are.1 some)).whole all
+            let low = is.some in
+            let two : 2 ≤ key.total = omega arith in
+            (one_step (left_over ps packets) packets q is are.0 two (after ps packets is two e are.1 some)).whole all
       ]
 
   law_before : (ps : List Partial) (packets : List Message) (q : Message) → IsKey key → kept_of key ps ≡ None → AllByRecursion (IsPacketOf key octets) (q ∷ packets)
@@ -341,9 +345,9 @@ module _ (key : PartKey) (octets : ℕ → List ℕ) where
       elim (cases_eq key.total 1) [
         | inl one ↦ absurd (some (only_there q packets one are.0))
         | inr several ↦
-          let low = is.some in
-          let two : 2 ≤ key.total = omega arith in
-          ((one_step (left_over ps packets) packets q is are.0 two (after ps packets is two e are.1 (λ all. some (more_there q packets all)))).before some).0
+            let low = is.some in
+            let two : 2 ≤ key.total = omega arith in
+            ((one_step (left_over ps packets) packets q is are.0 two (after ps packets is two e are.1 (λ all. some (more_there q packets all)))).before some).0
       ]
 
 pub joined_once : IsJoinedOnce
@@ -384,11 +388,11 @@ module _ (id serial : ℕ) (whole : List ℕ) where
   names_as : (ps : List Partial) (h : Header) (body : List ℕ) (packet : Packet) → h.serial < 2 ^ 16 → 1 ≤ packet.number → packet.number ≤ packet.total → Names (key_of h packet) (taken_as ps h body packet).fate
   names_as ps h body packet small low high =
       cond_both (ltb 256 packet.total) _ _ (λ (t : Taken). Names (key_of h packet) t.fate) (λ _ e. absurd (too_many_apart packet.total id serial whole e)) (λ _.
-        cond_both (eqb packet.total 1) _ _ (λ (t : Taken). Names (key_of h packet) t.fate)
-        (λ one e.
-          let parts = whole_parts h.id h.serial id serial body whole e in
-          (parts.0, parts.1 ∙ only_serial h.serial packet.number packet.total small low high (eqb-true packet.total 1 one)))
-        (λ _. names_in ps (key_of h packet) packet.number body (kept_of (key_of h packet) ps)))
+      cond_both (eqb packet.total 1) _ _ (λ (t : Taken). Names (key_of h packet) t.fate)
+      (λ one e.
+      let parts = whole_parts h.id h.serial id serial body whole e in
+      (parts.0, parts.1 ∙ only_serial h.serial packet.number packet.total small low high (eqb-true packet.total 1 one)))
+      (λ _. names_in ps (key_of h packet) packet.number body (kept_of (key_of h packet) ps)))
 
 pub named : IsNamedByItsPackets
 named ps h body whole id serial small low packet is high e =

@@ -1,9 +1,8 @@
 -- What holds of all that an assembler keeps goes on to hold, and bounds it.
-use Rattle.std.proofs.Common.{◌≡◌, ℕ, zero, suc, ◌+◌, ◌-◌, ◌*◌, ◌≤◌, ◌<◌, Bool, true, false, cond, eqb, ltb, List, [], ◌∷◌, ◌++◌, length, drop, Option, Some, None, refl, sym, ap, subst, ◌∙◌, arith, inl, inr}
+use Rattle.std.proofs.Common.{◌≡◌, ℕ, zero, suc, ◌+◌, ◌*◌, ◌≤◌, ◌<◌, Bool, true, false, cond, eqb, ltb, List, [], ◌∷◌, ◌++◌, length, drop, Option, Some, None, refl, sym, ap, subst, ◌∙◌, arith, inl, inr}
 use Rattle.std.specs.Prelude.{slice_get}
 use Rattle.std.specs.Cmp.{nat_cmp_total}
 use Rattle.std.specs.FinMap.{get, len, insert, empty, contains_key, get-empty, len-insert, len-empty}
-use Rattle.std.specs.List.{flat_map}
 use Rattle.std.specs.Option.{unwrap_or, is_some}
 use Rattle.std.specs.Ordering.{nat_cmp}
 use Rattle.std.proofs.lemmas.Bool.{cond-true, cond-false, eqb-true, cases_Bool, cond_both, eqb-false, ltb-false, ltb-true}
@@ -15,19 +14,18 @@ use Rattle.jt_header.specs.declared.header.Packet.{Packet}
 use Rattle.jt_subpacket.specs.declared.key.PartKey.{PartKey}
 use Rattle.jt_subpacket.specs.Partials.{IsBounded, Partial, Pieces, all_octets_kept, joined, key_of, kept_of, missing, numbers, octets_kept, piece, same_key, updated, with_piece, without}
 use Rattle.jt_subpacket.specs.Fates.{Taken, begins, goes_on, left, taken_as, taken_in}
-use Rattle.jt_subpacket.specs.Steps.{AreKept, IsPartial, missing_beside}
+use Rattle.jt_subpacket.specs.Steps.{AreKept, IsPartial}
 use Rattle.jt_subpacket.proofs.Maps.{get_put, missing_with}
 use Rattle.jt_subpacket.proofs.Missing.{count_beside, count_more}
 use Rattle.jt_subpacket.proofs.Places.{same_key_is}
-use Rattle.jt_subpacket.proofs.Packets.{get_left, get_last}
 
 -- ---- the pieces of one message
 
 -- what holds of pieces, whole or not
-record AreSound (total : ℕ) (m : Pieces) : Type 0 where
-  count : len m + length (missing total m) ≡ total
-  own : (number : ℕ) (octets : List ℕ) → get m number ≡ Some octets → (1 ≤ number) × (number ≤ total)
-  short : (number : ℕ) (octets : List ℕ) → get m number ≡ Some octets → length octets ≤ 1023
+pub record AreSound (total : ℕ) (m : Pieces) : Type 0 where
+  pub count : len m + length (missing total m) ≡ total
+  pub own : (number : ℕ) (octets : List ℕ) → get m number ≡ Some octets → (1 ≤ number) × (number ≤ total)
+  pub short : (number : ℕ) (octets : List ℕ) → get m number ≡ Some octets → length octets ≤ 1023
 
 pub none_in : (number : ℕ) → contains_key (empty {X = List ℕ} {R = nat_cmp}) number ≡ false
 none_in number = ap is_some (get-empty nat_cmp number)
@@ -38,7 +36,7 @@ all_missing (suc n) =
     let more = count_more (contains_key (empty {X = List ℕ} {R = nat_cmp})) n ∙ ap (λ b. length (missing n empty) + cond b 0 1) (none_in (suc n)) in
     omega (arith, more, all_missing n)
 
-sound_empty : (total : ℕ) → AreSound total empty
+pub sound_empty : (total : ℕ) → AreSound total empty
 sound_empty total = record {
   count = omega (arith, all_missing total, len-empty nat_cmp (List ℕ));
   own = λ number octets e. absurd (none-some octets (sym (get-empty nat_cmp number) ∙ e));
@@ -68,7 +66,7 @@ sound_put total m number body sound none low high small is =
       short = at_put m number body (λ n octets. length octets ≤ 1023) small sound.short;
     }
 
-sound_with : (total : ℕ) (m : Pieces) (number : ℕ) (body : List ℕ) → AreSound total m → 1 ≤ number → number ≤ total → length body ≤ 1023 → AreSound total (with_piece m number body)
+pub sound_with : (total : ℕ) (m : Pieces) (number : ℕ) (body : List ℕ) → AreSound total m → 1 ≤ number → number ≤ total → length body ≤ 1023 → AreSound total (with_piece m number body)
 sound_with total m number body sound low high small =
     elim (cases_Bool (contains_key m number)) [
       | inl has ↦ subst (AreSound total) (sym (cond-true (contains_key m number) m (insert m number body) has)) sound
@@ -77,7 +75,7 @@ sound_with total m number body sound low high small =
           subst (AreSound total) (sym is) (sound_put total m number body sound none low high small is)
     ]
 
-sound_of : (p : Partial) → IsPartial p → AreSound p.key.total p.pieces
+pub sound_of : (p : Partial) → IsPartial p → AreSound p.key.total p.pieces
 sound_of p kept = record { count = kept.count; own = kept.own; short = kept.short }
 
 partial_of : (key : PartKey) (m : Pieces) → 2 ≤ key.total → key.total ≤ 256 → AreSound key.total m → 0 < length (missing key.total m) → IsPartial (record { key = key; pieces = m })
@@ -143,7 +141,7 @@ module _ (key : PartKey) where
   length_updated now [] = omega arith
   length_updated now (p ∷ ps) = let rest = length_updated now ps in length_cond (same_key p.key key) (record { key = p.key; pieces = now } ∷ ps) (p ∷ updated key now ps) (suc (length ps)) (omega arith) (omega arith)
 
-  kept_partial : (ps : List Partial) (was : Pieces) → Each ps → kept_of key ps ≡ Some was → IsPartial (record { key = key; pieces = was })
+  pub kept_partial : (ps : List Partial) (was : Pieces) → Each ps → kept_of key ps ≡ Some was → IsPartial (record { key = key; pieces = was })
   kept_partial [] was each e = absurd (none-some was e)
   kept_partial (p ∷ ps) was each e =
       elim (cases_Bool (same_key p.key key)) [
@@ -201,7 +199,7 @@ length_piece : (o : Option (List ℕ)) → ((octets : List ℕ) → o ≡ Some o
 length_piece None short = omega arith
 length_piece (Some octets) short = short octets refl
 
-length_joined : (m : Pieces) (n : ℕ) → ((number : ℕ) (octets : List ℕ) → get m number ≡ Some octets → length octets ≤ 1023) → length (joined n m) ≤ n * 1023
+pub length_joined : (m : Pieces) (n : ℕ) → ((number : ℕ) (octets : List ℕ) → get m number ≡ Some octets → length octets ≤ 1023) → length (joined n m) ≤ n * 1023
 length_joined m zero short = omega arith
 length_joined m (suc n) short =
     let split = ap length (flat_map-append (piece m) (numbers n) (suc n ∷ []) ∙ ap (λ xs. joined n m ++ xs) (append-nil (piece m (suc n)))) ∙ length-append (joined n m) (piece m (suc n)) in

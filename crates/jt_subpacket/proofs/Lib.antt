@@ -5,3 +5,5 @@ pub mod Fates
 pub mod Places
 pub mod Kept
 pub mod Joining
+pub mod RoundTrip
+pub mod Limits

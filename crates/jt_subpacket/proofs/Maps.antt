@@ -1,22 +1,20 @@
 -- The entries of std's map, seen as a finite map, and what is there once one number more is.
-use Rattle.std.proofs.Common.{Less, ◌≡◌, ℕ, zero, suc, ◌+◌, ◌≤◌, ◌<◌, Bool, true, false, cond, not, eqb, ◌&&◌, ◌||◌, List, [], ◌∷◌, ◌++◌, length, Option, Some, None, is_some, refl, sym, ap, subst, ◌∙◌, arith, inl, inr, add-one}
-use Rattle.std.specs.Prelude.{T, ◌⊎◌}
+use Rattle.std.proofs.Common.{Less, ◌≡◌, ℕ, Bool, true, false, cond, not, eqb, ◌&&◌, ◌||◌, List, [], ◌∷◌, length, Option, Some, None, is_some, refl, sym, ap, subst, ◌∙◌, arith, inl, inr}
+use Rattle.std.specs.Prelude.{T}
 use Rattle.std.specs.BTreeMap as tree
 use Rattle.std.specs.Cmp.{nat_cmp_total}
 use Rattle.std.specs.FinMap.Entries.{below_all}
-use Rattle.std.specs.FinMap.{get, len, entries, insert, empty, contains_key, find, is_sorted, from_entries, from_sorted, get-empty, get-insert, get-from_entries, get-from_sorted, len-entries, len-insert, len-empty, same_map, nat_cmp-IsAntisymmetric, entries-from_sorted}
+use Rattle.std.specs.FinMap.{get, len, entries, insert, contains_key, find, is_sorted, from_entries, from_sorted, get-insert, get-from_entries, get-from_sorted, len-entries, same_map, nat_cmp-IsAntisymmetric, entries-from_sorted}
 use Rattle.std.specs.List.{AllByRecursion, filter, flat_map}
 use Rattle.std.specs.List.Sorted.{IsStrictlySortedBy}
 use Rattle.std.specs.Map.{keys_of, lookup}
 use Rattle.std.specs.Option.{unwrap_or}
-use Rattle.std.specs.Ordering.{nat_cmp, eq_by_cmp, is_eq, is_lt}
-use Rattle.std.proofs.lemmas.Bool.{eqb-true, eqb-false, eq-eqb, ne_eqb, cases_lt, cases_Bool, cond-true, cond-false}
+use Rattle.std.specs.Ordering.{nat_cmp, is_eq, is_lt}
+use Rattle.std.proofs.lemmas.Bool.{eqb-true, cases_Bool, cond-true, cond-false}
 use Rattle.std.proofs.lemmas.Bool.Decides.{nat_tests}
-use Rattle.std.proofs.lemmas.List.{length_push, length-append}
-use Rattle.std.proofs.lemmas.List.Concat.{flat_map-append}
 use Rattle.jt_subpacket.specs.declared.key.PartKey.{PartKey}
 use Rattle.jt_subpacket.specs.Partials.{Partial, Pieces, numbers, missing, piece, joined, with_piece}
-use Rattle.jt_subpacket.specs.Steps.{has_beside, missing_beside, piece_beside, joined_beside}
+use Rattle.jt_subpacket.specs.Steps.{has_beside, missing_beside, joined_beside}
 
 -- ---- std's map
 

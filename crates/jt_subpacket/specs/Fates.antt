@@ -1,5 +1,5 @@
 -- What one more packet is told, and the partial messages that packets leave (this project's own rules). To be believed.
-use Rattle.std.specs.Prelude.{◌≡◌, ℕ, ◌==◌, nat_lt, nat_le, if◌then◌else◌, List, [], ◌∷◌, ◌++◌, length, drop, Option, None, Some, slice_get}
+use Rattle.std.specs.Prelude.{◌≤◌, ℕ, ◌==◌, nat_lt, if◌then◌else◌, List, [], ◌∷◌, ◌++◌, length, drop, Option, None, Some, slice_get}
 use Rattle.std.specs.FinMap.{empty, contains_key}
 use Rattle.std.specs.Option.{option_map}
 use Rattle.jt_header.specs.declared.header.Header.{Header}
@@ -58,7 +58,7 @@ abbrev pub taken_in : List Partial → PartKey → ℕ → List ℕ → Option P
 taken_in ps key number body None = begins ps key number body
 taken_in ps key number body (Some was) = goes_on ps key number body was
 
--- a packet of more than 256 is refused, and the only packet of a message is the whole of it
+-- a total above 256 is refused, and the only packet of a message is the whole of it
 abbrev pub taken_as : List Partial → Header → List ℕ → Packet → Taken
 taken_as ps h body packet =
     if nat_lt packet_limit packet.total then record { dropped = None; fate = TooMany packet.total; partial = ps }
@@ -81,3 +81,11 @@ left_over ps (q ∷ packets) = (taken_by (left_over ps packets) q.0 q.1).partial
 -- the partial messages that all packets taken so far leave
 abbrev pub left_by : List Message → List Partial
 left_by packets = left_over [] packets
+
+-- a whole message has at most 261,888 octets, and at most 255 numbers are missing
+abbrev pub IsWithinLimits : Fate → Type 0
+IsWithinLimits (Whole id serial body) = length body ≤ 261888
+IsWithinLimits (Resend first missing) = length missing ≤ 255
+IsWithinLimits (TooMany total) = Unit {0}
+IsWithinLimits Repeat = Unit {0}
+IsWithinLimits Kept = Unit {0}

@@ -1,12 +1,13 @@
 -- The law of packets: those of one message, in any order and with repeats, are joined to it. To be believed.
-use Rattle.std.specs.Prelude.{◌≡◌, ℕ, ◌+◌, ◌-◌, ◌<◌, ◌≤◌, ◌%◌, ◌^◌, ◌==◌, IsTrue, List, [], ◌∷◌, Option, None, Some}
+use Rattle.std.specs.Prelude.{◌≡◌, ℕ, ◌+◌, ◌-◌, ◌<◌, ◌≤◌, ◌%◌, ◌^◌, ◌==◌, IsTrue, List, [], ◌∷◌, length, Option, None, Some, slice_get}
 use Rattle.std.specs.List.{flat_map, list_any, AllByRecursion}
+use Rattle.std.specs.Option.{option_map, unwrap_or}
 use Rattle.jt_header.specs.declared.header.Header.{Header}
 use Rattle.jt_header.specs.declared.header.Packet.{Packet}
 use Rattle.jt_subpacket.specs.declared.key.PartKey.{PartKey}
 use Rattle.jt_subpacket.specs.declared.taken.Fate.{Fate}
 use Rattle.jt_subpacket.specs.declared.taken.Fate.TheVariants.{Whole}
-use Rattle.jt_subpacket.specs.Parts.{Message}
+use Rattle.jt_subpacket.specs.Parts.{InPackets, Message}
 use Rattle.jt_subpacket.specs.Partials.{Partial, first_serial, kept_of, numbers}
 use Rattle.jt_subpacket.specs.Fates.{left_over, taken_by}
 
@@ -77,3 +78,16 @@ IsNamedByItsPackets =
     (ps : List Partial) (h : Header) (body whole : List ℕ) (id serial : ℕ) → h.serial < 2 ^ 16 → 1 ≤ number_in h.packet
     → (packet : Packet) → h.packet ≡ Some packet → packet.number ≤ packet.total
     → (taken_by ps h body).fate ≡ Whole id serial whole → (id ≡ (joined_header h).id) × (serial ≡ (joined_header h).serial)
+
+-- the octets under each number of packets that stand in order
+abbrev pub octets_in : List Message → ℕ → List ℕ
+octets_in packets number = unwrap_or (option_map (λ q. q.1) (slice_get packets (number - 1))) []
+
+-- A message in at most 256 packets is a message in the sense of the law above, and the whole message is its body. So what is split is
+-- joined again, in whatever order its packets come.
+pub record IsSplitAndJoined (h : Header) (body : List ℕ) (packets : List Message) : Type 0 where
+  pub each : (place : ℕ) (q : Message) → slice_get packets place ≡ Some q → IsPacketOf (record { id = h.id; first = h.serial; total = length packets }) (octets_in packets) q
+  pub whole : whole_body (length packets) (octets_in packets) ≡ body
+
+abbrev pub IsJoinedAgain : Type 0
+IsJoinedAgain = (h : Header) (body : List ℕ) (packets : List Message) → length packets ≤ 256 → InPackets h body packets → IsSplitAndJoined h body packets

@@ -1,5 +1,5 @@
 -- What the calls inside an assembler answer, and what holds of all that it keeps. Step definitions for the proofs; no public clause cites them.
-use Rattle.std.specs.Prelude.{◌≡◌, ℕ, zero, suc, ◌+◌, ◌-◌, ◌*◌, ◌≤◌, ◌<◌, Bool, ◌==◌, ◌||◌, not, if◌then◌else◌, List, [], ◌∷◌, ◌++◌, length, take, drop, Option, None, Some, slice_get, slice_set}
+use Rattle.std.specs.Prelude.{◌≡◌, ℕ, zero, suc, ◌+◌, ◌*◌, ◌≤◌, ◌<◌, Bool, ◌==◌, ◌||◌, not, if◌then◌else◌, List, [], ◌∷◌, ◌++◌, length, take, drop, Some, slice_get, slice_set}
 use Rattle.std.specs.FinMap.{get, len, contains_key}
 use Rattle.std.specs.List.{filter, flat_map, remove}
 use Rattle.jt_header.specs.declared.header.Header.{Header}
@@ -29,7 +29,7 @@ has_beside pieces number other = (other == number) || contains_key pieces other
 abbrev pub missing_beside : ℕ → Pieces → ℕ → List ℕ
 missing_beside total pieces number = filter (λ other. not (has_beside pieces number other)) (numbers total)
 
--- what stands under a number once this octets do under that one
+-- what stands under a number once these octets stand under that one
 abbrev pub piece_beside : Pieces → ℕ → List ℕ → ℕ → List ℕ
 piece_beside pieces number body other = if other == number then body else piece pieces other
 
@@ -69,7 +69,7 @@ left_at ps place p number body =
     let now = with_piece p.pieces number body in
     left_there ps place (record { key = p.key; pieces = now }) (missing p.key.total now)
 
--- a call answered this fate of this partial messages, and left those
+-- a packet of this partial message was told this fate, and these messages were left
 pub record Answers (ps : List Partial) (place number : ℕ) (body : List ℕ) (fate : Fate) (now : List Partial) (p : Partial) : Type 0 where
   pub fate_is : fate ≡ fate_at p number body
   pub now_is : now ≡ left_at ps place p number body

@@ -1,5 +1,5 @@
 -- How a partial message is stored as one value. A step definition for the proofs; no public clause cites it.
-use Rattle.std.specs.Prelude.{refl, ℕ, List}
+use Rattle.std.specs.Prelude.{refl, ℕ}
 use Rattle.std.specs.Coded.{Coded, code_by, coded×, coded_ℕ, coded_list}
 use Rattle.std.specs.FinMap.{code}
 use Rattle.jt_subpacket.specs.Partials.{Partial, Pieces}

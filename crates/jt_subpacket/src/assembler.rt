@@ -5,7 +5,7 @@ ghost use Rattle.std.specs.List.{position};
 ghost use Rattle.jt_header.specs.Content.{IsPacket};
 ghost use Rattle.jt_subpacket.specs.Parts.{Message};
 ghost use Rattle.jt_subpacket.specs.Partials.{IsBounded, Partial, same_key};
-ghost use Rattle.jt_subpacket.specs.Fates.{begins, left_by, taken_as, taken_by};
+ghost use Rattle.jt_subpacket.specs.Fates.{IsWithinLimits, begins, left_by, taken_as, taken_by};
 ghost use Rattle.jt_subpacket.specs.Steps.{Answers, AreKept, IsPartial};
 
 use crate::key::PartKey;
@@ -34,7 +34,7 @@ impl Model for Assembler {
     ghost use Rattle.std.specs.Prelude.{List};
     ghost use Rattle.std.specs.Coded.{coded_list};
     ghost use Rattle.jt_subpacket.specs.Partials.{Partial};
-    ghost use Rattle.jt_subpacket.specs.Steps.{Answers, AreKept, IsPartial};
+    ghost use Rattle.jt_subpacket.specs.Steps.{AreKept};
     ghost use Rattle.jt_subpacket.specs.Stored.{partial_code};
 
     ghost Value = { List Partial };
@@ -196,6 +196,7 @@ impl Assembler {
             → OnOk result (self.new ≡ left_by ((header.now, body.now) ∷ packets)) }
         ensures err { OnErr result (self.new ≡ self.old) }
         ensures bound { IsBounded self.new }
+        ensures limits { IfOk result (λ taken. IsWithinLimits taken.fate) }
     {
         match header.packet {
             Some(packet) => {

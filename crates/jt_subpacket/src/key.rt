@@ -1,7 +1,8 @@
 //! Which message a packet is of.
 
-ghost use Rattle.std.specs.Prelude.{◌≡◌, ◌≤◌};
-ghost use Rattle.jt_subpacket.specs.Partials.{key_of, same_key};
+ghost use Rattle.std.specs.Prelude.{◌≡◌};
+ghost use Rattle.jt_subpacket.specs.Joining.{joined_header};
+ghost use Rattle.jt_subpacket.specs.Partials.{first_serial, key_of, same_key};
 
 use jt_header::{Header, Packet};
 
@@ -16,15 +17,34 @@ pub struct PartKey {
     pub total: u16,
 }
 
+// The serial of packet 1 of a message whose packet of this number has this serial.
+fn first_serial(serial: u16, number: u16) -> u16
+    ensures { result ≡ first_serial serial number }
+{
+    serial.wrapping_sub(number.saturating_sub(1))
+}
+
+/// The header of the message that a packet with this header completed: with the serial of packet 1, and without packet fields
+/// (this project's own: the standard names no such header).
+pub fn joined_header(header: &Header) -> Header
+    ensures { result ≡ joined_header header.now }
+{
+    let number = header.packet.map_or(0, |packet| packet.number);
+    Header {
+        serial: first_serial(header.serial, number),
+        packet: None,
+        ..*header
+    }
+}
+
 impl PartKey {
     // The message that a packet is of.
     pub(crate) fn of(header: &Header, packet: Packet) -> PartKey
-        requires { 1 ≤ packet.number }
         ensures { result ≡ key_of header.now packet }
     {
         PartKey {
             id: header.id,
-            first: header.serial.wrapping_sub(packet.number - 1),
+            first: first_serial(header.serial, packet.number),
             total: packet.total,
         }
     }

@@ -9,7 +9,7 @@ mod splitting;
 mod taken;
 
 pub use assembler::Assembler;
-pub use key::PartKey;
+pub use key::{PartKey, joined_header};
 pub use laws::law_of_packets;
 pub use splitting::{SplitError, split};
 pub use taken::{Fate, Taken};

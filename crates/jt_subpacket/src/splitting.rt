@@ -10,10 +10,10 @@ use jt_value::{Memory, Octets, Seq};
 use std::alloc::{AllocError, AllocFailed, Global};
 
 /// The most octets of a packet's body (the standard's header has ten bits for them).
-pub const PACKET_OCTETS: usize = 1023;
+const PACKET_OCTETS: usize = 1023;
 
 /// The most octets of a message's body: 256 packets (this project's own limit).
-pub const BODY_OCTETS: usize = 261_888;
+const BODY_OCTETS: usize = 261_888;
 
 /// Why a message was not split.
 #[derive(Clone, Copy, Debug, PartialEq, Eq)]

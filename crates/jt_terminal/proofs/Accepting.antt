@@ -12,7 +12,8 @@ use Rattle.jt_terminal.specs.Steps.{Machine, MayStep, stepped, past, past_accept
 use Rattle.jt_terminal.specs.Steps as step
 use Rattle.jt_terminal.specs.Rule.{State, accepted, names}
 use Rattle.jt_terminal.specs.Rule as rule
-use Rattle.jt_terminal.specs.Machines.{number_after, row_after, numbered, machine_of, mark_of, is_up, Agrees, IsInOrder, AreSerials}
+use Rattle.jt_store.specs.Verdicts.{number_after, numbered}
+use Rattle.jt_terminal.specs.Machines.{row_after, machine_of, mark_of, is_up, Agrees, IsInOrder, AreSerials}
 use Rattle.jt_terminal.specs.Law.{AreSteps}
 use Rattle.jt_terminal.proofs.Numbering.{length-numbered}
 

@@ -8,7 +8,8 @@ use Rattle.jt_terminal.specs.Steps.{Machine, TerminalStep, MayForm, MayRun, run,
 use Rattle.jt_terminal.specs.Steps as step
 use Rattle.jt_terminal.specs.Rule.{State, Step, Ruled, down}
 use Rattle.jt_terminal.specs.Rule as rule
-use Rattle.jt_terminal.specs.Machines.{machine_of, as_step, as_steps, held_after, row_after, last_number, numbered}
+use Rattle.jt_store.specs.Verdicts.{numbered}
+use Rattle.jt_terminal.specs.Machines.{machine_of, as_step, as_steps, held_after, row_after, last_number}
 use Rattle.jt_terminal.specs.Law.{changes_then_loss, AreCutSteps}
 use Rattle.jt_terminal.proofs.Numbering.{numbered-append}
 use Rattle.jt_terminal.proofs.Composing.{as_steps-append}

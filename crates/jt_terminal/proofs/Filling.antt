@@ -14,7 +14,8 @@ use Rattle.jt_terminal.specs.Messages.{Acknowledgement, is_acceptance}
 use Rattle.jt_terminal.specs.Steps.{Machine, stepped}
 use Rattle.jt_terminal.specs.Rule.{State, Ruled, one_sent, forms_one, sends_one, next_one, or_stays, fill, fills, window, and_then, accepted, names}
 use Rattle.jt_terminal.specs.Rule as rule
-use Rattle.jt_terminal.specs.Machines.{machine_of, is_up, is_live, numbered, held_after, Agrees, IsInOrder}
+use Rattle.jt_store.specs.Verdicts.{numbered}
+use Rattle.jt_terminal.specs.Machines.{machine_of, is_up, is_live, held_after, Agrees, IsInOrder}
 use Rattle.jt_terminal.specs.Law.{AreSteps, UnitCarriesFirstFixes}
 use Rattle.jt_terminal.proofs.Numbering.{length-numbered}
 use Rattle.jt_terminal.proofs.Composing.{and_then_steps, stays_steps}

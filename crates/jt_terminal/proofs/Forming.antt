@@ -15,7 +15,8 @@ use Rattle.jt_terminal.specs.Law.{AreSteps, UnitCarriesFirstFixes}
 use Rattle.jt_terminal.specs.Steps.{Machine, MayForm, stepped, IsPrefixOf, fixes_in, carried, past, past_accepted}
 use Rattle.jt_terminal.specs.Rule.{State}
 use Rattle.jt_terminal.specs.Rule as rule
-use Rattle.jt_terminal.specs.Machines.{number_after, row_after, numbered, machine_of, last_number, mark_of, AreSerials, IsInOrder, Agrees}
+use Rattle.jt_store.specs.Verdicts.{number_after, numbered}
+use Rattle.jt_terminal.specs.Machines.{row_after, machine_of, last_number, mark_of, AreSerials, IsInOrder, Agrees}
 use Rattle.jt_terminal.proofs.Numbering.{Rising, rising, gaps_top, past_number, numbered-append, length-numbered, last-append, past_is, next_number, all_past}
 
 -- ---- lists with one more unit

@@ -7,7 +7,8 @@ use Rattle.jt_store.specs.declared.row.Row.{Row}
 use Rattle.jt_store.specs.declared.unit.Unit.{Unit as OneUnit}
 use Rattle.jt_store.specs.Vaults.{gap_after, Gaps}
 use Rattle.jt_terminal.specs.Steps.{past, past_accepted}
-use Rattle.jt_terminal.specs.Machines.{number_after, row_after, numbered, mark_of, last_number, AreSerials}
+use Rattle.jt_store.specs.Verdicts.{number_after, numbered}
+use Rattle.jt_terminal.specs.Machines.{row_after, mark_of, last_number, AreSerials}
 
 -- gaps of units from the mark rise from low and stay below top
 abbrev pub Rising : ℕ → ℕ → ℕ → List OneUnit → Type 0

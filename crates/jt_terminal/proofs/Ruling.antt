@@ -18,7 +18,8 @@ use Rattle.jt_terminal.specs.Messages.{Acknowledgement, AreSettings, header_of, 
 use Rattle.jt_terminal.specs.Steps.{Machine, hears, lets_in, without_line, auths_by}
 use Rattle.jt_terminal.specs.Rule.{State, Ruled, fills, window, fills_if_live, responded, answered, authenticated, registered, replied, received, response_in, names, beats, beats_if_silent, is_silent, beaten, repeats, again, oldest_again, goes_on, has_passed, sent_again, ticked, gives_up, accepts, and_then}
 use Rattle.jt_terminal.specs.Rule as rule
-use Rattle.jt_terminal.specs.Machines.{machine_of, held_after, numbered, IsPhase, IsInOrder, Agrees}
+use Rattle.jt_store.specs.Verdicts.{numbered}
+use Rattle.jt_terminal.specs.Machines.{machine_of, held_after, IsPhase, IsInOrder, Agrees}
 use Rattle.jt_terminal.specs.Law.{AreSteps, RuleTakesSteps, UnitCarriesFirstFixes}
 use Rattle.jt_terminal.proofs.Numbering.{length-numbered}
 use Rattle.jt_terminal.proofs.Composing.{and_then_steps, stays_steps, behind_any}

@@ -1,10 +1,11 @@
 -- A terminal over a vault that tells what it holds, as the machine of `Steps`; and what stays true between both. To be believed.
 use Rattle.std.specs.Prelude.{◌≡◌, ℕ, ◌+◌, ◌%◌, ◌<◌, ◌≤◌, drop, Bool, true, false, List, [], ◌∷◌, ◌++◌, length, slice_get, Option, None, Some, map, All}
-use Rattle.jt_value.specs.Serials.{gap_of, next_with}
+use Rattle.jt_value.specs.Serials.{gap_of}
 use Rattle.jt_position.specs.Fixes.{IsFix}
 use Rattle.jt_store.specs.declared.row.Row.{Row}
 use Rattle.jt_store.specs.declared.unit.Unit.{Unit as OneUnit}
 use Rattle.jt_store.specs.Vaults.{Held, Change, Notes, Forms, Accepts, Sets, held_by, gap_after, AreInOrder}
+use Rattle.jt_store.specs.Verdicts.{row_of, number_after, numbered}
 use Rattle.jt_terminal.specs.declared.state.Phase.{Phase}
 use Rattle.jt_terminal.specs.declared.state.Phase.TheVariants.{Down, Registering, Authenticating, Live}
 use Rattle.jt_terminal.specs.Steps.{Machine, TerminalStep, stepped, past_accepted, fixes_in}
@@ -14,18 +15,9 @@ use Rattle.jt_terminal.specs.Rule as rule
 
 -- ---- numbers of units
 
--- the number of a unit of this serial behind the unit of this number, or of the first unit
-abbrev pub number_after : Option ℕ → ℕ → ℕ
-number_after None serial = serial
-number_after (Some last) serial = next_with last serial
-
+-- a unit as the row of its number, which is behind this one
 abbrev pub row_after : Option ℕ → OneUnit → Row
-row_after last unit = record { number = number_after last unit.serial; id = unit.id; body = unit.body }
-
--- units with their numbers: each number is the least above the one before it that has the unit's serial
-abbrev pub numbered : Option ℕ → List OneUnit → List Row
-numbered last [] = []
-numbered last (unit ∷ units) = row_after last unit ∷ numbered (Some (number_after last unit.serial)) units
+row_after last unit = row_of (number_after last unit.serial) unit.id unit.body
 
 -- the number of the last unit
 abbrev pub last_number : Option ℕ → List Row → Option ℕ

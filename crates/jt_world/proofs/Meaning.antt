@@ -39,7 +39,6 @@ phone_good = record { len = refl; padded = refl; decimal = refl }
 
 pub header_good : (unit : Row) → unit.id < 65536 → IsHeader (unit_header unit)
 header_good unit small = record {
-  edition = refl;
   id = small;
   version = refl;
   phone_edition = refl;
@@ -57,7 +56,6 @@ unit_content_is unit good = record { header = unit_header_good unit good; short 
 
 pub answer_header_good : (header : Header) (serial : ℕ) → IsHeader header → serial < 65536 → IsHeader (answer_header header serial)
 answer_header_good header serial good lt = record {
-  edition = good.edition;
   id = omega arith;
   version = good.version;
   phone_edition = good.phone_edition;

@@ -1,7 +1,9 @@
+ghost use Rattle.std.specs.Prelude.{◌≡◌};
+
 use jt_header::{Header, Packet};
 use jt_params::{ParamValue, read_params_reply};
-use jt_subpacket::{Assembler, Fate, PartKey, Taken};
-use jt_value::{Edition, Phone};
+use jt_subpacket::{Assembler, Fate, PartKey, Taken, joined_header};
+use jt_value::{Edition, Octets, Phone, Seq};
 use std::test::Fail;
 
 const FRONT: [u8; 2] = *b"\x00\x07";
@@ -9,6 +11,24 @@ const FRONT: [u8; 2] = *b"\x00\x07";
 const MIDDLE: [u8; 10] = *b"\x02\x00\x00\x00\x01\x04\x00\x00\x00\x3c";
 
 const END: [u8; 8] = *b"\x00\x00\x00\x13\x03abc";
+
+// The header of a 0x0104.
+fn header(serial: u16, packet: Option<Packet>) -> Header
+    ensures { result.packet ≡ packet }
+{
+    Header {
+        edition: Edition::E2013,
+        id: 0x0104,
+        bit15: false,
+        version: 0,
+        phone: Phone {
+            edition: Edition::E2013,
+            digits: [0, 0, 0, 0, 0x01, 0x39, 0x12, 0x34, 0x56, 0x78],
+        },
+        serial,
+        packet,
+    }
+}
 
 // What a packet of 0x0104 is told, None for what is no packet.
 fn take(
@@ -21,19 +41,8 @@ fn take(
     if number == 0 || number > total || body.len() > 1023 {
         return None;
     }
-    let header = Header {
-        edition: Edition::E2013,
-        id: 0x0104,
-        bit15: false,
-        version: 0,
-        phone: Phone {
-            edition: Edition::E2013,
-            digits: [0, 0, 0, 0, 0x01, 0x39, 0x12, 0x34, 0x56, 0x78],
-        },
-        serial,
-        packet: Some(Packet { total, number }),
-    };
-    assembler.take(&header, body).ok()
+    let packet = header(serial, Some(Packet { total, number }));
+    assembler.take(&packet, body).ok()
 }
 
 fn is_kept(taken: Option<Taken>) -> bool {
@@ -56,23 +65,35 @@ fn is_repeat(taken: Option<Taken>) -> bool {
     )
 }
 
+// The id, serial and body of a whole message, where no other was dropped.
+fn whole(taken: Option<Taken>) -> Option<(u16, u16, Octets)> {
+    let Taken { dropped, fate } = taken?;
+    match fate {
+        Fate::Whole { id, serial, body } if dropped.is_none() => Some((id, serial, body)),
+        _other => None,
+    }
+}
+
+// What a packet asks for, where no message was dropped.
+fn asked(taken: Option<Taken>) -> Option<(u16, Seq<u16>)> {
+    let Taken { dropped, fate } = taken?;
+    match fate {
+        Fate::Resend { first, missing } if dropped.is_none() => Some((first, missing)),
+        _other => None,
+    }
+}
+
 #[test]
 fn packets_in_any_order(rt: HostRuntime) -> Result<(), Fail> {
     let mut assembler = Assembler::new(rt.alloc());
-    let taken = take(&mut assembler, 12, 3, 3, &END).expect(&rt, "an answer");
-    assert_eq!(rt; taken.dropped, None);
-    let Fate::Resend { first, missing } = taken.fate else {
-        panic!(rt; "the last packet asks for the others");
-    };
+    let last = take(&mut assembler, 12, 3, 3, &END);
+    let (first, missing) = asked(last).expect(&rt, "the last packet asks for the others");
     assert_eq!(rt; first, 10);
     assert_eq!(rt; missing.as_slice(), [1u16, 2].as_slice());
     assert!(rt; is_kept(take(&mut assembler, 10, 3, 1, &FRONT)));
     assert!(rt; is_repeat(take(&mut assembler, 10, 3, 1, &FRONT)));
-    let taken = take(&mut assembler, 11, 3, 2, &MIDDLE).expect(&rt, "an answer");
-    assert_eq!(rt; taken.dropped, None);
-    let Fate::Whole { id, serial, body } = taken.fate else {
-        panic!(rt; "all packets are there");
-    };
+    let second = take(&mut assembler, 11, 3, 2, &MIDDLE);
+    let (id, serial, body) = whole(second).expect(&rt, "all packets are there");
     assert_eq!(rt; (id, serial), (0x0104, 10));
     assert_eq!(rt;
         body.as_slice(),
@@ -108,11 +129,8 @@ fn too_many_packets(rt: HostRuntime) -> Result<(), Fail> {
 #[test]
 fn the_only_packet(rt: HostRuntime) -> Result<(), Fail> {
     let mut assembler = Assembler::new(rt.alloc());
-    let taken = take(&mut assembler, 77, 1, 1, &END).expect(&rt, "an answer");
-    assert_eq!(rt; taken.dropped, None);
-    let Fate::Whole { id, serial, body } = taken.fate else {
-        panic!(rt; "it is the whole message");
-    };
+    let only = take(&mut assembler, 77, 1, 1, &END);
+    let (id, serial, body) = whole(only).expect(&rt, "it is the whole message");
     assert_eq!(rt; (id, serial), (0x0104, 77));
     assert_eq!(rt; body.as_slice(), END.as_slice());
     Ok(())
@@ -145,19 +163,21 @@ fn octets_that_are_kept_stay(rt: HostRuntime) -> Result<(), Fail> {
     assert!(rt; is_repeat(take(&mut assembler, 65_535, 2, 1, &END)));
     // Packets of one id and serial, but another total, are of another message.
     assert!(rt; is_kept(take(&mut assembler, 65_535, 3, 1, &MIDDLE)));
-    let taken = take(&mut assembler, 0, 2, 2, &MIDDLE).expect(&rt, "an answer");
-    let Fate::Whole {
-        id: _,
-        serial,
-        body,
-    } = taken.fate
-    else {
-        panic!(rt; "both packets are there");
-    };
+    let second = take(&mut assembler, 0, 2, 2, &MIDDLE);
+    let (_id, serial, body) = whole(second).expect(&rt, "both packets are there");
     assert_eq!(rt; serial, 65_535);
     assert_eq!(rt;
         body.as_slice(),
         b"\x00\x07\x02\x00\x00\x00\x01\x04\x00\x00\x00\x3c".as_slice()
     );
+    Ok(())
+}
+
+#[test]
+fn headers_of_joined_messages(rt: HostRuntime) -> Result<(), Fail> {
+    for (serial, number, first) in [(10, 1, 10), (12, 3, 10), (0, 2, 65_535), (254, 256, 65_535)] {
+        let packet = header(serial, Some(Packet { total: 256, number }));
+        assert_eq!(rt; joined_header(&packet), header(first, None));
+    }
     Ok(())
 }

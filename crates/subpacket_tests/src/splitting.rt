@@ -82,10 +82,10 @@ fn a_body_of_257_packets_is_too_large(rt: HostRuntime) -> Result<(), Fail> {
 }
 
 // What a packet is told, None for what is no packet.
-fn take(assembler: &mut Assembler, header: &Header, body: &[u8]) -> Option<Taken> {
+fn take(assembler: &mut Assembler, header: Header, body: &[u8]) -> Option<Taken> {
     match header.packet {
         Some(Packet { total, number }) if number > 0 && number <= total && body.len() <= 1023 => {
-            assembler.take(header, body).ok()
+            assembler.take(&header, body).ok()
         }
         _ => None,
     }
@@ -104,7 +104,7 @@ fn packets_of_split_are_joined_in_reverse_order(rt: HostRuntime) -> Result<(), F
     let mut wholes = 0u32;
     for turn in 0..512usize {
         let (header, octets) = packets.get(255 - turn / 2).expect(&rt, "a packet");
-        let taken = take(&mut assembler, header, octets.as_slice()).expect(&rt, "an answer");
+        let taken = take(&mut assembler, *header, octets.as_slice()).expect(&rt, "an answer");
         assert_eq!(rt; taken.dropped, None);
         if let Fate::Whole {
             id,

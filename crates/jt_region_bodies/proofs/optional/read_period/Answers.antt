@@ -1,4 +1,3 @@
-use Rattle.std.proofs.Common.{arith}
 use Rattle.jt_region_bodies.proofs.RegionLaws.{read_both}
 use Rattle.jt_region_bodies.proofs.optional.read_period.Goals as goal
 

@@ -1,0 +1,141 @@
+use crate::keeper_calls::{enrol, put};
+use jt_store::{Keeper, MemKeeper, StoreError};
+use jt_value::{Edition, Phone, Seq};
+use std::alloc::Global;
+use std::test::Fail;
+
+fn phone(edition: Edition, last: u8) -> Phone {
+    Phone {
+        edition,
+        digits: [0, 0, 0, 0, 0x01, 0x39, 0x12, 0x34, 0x56, last],
+    }
+}
+
+fn number_at(
+    alloc: Global,
+    keeper: &mut MemKeeper,
+    phone: &Phone,
+    number: u64,
+) -> Result<Option<u64>, StoreError> {
+    match keeper.row_at(alloc, phone, number)? {
+        Some(row) => Ok(Some(row.number)),
+        None => Ok(None),
+    }
+}
+
+fn number_from(
+    alloc: Global,
+    keeper: &mut MemKeeper,
+    phone: &Phone,
+    number: u64,
+) -> Result<Option<u64>, StoreError> {
+    match keeper.row_from(alloc, phone, number)? {
+        Some(row) => Ok(Some(row.number)),
+        None => Ok(None),
+    }
+}
+
+#[test]
+fn rows_are_found_by_their_numbers(rt: HostRuntime) -> Result<(), Fail> {
+    let alloc = rt.alloc();
+    let old = phone(Edition::E2013, 0x78);
+    let new = phone(Edition::E2019, 0x78);
+    let other = phone(Edition::E2013, 0x79);
+    let mut keeper = MemKeeper::new(alloc, 9, Seq::new(alloc));
+    assert_eq!(rt; keeper.last(alloc, &old), Ok(None));
+    assert_eq!(rt; put(alloc, &mut keeper, &old, 2, 7), Ok(()));
+    assert_eq!(rt; put(alloc, &mut keeper, &new, 5, 8), Ok(()));
+    assert_eq!(rt; number_at(alloc, &mut keeper, &old, 3), Ok(None));
+    assert_eq!(rt; number_at(alloc, &mut keeper, &old, 5), Ok(Some(5)));
+    assert_eq!(rt; keeper.last(alloc, &old), Ok(Some(5)));
+    assert_eq!(rt; number_from(alloc, &mut keeper, &new, 3), Ok(Some(5)));
+    assert_eq!(rt; number_from(alloc, &mut keeper, &new, 6), Ok(None));
+    assert_eq!(rt; keeper.last(alloc, &other), Ok(None));
+    Ok(())
+}
+
+#[test]
+fn a_row_keeps_its_body(rt: HostRuntime) -> Result<(), Fail> {
+    let alloc = rt.alloc();
+    let one = phone(Edition::E2013, 0x78);
+    let mut keeper = MemKeeper::new(alloc, 9, Seq::new(alloc));
+    assert_eq!(rt; put(alloc, &mut keeper, &one, 2, 7), Ok(()));
+    match keeper.row_at(alloc, &one, 2) {
+        Ok(Some(row)) => {
+            assert_eq!(rt; row.id, 0x0200);
+            assert_eq!(rt; row.body.as_slice(), [7].as_slice());
+        }
+        _ => assert!(rt; false),
+    }
+    Ok(())
+}
+
+#[test]
+fn a_full_list_takes_no_row(rt: HostRuntime) -> Result<(), Fail> {
+    let alloc = rt.alloc();
+    let one = phone(Edition::E2013, 0x78);
+    let mut keeper = MemKeeper::new(alloc, 1, Seq::new(alloc));
+    assert_eq!(rt; put(alloc, &mut keeper, &one, 2, 7), Ok(()));
+    assert_eq!(rt;
+        put(alloc, &mut keeper, &one, 3, 7),
+        Err(StoreError::Full(1))
+    );
+    assert_eq!(rt; keeper.last(alloc, &one), Ok(Some(2)));
+    Ok(())
+}
+
+#[test]
+fn registrations_go_and_rows_stay(rt: HostRuntime) -> Result<(), Fail> {
+    let alloc = rt.alloc();
+    let one = phone(Edition::E2013, 0x78);
+    let mut keeper = MemKeeper::new(alloc, 9, Seq::new(alloc));
+    assert_eq!(rt; put(alloc, &mut keeper, &one, 2, 7), Ok(()));
+    assert_eq!(rt; enrol(alloc, &mut keeper, &one, b"AB1", b"T1"), Ok(true));
+    match keeper.registered(alloc, &one) {
+        Ok(Some(registered)) => {
+            assert_eq!(rt; registered.plate.as_slice(), b"AB1".as_slice());
+            assert_eq!(rt; registered.terminal.as_slice(), b"T1".as_slice());
+        }
+        _ => assert!(rt; false),
+    }
+    assert_eq!(rt; keeper.unregister(alloc, &one), Ok(()));
+    match keeper.registered(alloc, &one) {
+        Ok(None) => {}
+        _ => assert!(rt; false),
+    }
+    assert_eq!(rt; keeper.plate_owner(alloc, b"AB1"), Ok(None));
+    assert_eq!(rt; keeper.last(alloc, &one), Ok(Some(2)));
+    Ok(())
+}
+
+#[test]
+fn owners_are_phones_of_2019(rt: HostRuntime) -> Result<(), Fail> {
+    let alloc = rt.alloc();
+    let one = phone(Edition::E2013, 0x78);
+    let other = phone(Edition::E2019, 0x79);
+    let owner = phone(Edition::E2019, 0x78);
+    let mut keeper = MemKeeper::new(alloc, 9, Seq::new(alloc));
+    assert_eq!(rt; enrol(alloc, &mut keeper, &one, b"AB1", b"T1"), Ok(true));
+    assert_eq!(rt; keeper.plate_owner(alloc, b"AB1"), Ok(Some(owner)));
+    assert_eq!(rt; keeper.terminal_owner(alloc, b"T1"), Ok(Some(owner)));
+    assert_eq!(rt; keeper.terminal_owner(alloc, b"AB1"), Ok(None));
+    assert_eq!(rt; enrol(alloc, &mut keeper, &other, b"AB1", b"T2"), Ok(false));
+    assert_eq!(rt; enrol(alloc, &mut keeper, &other, b"AB2", b"T2"), Ok(true));
+    assert_eq!(rt; enrol(alloc, &mut keeper, &owner, b"AB3", b"T1"), Ok(true));
+    assert_eq!(rt; keeper.plate_owner(alloc, b"AB1"), Ok(None));
+    assert_eq!(rt; keeper.plate_owner(alloc, b"AB3"), Ok(Some(owner)));
+    Ok(())
+}
+
+#[test]
+fn listed_calls_fail(rt: HostRuntime) -> Result<(), Fail> {
+    let alloc = rt.alloc();
+    let one = phone(Edition::E2013, 0x78);
+    let mut failing = Seq::new(alloc);
+    assert_eq!(rt; failing.push(2), Ok(()));
+    let mut keeper = MemKeeper::new(alloc, 9, failing);
+    assert_eq!(rt; keeper.last(alloc, &one), Ok(None));
+    assert_eq!(rt; keeper.last(alloc, &one), Err(StoreError::Failed));
+    assert_eq!(rt; keeper.last(alloc, &one), Ok(None));
+    Ok(())
+}

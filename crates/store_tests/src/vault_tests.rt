@@ -1,0 +1,66 @@
+use crate::vault_calls::{accept_next, form_next};
+use jt_position::Fix;
+use jt_store::{MemVault, StoreError, Vault};
+use jt_value::Seq;
+use std::alloc::Global;
+use std::test::Fail;
+
+fn note(alloc: Global, vault: &mut MemVault, lat: u32) -> Result<(), StoreError> {
+    let fix = Fix::at(alloc, lat)?;
+    vault.note_fix(alloc, &fix)
+}
+
+#[test]
+fn a_full_vault_takes_a_fix_once_one_is_accepted(rt: HostRuntime) -> Result<(), Fail> {
+    let alloc = rt.alloc();
+    let mut vault = MemVault::new(alloc, 1, Seq::new(alloc));
+    assert_eq!(rt; note(alloc, &mut vault, 1), Ok(()));
+    assert_eq!(rt; note(alloc, &mut vault, 2), Err(StoreError::Full(1)));
+    assert_eq!(rt; form_next(alloc, &mut vault), Ok(true));
+    assert_eq!(rt; note(alloc, &mut vault, 2), Err(StoreError::Full(1)));
+    assert_eq!(rt; accept_next(alloc, &mut vault), Ok(true));
+    assert_eq!(rt; note(alloc, &mut vault, 2), Ok(()));
+    Ok(())
+}
+
+#[test]
+fn a_listed_call_fails_and_records_nothing(rt: HostRuntime) -> Result<(), Fail> {
+    let alloc = rt.alloc();
+    let mut failing = Seq::new(alloc);
+    assert_eq!(rt; failing.push(2), Ok(()));
+    let mut vault = MemVault::new(alloc, 9, failing);
+    assert_eq!(rt; note(alloc, &mut vault, 1), Ok(()));
+    assert_eq!(rt; note(alloc, &mut vault, 2), Err(StoreError::Failed));
+    match vault.load(alloc) {
+        Ok(loaded) => assert_eq!(rt; loaded.recorded, 1),
+        Err(_) => assert!(rt; false),
+    }
+    Ok(())
+}
+
+#[test]
+fn a_vault_loads_what_waits(rt: HostRuntime) -> Result<(), Fail> {
+    let alloc = rt.alloc();
+    let mut vault = MemVault::new(alloc, 9, Seq::new(alloc));
+    assert_eq!(rt; note(alloc, &mut vault, 1), Ok(()));
+    assert_eq!(rt; note(alloc, &mut vault, 2), Ok(()));
+    assert_eq!(rt; note(alloc, &mut vault, 3), Ok(()));
+    assert_eq!(rt; form_next(alloc, &mut vault), Ok(true));
+    assert_eq!(rt; form_next(alloc, &mut vault), Ok(true));
+    assert_eq!(rt; accept_next(alloc, &mut vault), Ok(true));
+    assert_eq!(rt; vault.set_code(alloc, Some(b"AB")), Ok(()));
+    match vault.load(alloc) {
+        Ok(loaded) => {
+            assert_eq!(rt; loaded.fixes.len(), 1);
+            assert_eq!(rt; loaded.units.len(), 1);
+            assert_eq!(rt; (loaded.mark, loaded.next), (0, 2));
+            assert_eq!(rt; (loaded.recorded, loaded.accepted), (3, 1));
+            match &loaded.code {
+                Some(code) => assert_eq!(rt; code.as_slice(), b"AB".as_slice()),
+                None => assert!(rt; false),
+            }
+        }
+        Err(_) => assert!(rt; false),
+    }
+    Ok(())
+}
