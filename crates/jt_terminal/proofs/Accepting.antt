@@ -18,7 +18,7 @@ use Rattle.jt_terminal.specs.Law.{AreSteps}
 use Rattle.jt_terminal.proofs.Numbering.{length-numbered}
 
 -- the unit in a place, with its number
-row_in : (last : Option ℕ) (units : List OneUnit) (place : ℕ) (u : OneUnit) (more : List OneUnit) → drop place units ≡ u ∷ more
+pub row_in : (last : Option ℕ) (units : List OneUnit) (place : ℕ) (u : OneUnit) (more : List OneUnit) → drop place units ≡ u ∷ more
     → (before : Option ℕ) × (slice_get (numbered last units) place ≡ Some (row_after before u)) × (more ≡ drop (suc place) units) × (place < length units) × (slice_get units place ≡ Some u)
 row_in last [] zero u more e = absurd cc
 row_in last [] (suc place) u more e = absurd cc
@@ -29,7 +29,7 @@ serial_is : (last : Option ℕ) (serial : ℕ) → serial < 65536 → mark_of (n
 serial_is None serial small = omega arith
 serial_is (Some n) serial small = omega arith
 
-serial_back : (last : Option ℕ) (serial : ℕ) → serial < 65536 → serial_of (number_after last serial) ≡ serial
+pub serial_back : (last : Option ℕ) (serial : ℕ) → serial < 65536 → serial_of (number_after last serial) ≡ serial
 serial_back None serial small = omega arith
 serial_back (Some n) serial small = omega arith
 

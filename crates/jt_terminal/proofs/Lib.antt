@@ -8,3 +8,4 @@ mod Controlling
 mod Speaking
 mod Ruling
 mod Cutting
+mod Telling

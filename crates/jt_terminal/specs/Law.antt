@@ -1,13 +1,14 @@
 -- The laws of the terminal's rule. To be believed.
 use Rattle.std.specs.Prelude.{◌≡◌, ◌≢◌, ℕ, suc, ◌+◌, ◌<◌, ◌≤◌, List, [], ◌∷◌, ◌++◌, length, take, drop, Option, None, Some, IsTrue, ◌^◌, All}
+use Rattle.std.specs.Option.{option_map}
 use Rattle.jt_value.specs.Serials.{gap_of}
 use Rattle.jt_position.specs.Fixes.{IsFix, fixes_of}
 use Rattle.jt_store.specs.declared.unit.Unit.{Unit as OneUnit}
 use Rattle.jt_store.specs.Vaults.{Held, IsUnit}
 use Rattle.jt_terminal.specs.Forming.{batch_of, body_limit, fitting, unit_of}
 use Rattle.jt_terminal.specs.Messages.{Acknowledgement, AreSettings}
-use Rattle.jt_terminal.specs.Steps.{Machine, MayRun, run, hears}
-use Rattle.jt_terminal.specs.Rule.{State, Event, Ruled, Step, Sends, Says, Changes, Opens, Loses, after_control, down, response, rule}
+use Rattle.jt_terminal.specs.Steps.{Machine, MayRun, run, hears, told_by}
+use Rattle.jt_terminal.specs.Rule.{State, Event, Ruled, Step, Sends, Says, Changes, Opens, Loses, after_control, down, response, rule, told}
 use Rattle.jt_terminal.specs.Machines.{machine_of, as_steps, held_after, Agrees, IsInOrder}
 
 -- a batch may have at most 1,023 octets where it has at most so many fixes, and only there
@@ -58,3 +59,7 @@ AreCutSteps held s just steps = (done left : List Step) → steps ≡ done ++ le
 -- an event that is cut short, as by want of memory, is steps that any terminal may take too
 abbrev pub RuleIsCutInSteps : Type 0
 RuleIsCutInSteps = (held : Held) (s : State) (event : Event) → AreSettings s.settings → IsInOrder s → Agrees held s → AreCutSteps held s (response event) (rule s event).steps
+
+-- the unit whose acceptance the terminal is told is the machine's
+abbrev pub RuleTellsTheUnit : Type 0
+RuleTellsTheUnit = (held : Held) (s : State) (just : Option Acknowledgement) → IsInOrder s → Agrees held s → option_map (λ older. held.accepted + older) (told s just) ≡ told_by (machine_of held s) just

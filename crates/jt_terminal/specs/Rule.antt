@@ -1,7 +1,7 @@
 -- The terminal's rule: from a state and an event to a new state and the steps that are taken (this project's own, over the standard's
 -- registration, authentication, heartbeat and general response). To be believed. It answers no other message yet.
 use Rattle.std.specs.Prelude.{ℕ, zero, suc, ◌+◌, ◌-◌, ◌*◌, ◌^◌, min, List, [], ◌∷◌, ◌++◌, drop, length, slice_get, Option, None, Some, Bool, true, false, not, ◌==◌, ◌&&◌, nat_lt, nat_le, if◌then◌else◌}
-use Rattle.std.specs.Option.{unwrap_or}
+use Rattle.std.specs.Option.{option_map, unwrap_or}
 use Rattle.jt_value.specs.Serials.{gap_of, serial_of}
 use Rattle.jt_header.specs.declared.header.Header.{Header}
 use Rattle.jt_register.specs.declared.reply.RegisterReply.{RegisterReply}
@@ -346,3 +346,17 @@ rule s (Received h m) = received s h m
 rule s (Tick now) = ticked (record s { time = now })
 rule s Lost = lost s
 rule s Beat = beaten s.phase s
+
+-- ---- what the terminal is told
+
+-- how many units stand before the first of so many that the response names
+abbrev pub first_named : Acknowledgement → ℕ → List OneUnit → Option ℕ
+first_named ack zero units = None
+first_named ack (suc n) [] = None
+first_named ack (suc n) (unit ∷ units) = if names ack unit then Some 0 else option_map suc (first_named ack n units)
+
+-- how many units that are not accepted stand before the one whose acceptance this response tells, if it tells one: that unit was sent on
+-- this line. The rule accepts it where none stands before it.
+abbrev pub told : State → Option Acknowledgement → Option ℕ
+told s None = None
+told s (Some ack) = if is_acceptance ack then first_named ack s.sent s.units else None

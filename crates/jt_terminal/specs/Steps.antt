@@ -1,5 +1,5 @@
 -- What any terminal may do, whoever built it: its steps, with numbers that do not wrap. To be believed.
-use Rattle.std.specs.Prelude.{◌≡◌, ◌≢◌, ◌⊎◌, not, ℕ, zero, suc, ◌+◌, ◌<◌, ◌≤◌, ◌^◌, max, ◌==◌, ◌&&◌, ◌||◌, Bool, true, false, if◌then◌else◌, List, [], ◌∷◌, ◌++◌, length, map, slice_get, Option, None, Some, IsTrue, All}
+use Rattle.std.specs.Prelude.{◌≡◌, ◌≢◌, ◌⊎◌, not, ℕ, zero, suc, ◌+◌, ◌-◌, ◌<◌, ◌≤◌, ◌^◌, max, ◌==◌, ◌&&◌, ◌||◌, Bool, true, false, if◌then◌else◌, List, [], ◌∷◌, ◌++◌, length, map, slice_get, Option, None, Some, IsTrue, All}
 use Rattle.std.specs.List.{list_any}
 use Rattle.jt_value.specs.Serials.{serial_of}
 use Rattle.jt_value.specs.declared.phone.Phone.{Phone}
@@ -166,3 +166,13 @@ MayRun m just (step ∷ steps) = MayStep m just step × MayRun (stepped m step) 
 abbrev pub run : Machine → List TerminalStep → Machine
 run m [] = m
 run m (step ∷ steps) = run (stepped m step) steps
+
+-- the first place, from this one on, of so many, whose unit the response names
+abbrev pub named_from : List Row → Acknowledgement → ℕ → ℕ → Option ℕ
+named_from units ack place zero = None
+named_from units ack place (suc n) = if is_named ack (slice_get units place) then Some place else named_from units ack (place + 1) n
+
+-- the place of the unit whose acceptance the terminal is told: it was sent on this line, is not accepted, and the response names it
+abbrev pub told_by : Machine → Option Acknowledgement → Option ℕ
+told_by m None = None
+told_by m (Some ack) = if is_acceptance ack then named_from m.units ack m.accepted (m.reach - m.accepted) else None

@@ -1,6 +1,6 @@
 //! Laws of the terminal's rule, which is defined in specs/Rule.
 
-ghost use Rattle.jt_terminal.specs.Law.{ControlKeepsTheLastPlace, FittingIsGreatest, RuleIsCutInSteps, RuleTakesSteps, UnitCarriesFirstFixes};
+ghost use Rattle.jt_terminal.specs.Law.{ControlKeepsTheLastPlace, FittingIsGreatest, RuleIsCutInSteps, RuleTakesSteps, RuleTellsTheUnit, UnitCarriesFirstFixes};
 
 /// Units are formed of the first fixes that wait: as many as a body of at most 1,023 octets can carry.
 pub fn law_forming()
@@ -16,6 +16,7 @@ pub fn law_rule()
     ensures control { ControlKeepsTheLastPlace }
     ensures steps { RuleTakesSteps }
     ensures cut { RuleIsCutInSteps }
+    ensures told { RuleTellsTheUnit }
 {
     jt_position::law_fixes();
 }

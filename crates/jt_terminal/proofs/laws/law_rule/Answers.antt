@@ -3,6 +3,7 @@ use Rattle.jt_terminal.proofs.Cutting.{cut_steps}
 use Rattle.jt_terminal.proofs.Batches.{unit_carries}
 use Rattle.jt_terminal.proofs.Controlling.{last_place}
 use Rattle.jt_terminal.proofs.Ruling.{rule_steps}
+use Rattle.jt_terminal.proofs.Telling.{rule_tells}
 use Rattle.jt_terminal.proofs.laws.law_rule.Goals as goal
 
 pub returns-clause-control : goal.returns-clause-control
@@ -14,3 +15,6 @@ returns-clause-steps c = rule_steps (unit_carries c.law_fixes.ensures)
 pub returns-clause-cut : goal.returns-clause-cut
 returns-clause-cut c = λ held s event good o a.
     cut_steps held s (response event) (rule s event).steps (rule_steps (unit_carries c.law_fixes.ensures) held s event good o a).may
+
+pub returns-clause-told : goal.returns-clause-told
+returns-clause-told c = rule_tells
