@@ -1,0 +1,12 @@
+mod Batches
+mod Numbering
+mod Forming
+mod Accepting
+mod Composing
+mod Filling
+mod Controlling
+mod Speaking
+mod Ruling
+mod Cutting
+mod Telling
+mod Starting

@@ -1,0 +1,54 @@
+-- The messages of a terminal, and the platform's responses. To be believed. Headers and bodies are the standard's.
+use Rattle.std.specs.Prelude.{ℕ, ◌==◌, ◌||◌, ◌≡◌, ◌≤◌, Bool, false, List, length, Option, None, IsSomeAnd}
+use Rattle.jt_value.specs.declared.phone.Edition.{Edition}
+use Rattle.jt_value.specs.declared.phone.Edition.TheVariants.{E2013, E2019}
+use Rattle.jt_value.specs.declared.phone.Phone.{Phone}
+use Rattle.jt_header.specs.declared.header.Header.{Header}
+use Rattle.jt_escape.specs.Frame.{framed}
+use Rattle.jt_header.specs.Content.{content_of, IsPhone}
+use Rattle.jt_register.specs.Registration.{register, auth, auth_tail}
+use Rattle.jt_register.specs.declared.auth.AuthTail.{AuthTail}
+use Rattle.jt_terminal.specs.declared.settings.Settings.{Settings}
+
+-- the protocol version of a terminal's headers, which those of 2013 have not
+abbrev pub version_of : Edition → ℕ
+version_of E2013 = 0
+version_of E2019 = 1
+
+-- the header of a message in one packet, of this phone, id and serial
+abbrev pub header_of : Phone → ℕ → ℕ → Header
+header_of phone id serial = record { edition = phone.edition; id = id; bit15 = false; version = version_of phone.edition; phone = phone; serial = serial; packet = None }
+
+-- the frame of a header and a body
+unfoldable pub frame_of : Header → List ℕ → List ℕ
+frame_of h body = framed (content_of h body)
+
+-- the body of the registration 0x0100
+abbrev pub register_octets : Settings → List ℕ
+register_octets settings = (register settings.phone.edition).spell settings.register
+
+-- the body of the authentication 0x0102 with this code
+abbrev pub auth_octets : Settings → List ℕ → List ℕ
+auth_octets settings code = (auth settings.phone.edition).spell (record { code = code; tail = settings.tail })
+
+-- a tail in 2019 alone
+abbrev pub IsTail : Edition → Option AuthTail → Type 0
+IsTail E2013 tail = tail ≡ None
+IsTail E2019 tail = IsSomeAnd tail auth_tail.Fits
+
+-- a good phone, a registration that its edition has octets for, with a plate of at most 255 octets, and a tail in 2019 alone
+pub record AreSettings (settings : Settings) : Type 0 where
+  pub phone : IsPhone settings.phone
+  pub register : (register settings.phone.edition).Fits settings.register
+  pub plate : length settings.register.plate ≤ 255
+  pub tail : IsTail settings.phone.edition settings.tail
+
+-- the platform's general response 0x8001: the serial and the id of the message that is answered, and the result
+pub record Acknowledgement : Type 0 where
+  pub reply : ℕ
+  pub id : ℕ
+  pub result : ℕ
+
+-- success, or an alarm that is handled
+abbrev pub is_acceptance : Acknowledgement → Bool
+is_acceptance ack = (ack.result == 0) || (ack.result == 4)

@@ -1,0 +1,30 @@
+//! Laws of the terminal's rule, which is defined in specs/Rule.
+
+ghost use Rattle.jt_terminal.specs.Law.{ControlKeepsTheLastPlace, FirstStartIsInOrder, FittingIsGreatest, NotedFixIsAStep, RuleIsCutInSteps, RuleTakesSteps, RuleTellsTheUnit, StartIsARestart, UnitCarriesFirstFixes, WaitsGrow};
+
+/// Units are formed of the first fixes that wait: as many as a body of at most 1,023 octets can carry.
+pub fn law_forming()
+    ensures greatest { FittingIsGreatest }
+    ensures carries { UnitCarriesFirstFixes }
+{
+    jt_position::law_fixes();
+}
+
+/// What the rule does at each event, to its end or cut short, is steps that any terminal may take; and control messages leave
+/// the last serial before the limit to a unit.
+pub fn law_rule()
+    ensures control { ControlKeepsTheLastPlace }
+    ensures steps { RuleTakesSteps }
+    ensures cut { RuleIsCutInSteps }
+    ensures told { RuleTellsTheUnit }
+    ensures noted { NotedFixIsAStep }
+    ensures start { StartIsARestart }
+    ensures first { FirstStartIsInOrder }
+{
+    jt_position::law_fixes();
+}
+
+/// The rule at work: the waits for the reply to a registration.
+pub fn law_waits()
+    ensures { WaitsGrow }
+{}
