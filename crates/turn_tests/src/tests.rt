@@ -1,7 +1,14 @@
 use super::*;
-use jt_turn::Turn;
+use jt_turn::{Entry, Turn};
 use jt_value::Seq;
 use std::test::*;
+
+fn is_told(entry: &Entry<u64, Option<u64>>, told: Option<&Entry<u64, Option<u64>>>) -> bool {
+    match told {
+        Some(told) => entry.ask == told.ask && entry.answer == told.answer,
+        None => false,
+    }
+}
 
 // The answers count from 7 on in the order of the history, whoever asked. The entries of number 1 are the asks of its thread, 0
 // to 999 in this order, with the answers that it was told.
@@ -11,19 +18,16 @@ fn two_threads_ask_a_thousand_times_each(rt: HostRuntime) -> Result<(), Fail> {
     assert_eq!(rt; asked.desk.entries.len(), 2000);
     assert_eq!(rt; asked.first.len(), 1000);
     assert_eq!(rt; asked.second.len(), 1000);
-    for (count, told) in asked.first.as_slice().iter().enumerate() {
-        assert_eq!(rt; told.ask, count as u64);
-    }
-    let mut first = asked.first.as_slice().iter();
+    let mut own: usize = 0;
     for (count, entry) in asked.desk.entries.as_slice().iter().enumerate() {
         assert_eq!(rt; entry.answer, Some(7 + count as u64));
         if entry.number == 1 {
-            let told = first.next().ok_or("an entry that was not told")?;
-            assert_eq!(rt; entry.ask, told.ask);
-            assert_eq!(rt; entry.answer, told.answer);
+            assert_eq!(rt; entry.ask, own as u64);
+            assert!(rt; is_told(entry, asked.first.get(own)));
+            own = own.wrapping_add(1);
         }
     }
-    assert!(rt; first.next().is_none());
+    assert_eq!(rt; own, 1000);
     Ok(())
 }
 

@@ -1,0 +1,141 @@
+-- Which reply a history allows (this project's own): the table of replies, each with what keeps those above it off. To be believed.
+use Rattle.std.specs.Prelude.{◌≡◌, ◌≢◌, ◌⊎◌, ◌<◌, ℕ, List, [], ◌∷◌, length, Bool, true, false, ◌||◌, Option, None, Some, IsSome, bytes_eq}
+use Rattle.jt_value.specs.Sameness.{key_of}
+use Rattle.jt_value.specs.Serials.{Verdict, New, Repeat, Anew, IsVerdict}
+use Rattle.jt_value.specs.declared.phone.Phone.{Phone}
+use Rattle.jt_store.specs.Tables.{Tables, Told, IsRow, last_of, plates, terminals, HasName}
+use Rattle.jt_store.specs.declared.row.Registered.{Registered}
+use Rattle.jt_store.specs.declared.row.Row.{Row}
+use Rattle.jt_platform.specs.declared.request.Fleet.{Fleet}
+use Rattle.jt_platform.specs.declared.request.Request.{Request}
+use Rattle.jt_platform.specs.declared.request.Request.TheVariants as ask
+use Rattle.jt_platform.specs.declared.request.Reply.{Reply}
+use Rattle.jt_platform.specs.declared.request.Reply.TheVariants as say
+use Rattle.jt_platform.specs.declared.request.Entry.{Entry}
+use Rattle.jt_platform.specs.Codes.{code_for}
+use Rattle.jt_platform.specs.History.{live, closed, holder, trimmed, registration, tables_after}
+
+-- what a hub began with: what its keeper told, the keeper's limit, the fleet and the secret
+pub record Opening : Type 0 where
+  pub tables : Option Tables
+  pub limit : ℕ
+  pub fleet : Fleet
+  pub secret : List ℕ
+
+-- ---- registrations
+
+abbrev pub has_plate : List (List ℕ) → List ℕ → Bool
+has_plate [] plate = false
+has_plate (x ∷ more) plate = bytes_eq x plate || has_plate more plate
+
+-- whether one of the ids, without the zeros at its end, is this one
+abbrev pub has_terminal : List (List ℕ) → List ℕ → Bool
+has_terminal [] terminal = false
+has_terminal (x ∷ more) terminal = bytes_eq (trimmed x) terminal || has_terminal more terminal
+
+-- another phone is registered with the name, a plate or a terminal id
+abbrev pub IsAnothers : (Registered → List ℕ) → Tables → List ℕ → List ℕ → Type 0
+IsAnothers name_of t key name = (other : List ℕ) × HasName name_of t.registered other name × (other ≢ key)
+
+-- plate and terminal id are in the fleet
+abbrev pub IsOfFleet : Fleet → Registered → Type 0
+IsOfFleet fleet r = (has_plate fleet.plates r.plate ≡ true) × (has_terminal fleet.terminals r.terminal ≡ true)
+
+-- why a registration is denied, in this order: the plate is not in the fleet, the terminal id is not, another phone has the
+-- plate, another phone has the terminal id
+abbrev pub IsDenied : Fleet → Tables → List ℕ → Registered → ℕ → Type 0
+IsDenied fleet t key r n =
+    ((n ≡ 2) × (has_plate fleet.plates r.plate ≡ false))
+    ⊎ ((n ≡ 4) × (has_plate fleet.plates r.plate ≡ true) × (has_terminal fleet.terminals r.terminal ≡ false))
+    ⊎ ((n ≡ 1) × IsOfFleet fleet r × IsAnothers plates t key r.plate)
+    ⊎ ((n ≡ 3) × IsOfFleet fleet r × (IsAnothers plates t key r.plate → ⊥) × IsAnothers terminals t key r.terminal)
+
+-- the phone may have the plate and the terminal id
+abbrev pub IsFree : Fleet → Tables → List ℕ → Registered → Type 0
+IsFree fleet t key r = IsOfFleet fleet r × (IsAnothers plates t key r.plate → ⊥) × (IsAnothers terminals t key r.terminal → ⊥)
+
+-- Registered with the code if the phone is registered so already; else denied, or registered with the code
+abbrev pub RegisterReply : Fleet → Tables → List ℕ → Registered → List ℕ → Reply → Type 0
+RegisterReply fleet t key r code (say.Registered c) = (c ≡ code) × ((t.registered key ≡ Some r) ⊎ ((t.registered key ≢ Some r) × IsFree fleet t key r))
+RegisterReply fleet t key r code (say.Denied n) = (t.registered key ≢ Some r) × IsDenied fleet t key r n
+RegisterReply fleet t key r code reply = ⊥
+
+-- ---- authentications
+
+-- the phone is registered, and the code is its own
+abbrev pub MayEnter : List ℕ → Tables → Phone → List ℕ → Type 0
+MayEnter secret t phone code = IsSome (t.registered (key_of phone)) × (code ≡ code_for secret phone)
+
+abbrev pub AuthReply : List ℕ → Tables → Phone → List ℕ → Reply → Type 0
+AuthReply secret t phone code say.Accepted = MayEnter secret t phone code
+AuthReply secret t phone code (say.Denied n) = (n ≡ 1) × (MayEnter secret t phone code → ⊥)
+AuthReply secret t phone code reply = ⊥
+
+-- ---- units
+
+-- what a unit is to a phone's rows
+abbrev pub VerdictOn : List Row → ℕ → ℕ → List ℕ → Verdict → Type 0
+VerdictOn rows serial id body v = IsVerdict (last_of rows) (λ n. IsRow rows (record { number = n; id = id; body = body })) serial v
+
+-- replies to a unit of the holder's live session. ListFull stands in place of Stored and Renumbered, exactly where the phone has
+-- as many rows as the limit.
+abbrev pub StoreReply : ℕ → List Row → ℕ → ℕ → List ℕ → Reply → Type 0
+StoreReply limit rows serial id body (say.Stored n) = VerdictOn rows serial id body (New n) × (length rows < limit)
+StoreReply limit rows serial id body (say.Repeat n) = VerdictOn rows serial id body (Repeat n)
+StoreReply limit rows serial id body (say.Renumbered n) = VerdictOn rows serial id body (Anew n) × (length rows < limit)
+StoreReply limit rows serial id body (say.ListFull l) = (l ≡ limit) × (length rows ≡ limit) × (n : ℕ) × (VerdictOn rows serial id body (New n) ⊎ VerdictOn rows serial id body (Anew n))
+StoreReply limit rows serial id body reply = ⊥
+
+-- ---- the session's right
+
+-- another session holds the phone
+abbrev pub FencedReply : ℕ → Option ℕ → Reply → Type 0
+FencedReply session None reply = ⊥
+FencedReply session (Some other) reply = (other ≢ session) × (reply ≡ say.Fenced other)
+
+abbrev pub IsHolder : ℕ → Option ℕ → Type 0
+IsHolder session None = ⊥
+IsHolder session (Some other) = other ≡ session
+
+-- NotLive where the session is not live for the phone; else Fenced where another session holds it; else as `Otherwise` says
+abbrev pub GuardedReply : List ℕ → List Entry → ℕ → Reply → Type 0 → Type 0
+GuardedReply key h session reply Otherwise =
+    ((live key h session ≡ false) × (reply ≡ say.NotLive))
+    ⊎ ((live key h session ≡ true) × (FencedReply session (holder key h) reply ⊎ (IsHolder session (holder key h) × Otherwise)))
+
+-- ---- the table. `now` is what the history left of the keeper's tables.
+
+abbrev pub OpenReply : Opening → Option Tables → List Entry → ℕ → Request → Reply → Type 0
+OpenReply o now h session (ask.Register phone register) reply = Told now (λ t. RegisterReply o.fleet t (key_of phone) (registration register) (code_for o.secret phone) reply)
+OpenReply o now h session (ask.Auth phone code) reply = Told now (λ t. AuthReply o.secret t phone code reply)
+OpenReply o now h session (ask.Unit phone serial id body) reply = GuardedReply (key_of phone) h session reply (Told now (λ t. StoreReply o.limit (t.rows (key_of phone)) serial id body reply))
+OpenReply o now h session (ask.Deregister phone) reply = GuardedReply (key_of phone) h session reply (reply ≡ say.Accepted)
+OpenReply o now h session (ask.Other phone id) reply = GuardedReply (key_of phone) h session reply (reply ≡ say.Accepted)
+OpenReply o now h session ask.Close reply = reply ≡ say.Accepted
+
+-- every request of a closed session but Close is answered NotLive
+abbrev pub AnyReply : Opening → Option Tables → List Entry → ℕ → Request → Reply → Type 0
+AnyReply o now h session ask.Close reply = reply ≡ say.Accepted
+AnyReply o now h session request reply = ((closed h session ≡ true) × (reply ≡ say.NotLive)) ⊎ ((closed h session ≡ false) × OpenReply o now h session request reply)
+
+-- the replies that a history allows, newest entry first
+abbrev pub Allowed : Opening → List Entry → ℕ → Request → Reply → Type 0
+Allowed o h session request reply = AnyReply o (tables_after o.tables h) h session request reply
+
+-- each entry's reply is allowed over the entries before it
+abbrev pub Legal : Opening → List Entry → Type 0
+Legal o [] = Unit {0}
+Legal o (e ∷ older) = Allowed o older e.session e.request e.reply × Legal o older
+
+-- the two replies that may come in place of any other: a fault of the keeper, and want of memory
+abbrev pub is_trouble : Reply → Bool
+is_trouble say.StoreFault = true
+is_trouble say.Memory = true
+is_trouble reply = false
+
+-- the replies that add an entry to the history
+abbrev pub makes_entry : Reply → Bool
+makes_entry (say.ListFull l) = false
+makes_entry say.StoreFault = false
+makes_entry say.Memory = false
+makes_entry reply = true

@@ -1,0 +1,313 @@
+//! The hub: one event of the platform's core.
+
+ghost use Rattle.std.specs.Prelude.{◌≡◌, ◌≢◌, ◌≤◌, ◌<◌, ◌+◌, ◌-◌, ◌^◌, [], false, true, max, IfOk, IfErr, IsTrue, ◌↔◌, OnOk, OnErr, IsOk, if◌then◌else◌};
+ghost use Rattle.jt_value.specs.Sameness.{key_of};
+ghost use Rattle.jt_platform.specs.History.{newest, closed};
+ghost use Rattle.jt_platform.specs.Allowed.{AnyReply, Allowed, is_trouble};
+ghost use Rattle.jt_platform.specs.Allowed.{makes_entry as makes_an_entry};
+ghost use Rattle.jt_platform.specs.Calls.{tables_by, code_said, IsGuard, IsCoded};
+ghost use Rattle.jt_platform.specs.Hub.{HubValue, history_by, opening_of, IsAt, IsOwed, HasReason};
+ghost use Rattle.jt_platform.specs.declared.request.Request.TheVariants.{Close};
+ghost use Rattle.jt_platform.specs.declared.request.Reply.TheVariants.{Accepted};
+
+use crate::code::code_octets;
+use crate::copying::{copy_reply, copy_request};
+use crate::history::{holder, is_closed, is_live};
+use crate::registering::{auth, deregister, register};
+use crate::request::{Entry, Fleet, Reply, Request};
+use crate::unit::unit;
+use jt_store::Keeper;
+use jt_value::{Buffer, Memory, Octets, Phone, Seq};
+use std::alloc::Global;
+use std::marker::Model;
+use std::snapshot::Snapshot;
+
+// NotLive or Fenced, where the session is not live for the phone or not its holder.
+fn guard(history: &[Entry], phone: &Phone, session: u32) -> Option<Reply>
+    ensures { IsGuard (key_of phone.now) (newest history.now) session result }
+{
+    if !is_live(history, phone, session) {
+        return Some(Reply::NotLive);
+    }
+    match holder(history, phone) {
+        Some(other) => {
+            if other == session {
+                None
+            } else {
+                Some(Reply::Fenced(other))
+            }
+        }
+        None => unreachable!(),
+    }
+}
+
+// The answer to a request of a session that is not closed.
+fn answer_open<P: Keeper>(
+    alloc: Global,
+    keeper: &mut P,
+    fleet: &Fleet,
+    secret: &Octets,
+    history: &[Entry],
+    session: u32,
+    request: &Request,
+) -> Reply
+    requires { closed (newest history.now) session ≡ false }
+    ensures reply { is_trouble result ≡ false → AnyReply (opening_of (P.tables keeper.old) (P.limit keeper.old) fleet.now secret.now) (P.tables keeper.old) (newest history.now) session request.now result }
+    ensures tables { P.tables keeper.new ≡ tables_by request.now result (P.tables keeper.old) }
+    ensures limit { P.limit keeper.new ≡ P.limit keeper.old }
+    ensures coded { IsCoded (code_said secret.now request.now) result }
+    ensures reason { HasReason (P.faults keeper.old) (P.faults keeper.new) (P.may_fail keeper.old) (P.may_fail keeper.new) result }
+    ensures close { request.now ≡ Close → result ≡ Accepted }
+{
+    match request {
+        Request::Register {
+            phone,
+            register: wanted,
+        } => register(alloc, keeper, fleet, secret, phone, wanted),
+        Request::Auth { phone, code } => auth(alloc, keeper, secret, phone, code),
+        Request::Unit {
+            phone,
+            serial,
+            id,
+            body,
+        } => match guard(history, phone, session) {
+            Some(reply) => reply,
+            None => unit(alloc, keeper, phone, *serial, *id, body),
+        },
+        Request::Deregister { phone } => match guard(history, phone, session) {
+            Some(reply) => reply,
+            None => deregister(alloc, keeper, phone),
+        },
+        Request::Other { phone, id: _ } => match guard(history, phone, session) {
+            Some(reply) => reply,
+            None => Reply::Accepted,
+        },
+        Request::Close => Reply::Accepted,
+    }
+}
+
+// The answer to a request. A Close asks nothing of the keeper.
+fn answer<P: Keeper>(
+    alloc: Global,
+    keeper: &mut P,
+    fleet: &Fleet,
+    secret: &Octets,
+    history: &[Entry],
+    session: u32,
+    request: &Request,
+) -> Reply
+    ensures reply { is_trouble result ≡ false → AnyReply (opening_of (P.tables keeper.old) (P.limit keeper.old) fleet.now secret.now) (P.tables keeper.old) (newest history.now) session request.now result }
+    ensures tables { P.tables keeper.new ≡ tables_by request.now result (P.tables keeper.old) }
+    ensures limit { P.limit keeper.new ≡ P.limit keeper.old }
+    ensures coded { IsCoded (code_said secret.now request.now) result }
+    ensures reason { HasReason (P.faults keeper.old) (P.faults keeper.new) (P.may_fail keeper.old) (P.may_fail keeper.new) result }
+    ensures close { request.now ≡ Close → result ≡ Accepted }
+{
+    if let Request::Close = request {
+        return Reply::Accepted;
+    }
+    if is_closed(history, session) {
+        return Reply::NotLive;
+    }
+    answer_open(alloc, keeper, fleet, secret, history, session, request)
+}
+
+fn makes_entry(reply: &Reply) -> bool
+    ensures { result ≡ makes_an_entry reply.now }
+{
+    !matches!(
+        reply,
+        Reply::ListFull(_) | Reply::StoreFault | Reply::Memory
+    )
+}
+
+// The code that the reply's entry may hold.
+fn entry_code(alloc: Global, secret: &Octets, request: &Request) -> Result<Octets, Memory>
+    ensures code { IfOk result (λ code. code ≡ code_said secret.now request.now) }
+    ensures close { request.now ≡ Close → IsOk result }
+{
+    match request {
+        Request::Register { phone, register: _ } => code_octets(alloc, secret, phone),
+        _ => Ok(Seq::new(alloc)),
+    }
+}
+
+// Whether the request is a Close whose memory is there.
+fn is_owed_close(history: &[Entry], reserved: u32, session: u32, request: &Request) -> bool
+    ensures { IsTrue result ↔ ((request.now ≡ Close) × IsOwed history.now reserved session) }
+{
+    matches!(request, Request::Close)
+        && 1 <= session
+        && session <= reserved
+        && !is_closed(history, session)
+}
+
+// Makes room for one more entry, beside those that are owed.
+fn make_room(history: &mut Buffer<Entry>, owed: u64, is_owed: bool) -> Result<(), Memory>
+    requires few { owed < 2 ^ 32 }
+    requires room { owed ≤ history.old.spare }
+    requires one { is_owed ≡ true → 0 < owed }
+    ensures items { history.new.items ≡ history.old.items }
+    ensures room { OnOk result (0 < history.new.spare) }
+    ensures owed { OnOk result ((if is_owed then owed else owed + 1) ≤ history.new.spare) }
+    ensures same { OnErr result (history.new.spare ≡ history.old.spare) }
+    ensures close { is_owed ≡ true → IsOk result }
+{
+    if is_owed {
+        return Ok(());
+    }
+    history.reserve(owed + 1)
+}
+
+/// The hub over a keeper, with its history. It keeps the allocator that it began with, and, for contracts alone and in no
+/// octets, the keeper as it was at the start.
+#[derive(Drop)]
+pub struct Hub<P: Keeper> {
+    alloc: Global,
+    keeper: P,
+    start: Snapshot<P>,
+    fleet: Fleet,
+    secret: Octets,
+    history: Buffer<Entry>,
+    reserved: u32,
+    // For how many Closes the history has room at least.
+    owed: u64,
+}
+
+impl<P: Keeper> Model for Hub<P> {
+    ghost use Rattle.jt_platform.specs.Hub.{HubValue, IsAt};
+    ghost use Rattle.jt_platform.specs.Calls.{HasRoom};
+
+    ghost Value = { HubValue P };
+
+    ghost view = { λ h. record { keeper = h.keeper; start = h.start.value; fleet = h.fleet; secret = h.secret; history = h.history.items; reserved = h.reserved } };
+
+    ghost invariant = { λ h. IsAt (P.tables h.start.value) (P.tables h.keeper) (P.limit h.start.value) (P.limit h.keeper) h.history.items × HasRoom h.history.items h.reserved h.owed h.history.spare };
+}
+
+impl<P: Keeper> Hub<P> {
+    /// A hub over a keeper, with an empty history over the keeper's registrations and rows. Memory never comes, since nothing
+    /// is taken; it would give the keeper back.
+    pub fn start(
+        alloc: Global,
+        keeper: P,
+        fleet: Fleet,
+        secret: Octets,
+    ) -> Result<Hub<P>, (P, Memory)>
+        ensures ok { IfOk result (λ hub. hub ≡ record { keeper = keeper; start = keeper; fleet = fleet; secret = secret; history = []; reserved = 0 }) }
+        ensures err { IfErr result (λ refused. refused.0 ≡ keeper) }
+    {
+        let start = Snapshot::of(&keeper);
+        Ok(Hub {
+            alloc,
+            keeper,
+            start,
+            fleet,
+            secret,
+            history: Buffer::new(alloc),
+            reserved: 0,
+            owed: 0,
+        })
+    }
+
+    /// The entries, oldest first.
+    pub fn history(&self) -> &[Entry]
+        ensures { result.now ≡ self.now.history }
+    {
+        self.history.as_slice()
+    }
+
+    /// Takes the memory for a Close of each session from 1 to `upto`, so that the first Close of such a session takes none.
+    /// After Memory all is as before.
+    pub fn reserve(&mut self, upto: u32) -> Result<(), Memory>
+        ensures ok { OnOk result (self.new ≡ record self.old { reserved = max self.old.reserved upto }) }
+        ensures err { OnErr result (self.new ≡ self.old) }
+    {
+        if upto <= self.reserved {
+            return Ok(());
+        }
+        let owed = self.owed + u64::from(upto - self.reserved);
+        self.history.reserve(owed)?;
+        self.owed = owed;
+        self.reserved = upto;
+        Ok(())
+    }
+
+    /// Answers a request of a session by the history, and adds the request and the reply to it; for ListFull, StoreFault and
+    /// Memory it adds nothing. All memory of its own is taken before the keeper's first call.
+    ///
+    /// StoreFault comes only where the keeper's count of faults rose in the call. The first Close of a session within the
+    /// reserved number takes no memory and is Accepted.
+    pub fn act(&mut self, session: u32, request: &Request) -> Reply
+        ensures allowed { is_trouble result ≡ false → Allowed (opening_of (P.tables self.old.start) (P.limit self.old.start) self.old.fleet self.old.secret) (newest self.old.history) session request.now result }
+        ensures history { self.new.history ≡ history_by session request.now result self.old.history }
+        ensures opening { (self.new.start ≡ self.old.start) × (self.new.fleet ≡ self.old.fleet) × (self.new.secret ≡ self.old.secret) × (self.new.reserved ≡ self.old.reserved) }
+        ensures keeper { IsAt (P.tables self.new.start) (P.tables self.new.keeper) (P.limit self.new.start) (P.limit self.new.keeper) self.new.history }
+        ensures close { request.now ≡ Close → IsOwed self.old.history self.old.reserved session → result ≡ Accepted }
+        ensures reason { HasReason (P.faults self.old.keeper) (P.faults self.new.keeper) (P.may_fail self.old.keeper) (P.may_fail self.new.keeper) result }
+    {
+        self.answer_to(session, request)
+    }
+
+    pub(crate) fn answer_to(&mut self, session: u32, request: &Request) -> Reply
+        ensures allowed { is_trouble result ≡ false → Allowed (opening_of (P.tables self.old.start) (P.limit self.old.start) self.old.fleet self.old.secret) (newest self.old.history) session request.now result }
+        ensures history { self.new.history ≡ history_by session request.now result self.old.history }
+        ensures opening { (self.new.start ≡ self.old.start) × (self.new.fleet ≡ self.old.fleet) × (self.new.secret ≡ self.old.secret) × (self.new.reserved ≡ self.old.reserved) }
+        ensures keeper { IsAt (P.tables self.new.start) (P.tables self.new.keeper) (P.limit self.new.start) (P.limit self.new.keeper) self.new.history }
+        ensures close { request.now ≡ Close → IsOwed self.old.history self.old.reserved session → result ≡ Accepted }
+        ensures reason { HasReason (P.faults self.old.keeper) (P.faults self.new.keeper) (P.may_fail self.old.keeper) (P.may_fail self.new.keeper) result }
+    {
+        let _ = &self.history;
+        let is_owed = is_owed_close(self.history.as_slice(), self.reserved, session, request);
+        let Ok(copy) = copy_request(self.alloc, request) else {
+            return Reply::Memory;
+        };
+        let Ok(code) = entry_code(self.alloc, &self.secret, request) else {
+            return Reply::Memory;
+        };
+        let Ok(()) = make_room(&mut self.history, self.owed, is_owed) else {
+            return Reply::Memory;
+        };
+        let reply = answer(
+            self.alloc,
+            &mut self.keeper,
+            &self.fleet,
+            &self.secret,
+            self.history.as_slice(),
+            session,
+            request,
+        );
+        if !makes_entry(&reply) {
+            return reply;
+        }
+        let entry = Entry {
+            session,
+            request: copy,
+            reply: copy_reply(&reply, code),
+        };
+        let Ok(()) = self.history.push(entry) else {
+            unreachable!();
+        };
+        if is_owed {
+            self.owed -= 1;
+        }
+        reply
+    }
+
+    /// The keeper and the history, with no memory taken.
+    pub fn into_parts(self) -> (P, Seq<Entry>)
+        ensures { (result.0 ≡ self.keeper) × (result.1 ≡ self.history) }
+    {
+        let Hub {
+            alloc: _,
+            keeper,
+            start: _,
+            fleet: _,
+            secret: _,
+            history,
+            reserved: _,
+            owed: _,
+        } = self;
+        (keeper, history.into_seq())
+    }
+}

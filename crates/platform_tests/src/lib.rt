@@ -1,0 +1,7 @@
+//! Tests of the platform's core over a keeper in memory. It has no code of its own.
+#![tactic(auto)]
+
+#[cfg(test)]
+mod acting;
+#[cfg(test)]
+mod tests;
