@@ -7,5 +7,5 @@ mod laws;
 mod session;
 
 pub use end::{End, Fed};
-pub use laws::law_of_talks;
+pub use laws::{law_of_acceptances, law_of_talks};
 pub use session::Session;
