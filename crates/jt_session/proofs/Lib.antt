@@ -1,0 +1,4 @@
+pub mod Talking
+pub mod Replying
+pub mod Turning
+pub mod Answering

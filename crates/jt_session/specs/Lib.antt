@@ -1,0 +1,6 @@
+pub mod Talk
+pub mod Replies
+pub mod Sessions
+pub mod Waiting
+pub mod Steps
+pub mod Law

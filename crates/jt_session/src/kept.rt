@@ -1,0 +1,240 @@
+//! What a session keeps between items, and what it writes.
+
+ghost use Rattle.std.specs.Prelude.{◌≡◌, ◌≤◌, ◌<◌, ◌+◌, ◌-◌, ◌%◌, ◌^◌, [], ◌++◌, length, Some, None, ℕ, ◌⊎◌};
+ghost use Rattle.jt_value.specs.declared.phone.Edition.{Edition};
+ghost use Rattle.jt_escape.specs.Frame.{framed};
+ghost use Rattle.jt_header.specs.Content.{IsHeader, content_of};
+ghost use Rattle.jt_codec.specs.Bodies.{body_octets};
+ghost use Rattle.jt_codec.specs.declared.message.Message.TheVariants as message;
+ghost use Rattle.jt_session.specs.Talk.{ack, answer_to, frame_said, header_to, register_reply, saying, start};
+ghost use Rattle.jt_session.specs.Talk as talk;
+ghost use Rattle.jt_session.specs.Replies.{HasRoomFor};
+
+use arrayvec::ArrayVec;
+use jt_codec::{frame_into, law_of_acks};
+use jt_header::Header;
+use jt_platform::Reply;
+use jt_subpacket::Assembler;
+use jt_value::{Buffer, Phone};
+use std::alloc::Global;
+use std::marker::Model;
+
+/// The ids of what the platform writes (the standard's message bodies).
+const PLATFORM_ACK: u16 = 0x8001;
+
+const REGISTER_REPLY: u16 = 0x8100;
+
+/// The ids of what a terminal sends that are answered each in a way of its own (the standard's message bodies).
+const TERMINAL_ACK: u16 = 0x0001;
+
+const HEARTBEAT: u16 = 0x0002;
+
+const DEREGISTER: u16 = 0x0003;
+
+const REGISTER: u16 = 0x0100;
+
+const AUTH: u16 = 0x0102;
+
+const PARAMS: u16 = 0x0104;
+
+const POSITION_REPLY: u16 = 0x0201;
+
+/// The results of a general response (the standard's message body of it).
+const SUCCESS: u8 = 0;
+
+pub(crate) const FAILURE: u8 = 1;
+
+pub(crate) const MESSAGE_ERROR: u8 = 2;
+
+const NOT_SUPPORTED: u8 = 3;
+
+/// What a session keeps between items.
+#[derive(Drop)]
+pub(crate) struct Kept {
+    /// The phone of the first frame.
+    pub(crate) phone: Option<Phone>,
+    pub(crate) assembler: Assembler,
+    /// The serial of the next frame that is written.
+    pub(crate) serial: u16,
+    pub(crate) frames: u64,
+    pub(crate) refused: u64,
+    pub(crate) dropped: u64,
+}
+
+impl Model for Kept {
+    ghost use Rattle.std.specs.Coded.{codes};
+    ghost use Rattle.jt_subpacket.specs.Stored.{partial_code};
+    ghost use Rattle.jt_session.specs.Talk.{State};
+
+    ghost Value = { State };
+
+    ghost coded = { Prim.hlevel (codes, partial_code) };
+
+    ghost view = { λ k. record { phone = k.phone; partial = k.assembler; serial = k.serial; frames = k.frames; refused = k.refused; dropped = k.dropped } };
+}
+
+// Puts octets for which there is room.
+fn put(out: &mut Buffer<u8>, octets: &[u8])
+    requires { length octets.now ≤ out.old.spare }
+    ensures items { out.new.items ≡ out.old.items ++ octets.now }
+    ensures spare { out.new.spare ≡ out.old.spare - length octets.now }
+{
+    for octet in octets {
+        let Ok(()) = out.push(*octet) else {
+            unreachable!();
+        };
+    }
+}
+
+// The body of a general response that names the message.
+fn ack_body(header: &Header, outcome: u8) -> ArrayVec<u8, 1023>
+    ensures octets { result.items ≡ body_octets header.now.edition (ack header.now outcome) }
+    ensures short { length result.items ≡ 5 }
+{
+    law_of_acks();
+    let mut body = ArrayVec::new();
+    body.try_extend_from_slice(&header.serial.to_be_bytes())
+        .unwrap();
+    body.try_extend_from_slice(&header.id.to_be_bytes())
+        .unwrap();
+    body.try_extend_from_slice(&outcome.to_be_bytes()).unwrap();
+    body
+}
+
+// Whether the terminal answers with messages of the id.
+fn is_answer(id: u16) -> bool
+    ensures { result ≡ talk.is_answer id }
+{
+    id == TERMINAL_ACK || id == PARAMS || id == POSITION_REPLY
+}
+
+fn accepted_result(id: u16) -> u8
+    ensures { result ≡ talk.accepted_result id }
+{
+    if id == AUTH || id == DEREGISTER || id == HEARTBEAT {
+        SUCCESS
+    } else {
+        NOT_SUPPORTED
+    }
+}
+
+// The body of a reply to the registration.
+#[tactic(auto, using(std::proofs::Common::append_assoc, jt_layout::proofs::Laws::spell_rest_if), unfolding(jt_codec::specs::Bodies::body, jt_register::specs::Registration::register_reply, jt_layout::specs::Layout::number))]
+fn register_body(header: &Header, outcome: u8, code: &[u8]) -> ArrayVec<u8, 1023>
+    requires room { length code.now ≤ 1020 }
+    requires code { (outcome ≡ 0) ⊎ (code.now ≡ []) }
+    ensures octets { result.items ≡ body_octets header.now.edition (register_reply header.now outcome code.now) }
+    ensures short { length result.items < 2 ^ 10 }
+{
+    let mut body = ArrayVec::new();
+    body.try_extend_from_slice(&header.serial.to_be_bytes())
+        .unwrap();
+    body.try_extend_from_slice(&outcome.to_be_bytes()).unwrap();
+    body.try_extend_from_slice(code).unwrap();
+    body
+}
+
+impl Kept {
+    pub(crate) fn new(alloc: Global) -> Kept
+        ensures { result ≡ start }
+    {
+        Kept {
+            phone: None,
+            assembler: Assembler::new(alloc),
+            serial: 0,
+            frames: 0,
+            refused: 0,
+            dropped: 0,
+        }
+    }
+
+    // Writes a message of this id and body in answer to the header's message.
+    fn say(&mut self, header: &Header, id: u16, body: &[u8], out: &mut Buffer<u8>)
+        requires header { IsHeader header.now }
+        requires short { length body.now < 2 ^ 10 }
+        requires room { 2092 ≤ out.old.spare }
+        ensures state { self.new ≡ record self.old { serial = (self.old.serial + 1) % 65536 } }
+        ensures out { out.new.items ≡ out.old.items ++ framed (content_of (header_to self.old header.now id) body.now) }
+    {
+        let answer = Header {
+            edition: header.edition,
+            id,
+            bit15: false,
+            version: header.version,
+            phone: header.phone,
+            serial: self.serial,
+            packet: None,
+        };
+        let mut frame = ArrayVec::new();
+        frame_into(&answer, body, &mut frame);
+        put(out, frame.as_slice());
+        self.serial = self.serial.wrapping_add(1);
+    }
+
+    // Writes the general response with this result.
+    pub(crate) fn acknowledge(&mut self, header: &Header, outcome: u8, out: &mut Buffer<u8>)
+        requires header { IsHeader header.now }
+        requires room { 2092 ≤ out.old.spare }
+        ensures state { self.new ≡ (saying self.old header.now (Some (ack header.now outcome))).state }
+        ensures out { out.new.items ≡ out.old.items ++ frame_said (saying self.old header.now (Some (ack header.now outcome))).says }
+    {
+        let body = ack_body(header, outcome);
+        self.say(header, PLATFORM_ACK, body.as_slice(), out);
+    }
+
+    // Writes the reply to a registration.
+    fn answer_registration(
+        &mut self,
+        header: &Header,
+        outcome: u8,
+        code: &[u8],
+        out: &mut Buffer<u8>,
+    )
+        requires header { IsHeader header.now }
+        requires room { 2092 ≤ out.old.spare }
+        requires code { length code.now ≤ 1020 }
+        requires outcome { (outcome ≡ 0) ⊎ (code.now ≡ []) }
+        ensures state { self.new ≡ (saying self.old header.now (Some (register_reply header.now outcome code.now))).state }
+        ensures out { out.new.items ≡ out.old.items ++ frame_said (saying self.old header.now (Some (register_reply header.now outcome code.now))).says }
+    {
+        let body = register_body(header, outcome, code);
+        self.say(header, REGISTER_REPLY, body.as_slice(), out);
+    }
+
+    /// Writes what answers the message at this reply, if anything does.
+    pub(crate) fn answer(&mut self, header: &Header, reply: &Reply, out: &mut Buffer<u8>)
+        requires header { IsHeader header.now }
+        requires room { 2092 ≤ out.old.spare }
+        requires code { HasRoomFor reply.now }
+        ensures state { self.new ≡ (saying self.old header.now (answer_to header.now reply.now)).state }
+        ensures out { out.new.items ≡ out.old.items ++ frame_said (saying self.old header.now (answer_to header.now reply.now)).says }
+    {
+        match reply {
+            Reply::Registered(code) => {
+                self.answer_registration(header, SUCCESS, code.as_slice(), out)
+            }
+            Reply::Denied(outcome) => {
+                if header.id == REGISTER {
+                    self.answer_registration(header, *outcome, &[], out)
+                } else {
+                    self.acknowledge(header, FAILURE, out)
+                }
+            }
+            Reply::Accepted => {
+                if !is_answer(header.id) {
+                    self.acknowledge(header, accepted_result(header.id), out)
+                }
+            }
+            Reply::NotLive => {
+                if !is_answer(header.id) {
+                    self.acknowledge(header, FAILURE, out)
+                }
+            }
+            Reply::Stored(_) | Reply::Repeat(_) | Reply::Renumbered(_) => {
+                self.acknowledge(header, SUCCESS, out)
+            }
+            Reply::Fenced(_) => self.acknowledge(header, FAILURE, out),
+            Reply::ListFull(_) | Reply::StoreFault | Reply::Memory => {}
+        }
+    }
+}

@@ -1,0 +1,118 @@
+//! A session: items in, requests and answers out.
+
+ghost use Rattle.std.specs.Prelude.{◌≡◌, ◌≤◌, [], false, Some, None, IfOk, IfSome, IsSome, OnOk};
+ghost use Rattle.jt_escape.specs.Splitter.{StandsFor};
+ghost use Rattle.jt_session.specs.Talk.{start};
+ghost use Rattle.jt_session.specs.Replies.{HasRoomFor};
+ghost use Rattle.jt_session.specs.Sessions as sessions;
+ghost use Rattle.jt_session.specs.Sessions.{IsRepliedTo};
+ghost use Rattle.jt_session.specs.Waiting.{ends_by};
+
+use crate::end::{End, Fed};
+use crate::kept::Kept;
+use jt_header::Header;
+use jt_platform::Reply;
+use jt_stream::Stream;
+use jt_value::{Buffer, Memory};
+use std::alloc::Global;
+use std::marker::Model;
+use std::snapshot::Snapshot;
+
+/// A connection's session of the platform: it reads a terminal's frames, asks for what they want, and answers them.
+#[derive(Drop)]
+pub struct Session {
+    number: u32,
+    stream: Stream,
+    kept: Kept,
+    // The header of the message whose request waits. Its frame is the stream's last one.
+    waiting: Option<Header>,
+    // For contracts alone and in no octets: what was kept before the frame whose request waits.
+    before: Snapshot<Kept>,
+    over: bool,
+}
+
+impl Model for Session {
+    ghost use Rattle.std.specs.Coded.{codes};
+    ghost use Rattle.jt_subpacket.specs.Stored.{partial_code};
+    ghost use Rattle.jt_session.specs.Sessions.{Seen};
+    ghost use Rattle.jt_session.specs.Waiting.{AreFew, Waits, state_of, waiting_of};
+
+    ghost Value = { Seen };
+
+    ghost coded = { Prim.hlevel (codes, partial_code) };
+
+    ghost view = { λ s. record { number = s.number; stream = s.stream.splitter; state = state_of s.waiting s.kept s.before.value; waiting = waiting_of s.waiting s.stream.splitter.content; over = s.over } };
+
+    ghost invariant = { λ s. Waits s.waiting s.kept s.before.value s.stream.splitter.content × AreFew s.kept s.stream.splitter.place };
+}
+
+fn fed_by(reply: &Reply) -> Fed
+    ensures { result ≡ sessions.fed_by reply.now }
+{
+    match reply {
+        Reply::Fenced(other) => Fed::Stop(End::Fenced(*other)),
+        Reply::ListFull(limit) => Fed::Stop(End::ListFull(*limit)),
+        Reply::StoreFault => Fed::Stop(End::StoreFault),
+        Reply::Memory => Fed::Stop(End::Memory),
+        _ => Fed::On,
+    }
+}
+
+fn ends(reply: &Reply) -> bool
+    ensures { result ≡ ends_by reply.now }
+{
+    matches!(
+        reply,
+        Reply::Fenced(_) | Reply::ListFull(_) | Reply::StoreFault | Reply::Memory
+    )
+}
+
+impl Session {
+    /// A session of this number, which has read nothing. Memory never comes, since none is taken.
+    pub fn new(alloc: Global, number: u32) -> Result<Session, Memory>
+        ensures number { IfOk result (λ session. session.number ≡ number) }
+        ensures state { IfOk result (λ session. session.state ≡ start) }
+        ensures stream { IfOk result (λ session. StandsFor session.stream []) }
+        ensures place { IfOk result (λ session. session.stream.place ≡ 0) }
+        ensures waiting { IfOk result (λ session. session.waiting ≡ None) }
+        ensures over { IfOk result (λ session. session.over ≡ false) }
+    {
+        let kept = Kept::new(alloc);
+        let before = Snapshot::of(&kept);
+        Ok(Session {
+            number,
+            stream: Stream::new(),
+            kept,
+            waiting: None,
+            before,
+            over: false,
+        })
+    }
+
+    /// The number that the session was begun with.
+    pub fn number(&self) -> u32
+        ensures { result ≡ self.now.number }
+    {
+        self.number
+    }
+
+    /// Answers the frame whose request waits, by the reply to the request, and puts the answer behind `out`. It takes no memory.
+    /// `On`, or `Stop` with the reply that ended the session: Fenced, which is answered first, or ListFull, StoreFault or Memory,
+    /// which are answered with nothing.
+    pub fn reply(&mut self, reply: &Reply, out: &mut Buffer<u8>) -> Fed
+        requires waits { IsSome self.old.waiting }
+        requires on { self.old.over ≡ false }
+        requires room { 2092 ≤ out.old.spare }
+        requires code { HasRoomFor reply.now }
+        ensures fed { result ≡ sessions.fed_by reply.now }
+        ensures turn { IfSome self.old.waiting (IsRepliedTo self.old self.new reply.now out.old.items out.new.items) }
+    {
+        let Some(header) = self.waiting else {
+            unreachable!();
+        };
+        self.waiting = None;
+        self.kept.answer(&header, reply, out);
+        self.over = ends(reply);
+        fed_by(reply)
+    }
+}
