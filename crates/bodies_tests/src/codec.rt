@@ -54,9 +54,7 @@ fn empty_bodies(rt: HostRuntime) {
 
 #[test]
 fn opaque_bodies(rt: HostRuntime) {
-    for id in [
-        0x0000, 0x0FFF, 0x8600, 0x8602, 0x8604, 0x8606, 0xFFFF,
-    ] {
+    for id in [0x0000, 0x0FFF, 0x8600, 0x8602, 0x8604, 0x8606, 0xFFFF] {
         assert_eq!(rt;
             is_kept(rt.alloc(), Edition::E2019, id, &[7, 9], true),
             Ok(true)

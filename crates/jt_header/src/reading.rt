@@ -147,7 +147,11 @@ fn phone(edition: Edition, field: &[u8]) -> Result<Phone, Refusal>
 
 #[inline(always)]
 #[tactic(auto, unfolding(crate::specs::Reason::bad_packet_number, crate::specs::Fields::packet_at))]
-fn packet(edition: Edition, content: &[u8], attributes: Attributes) -> Result<Option<Packet>, Refusal>
+fn packet(
+    edition: Edition,
+    content: &[u8],
+    attributes: Attributes,
+) -> Result<Option<Packet>, Refusal>
     requires attributes { attributes.0 ≡ attributes_at content.now }
     requires edition { edition ≡ edition_in attributes.0 }
     requires room { header_len_in attributes.0 < length content.now }

@@ -143,7 +143,14 @@ fn push_part_line(
     ensures kept { StartsWith (string_bytes text.new) (string_bytes text.old) }
 {
     line.clear();
-    push_behind_front(text, line, place, header, id_name(header.edition, header.id), body_len)?;
+    push_behind_front(
+        text,
+        line,
+        place,
+        header,
+        id_name(header.edition, header.id),
+        body_len,
+    )?;
     push_octets(text, line, " part=", part)?;
     text.push_str("\n")?;
     Ok(())
