@@ -131,6 +131,7 @@ module _ (h : Held) (s : State) (serial : ℕ) (u : OneUnit) (more : List OneUni
       next_behind = omega (arith, top_is, held_behind, held_reaches);
       next_held = let le = a.next_held in omega (arith, le, reaches, held_reaches);
       fixes = a.fixes;
+      formed = a.formed;
       are_fixes = a.are_fixes;
       code = a.code;
     };

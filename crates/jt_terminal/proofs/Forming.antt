@@ -2,14 +2,14 @@
 use Rattle.std.proofs.Common.{ℕ, zero, suc, ◌≡◌, ◌≢◌, ◌<◌, ◌≤◌, ◌+◌, ◌-◌, ◌%◌, List, [], ◌∷◌, ◌++◌, length, take, drop, map, slice_get, Option, Some, None, Bool, true, false, cond, refl, ap, sym, ◌∙◌, subst, arith}
 use Rattle.std.specs.Prelude.{All, nat_le}
 use Rattle.std.specs.List.{flat_map}
-use Rattle.std.proofs.lemmas.List.{take-append-drop, length-take-le, length-append, map-append, append_assoc, append-nil, drop-append-le}
+use Rattle.std.proofs.lemmas.List.{take-append-drop, length-take-le, length-append, length-drop, map-append, append_assoc, append-nil, drop-append-le}
 use Rattle.std.proofs.lemmas.List.Elements.{All-drop}
 use Rattle.std.proofs.lemmas.Grind.{flat_map-append}
 use Rattle.jt_value.specs.Serials.{serial_of, gap_of}
 use Rattle.jt_position.specs.Fixes.{IsFix, fixes_of}
 use Rattle.jt_store.specs.declared.row.Row.{Row}
 use Rattle.jt_store.specs.declared.unit.Unit.{Unit as OneUnit}
-use Rattle.jt_store.specs.Vaults.{Held, Gaps, gap_after, AreInOrder, IsUnit, held_by, Forms}
+use Rattle.jt_store.specs.Vaults.{Held, Gaps, carried as counts, formed, gap_after, AreInOrder, IsUnit, held_by, Forms}
 use Rattle.jt_terminal.specs.Forming.{unit_of, fitting, batch_unit, position_unit}
 use Rattle.jt_terminal.specs.Law.{AreSteps, UnitCarriesFirstFixes}
 use Rattle.jt_terminal.specs.Steps.{Machine, MayForm, stepped, IsPrefixOf, fixes_in, carried, past, past_accepted}
@@ -41,6 +41,10 @@ after_push mark low (v ∷ units) u = after_push mark (gap_of mark v.serial + 1)
 serials_push : (units : List OneUnit) (u : OneUnit) → AreSerials units → u.serial < 65536 → AreSerials (units ++ u ∷ [])
 serials_push [] u small lt = (lt, tt)
 serials_push (v ∷ units) u small lt = (small.0, serials_push units u small.1 lt)
+
+counts_push : (units : List OneUnit) (u : OneUnit) → counts (units ++ u ∷ []) ≡ counts units + u.count
+counts_push [] u = omega arith
+counts_push (v ∷ units) u = let rest = counts_push units u in omega (arith, rest)
 
 fixes_append : (rows more : List Row) → fixes_in (rows ++ more) ≡ fixes_in rows ++ fixes_in more
 fixes_append rows more = ap (flat_map fixes_of) (map-append carried rows more) ∙ flat_map-append fixes_of (map carried rows) (map carried more)
@@ -171,6 +175,15 @@ module _ (carries : UnitCarriesFirstFixes) (h : Held) (s : State) (o : IsInOrder
     short = o.order.short;
   }
 
+  formed_is : formed (held_by (Forms u) h) + length (drop u.count (fix ∷ more)) ≡ length h.recorded
+  formed_is =
+      let sum = counts_push h.units u in
+      let left = length-drop u.count (fix ∷ more) in
+      let within = carries.count s.next fix more in
+      let all = a.formed in
+      let there = ap (λ (fs : List (List ℕ)). length fs) waits in
+      omega (arith, sum, left, within, all, there)
+
   pub form_steps : AreSteps (machine_of h s) h None (record { state = with_unit s u (fix ∷ more); steps = rule.Changes (Forms u) ∷ []; end = None })
   form_steps = record {
     may = (may, tt);
@@ -185,6 +198,7 @@ module _ (carries : UnitCarriesFirstFixes) (h : Held) (s : State) (o : IsInOrder
       next_behind = let same = ap (gap_of s.mark) next_same in omega (arith, after_push s.mark 1 s.units u, unit_gap, gap_is, same);
       next_held = let same = ap (gap_of s.mark) next_same in omega (arith, same);
       fixes = recorded ∙ ap (λ (fs : List (List ℕ)). fs ++ drop u.count (fix ∷ more)) (sym fixes_are);
+      formed = formed_is;
       are_fixes = All-drop IsFix u.count (fix ∷ more) are;
       code = a.code;
     };

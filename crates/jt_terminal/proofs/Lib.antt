@@ -9,3 +9,4 @@ mod Speaking
 mod Ruling
 mod Cutting
 mod Telling
+mod Starting

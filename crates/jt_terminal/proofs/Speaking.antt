@@ -32,7 +32,7 @@ pub keep_order : (s : State) (p : Phase) (time : ℕ) (w : Wait) (said sent : �
 keep_order s p time w said sent is le o = record { order = o.order; serials = o.serials; phase = is; mark = o.mark; next = o.next; sent = le }
 
 pub keep_agrees : (h : Held) (s : State) (p : Phase) (time : ℕ) (w : Wait) (said sent : ℕ) → Agrees h s → Agrees h (record s { phase = p; time = time; wait = w; said = said; sent = sent })
-keep_agrees h s p time w said sent a = record { known = a.known; units = a.units; mark = a.mark; mark_held = a.mark_held; next_small = a.next_small; next_behind = a.next_behind; next_held = a.next_held; fixes = a.fixes; are_fixes = a.are_fixes; code = a.code }
+keep_agrees h s p time w said sent a = record { known = a.known; units = a.units; mark = a.mark; mark_held = a.mark_held; next_small = a.next_small; next_behind = a.next_behind; next_held = a.next_held; fixes = a.fixes; formed = a.formed; are_fixes = a.are_fixes; code = a.code }
 
 moved_on : (mark next : ℕ) → mark < 65536 → next < 65536 → gap_of mark next < 32766 → gap_of mark (serial_of (next + 1)) ≡ gap_of mark next + 1
 moved_on mark next a b lt = omega arith
@@ -60,7 +60,7 @@ spoken_agrees h s p w o a =
     let n = next_of s o in
     let le = a.next_held in
     let more = n.1 in
-    record { known = a.known; units = a.units; mark = a.mark; mark_held = a.mark_held; next_small = a.next_small; next_behind = a.next_behind; next_held = omega (arith, le, more); fixes = a.fixes; are_fixes = a.are_fixes; code = a.code }
+    record { known = a.known; units = a.units; mark = a.mark; mark_held = a.mark_held; next_small = a.next_small; next_behind = a.next_behind; next_held = omega (arith, le, more); fixes = a.fixes; formed = a.formed; are_fixes = a.are_fixes; code = a.code }
 
 -- ---- headers and bodies
 
@@ -234,7 +234,7 @@ denied_steps m h s just cause same o a = record {
   may = (tt, (tt, tt));
   to = ap (λ (n : Machine). record n { code = None }) same ∙ ap (λ (n : ℕ). record (machine_of (held_by (Sets None) h) (down (record s { code = None }))) { reach = n }) (no_more h.accepted);
   in_order = record { order = record { gaps = o.order.gaps; behind = o.order.behind; near = o.order.near; short = tt }; serials = o.serials; phase = tt; mark = o.mark; next = o.next; sent = omega arith };
-  agrees = record { known = a.known; units = a.units; mark = a.mark; mark_held = a.mark_held; next_small = a.next_small; next_behind = a.next_behind; next_held = a.next_held; fixes = a.fixes; are_fixes = a.are_fixes; code = refl };
+  agrees = record { known = a.known; units = a.units; mark = a.mark; mark_held = a.mark_held; next_small = a.next_small; next_behind = a.next_behind; next_held = a.next_held; fixes = a.fixes; formed = a.formed; are_fixes = a.are_fixes; code = refl };
 }
 
 -- the code is stored while the terminal registers
@@ -244,5 +244,5 @@ sets_steps h s code o a le = record {
   may = (tt, tt);
   to = refl;
   in_order = record { order = record { gaps = o.order.gaps; behind = o.order.behind; near = o.order.near; short = le }; serials = o.serials; phase = o.phase; mark = o.mark; next = o.next; sent = o.sent };
-  agrees = record { known = a.known; units = a.units; mark = a.mark; mark_held = a.mark_held; next_small = a.next_small; next_behind = a.next_behind; next_held = a.next_held; fixes = a.fixes; are_fixes = a.are_fixes; code = refl };
+  agrees = record { known = a.known; units = a.units; mark = a.mark; mark_held = a.mark_held; next_small = a.next_small; next_behind = a.next_behind; next_held = a.next_held; fixes = a.fixes; formed = a.formed; are_fixes = a.are_fixes; code = refl };
 }

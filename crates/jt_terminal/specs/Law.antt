@@ -4,11 +4,13 @@ use Rattle.std.specs.Option.{option_map}
 use Rattle.jt_value.specs.Serials.{gap_of}
 use Rattle.jt_position.specs.Fixes.{IsFix, fixes_of}
 use Rattle.jt_store.specs.declared.unit.Unit.{Unit as OneUnit}
-use Rattle.jt_store.specs.Vaults.{Held, IsUnit}
+use Rattle.jt_store.specs.Vaults.{AreInOrder, Held, IsLoaded, IsUnit, Notes}
+use Rattle.jt_store.specs.declared.unit.Loaded.{Loaded}
+use Rattle.jt_terminal.specs.declared.settings.Settings.{Settings}
 use Rattle.jt_terminal.specs.Forming.{batch_of, body_limit, fitting, unit_of}
 use Rattle.jt_terminal.specs.Messages.{Acknowledgement, AreSettings}
-use Rattle.jt_terminal.specs.Steps.{Machine, MayRun, run, hears, told_by}
-use Rattle.jt_terminal.specs.Rule.{State, Event, Ruled, Step, Sends, Says, Changes, Opens, Loses, after_control, down, response, rule, told}
+use Rattle.jt_terminal.specs.Steps.{Machine, MayRun, Restarts, run, stepped, hears, told_by}
+use Rattle.jt_terminal.specs.Rule.{State, Event, Ruled, Step, Sends, Says, Changes, Opens, Loses, after_control, down, noted, response, rule, started, told}
 use Rattle.jt_terminal.specs.Machines.{machine_of, as_steps, held_after, Agrees, IsInOrder}
 
 -- a batch may have at most 1,023 octets where it has at most so many fixes, and only there
@@ -63,3 +65,18 @@ RuleIsCutInSteps = (held : Held) (s : State) (event : Event) → AreSettings s.s
 -- the unit whose acceptance the terminal is told is the machine's
 abbrev pub RuleTellsTheUnit : Type 0
 RuleTellsTheUnit = (held : Held) (s : State) (just : Option Acknowledgement) → IsInOrder s → Agrees held s → option_map (λ older. held.accepted + older) (told s just) ≡ told_by (machine_of held s) just
+
+-- a fix that is recorded is a step, and leaves the terminal in order
+abbrev pub NotedFixIsAStep : Type 0
+NotedFixIsAStep = (held : Held) (s : State) (fix : List ℕ) → IsFix fix → IsInOrder s → Agrees held s
+    → AreSteps (machine_of held s) held None (record { state = noted s fix; steps = Changes (Notes fix) ∷ []; end = None })
+
+-- a terminal that starts again over what its vault loads is in order, and agrees with the vault
+pub record IsRestarted (held : Held) (s now : State) : Type 0 where
+  pub in_order : IsInOrder now
+  pub agrees : Agrees held now
+  pub to : stepped (machine_of held s) Restarts ≡ machine_of held now
+
+abbrev pub StartIsARestart : Type 0
+StartIsARestart = (held : Held) (s : State) (settings : Settings) (loaded : Loaded) → IsInOrder s → Agrees held s → IsLoaded held loaded → AreInOrder loaded.mark loaded.next loaded.units loaded.code
+    → settings.phone ≡ s.settings.phone → IsRestarted held s (started settings loaded)

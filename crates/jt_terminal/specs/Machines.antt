@@ -4,7 +4,7 @@ use Rattle.jt_value.specs.Serials.{gap_of}
 use Rattle.jt_position.specs.Fixes.{IsFix}
 use Rattle.jt_store.specs.declared.row.Row.{Row}
 use Rattle.jt_store.specs.declared.unit.Unit.{Unit as OneUnit}
-use Rattle.jt_store.specs.Vaults.{Held, Change, Notes, Forms, Accepts, Sets, held_by, gap_after, AreInOrder}
+use Rattle.jt_store.specs.Vaults.{Held, Change, Notes, Forms, Accepts, Sets, held_by, formed, gap_after, AreInOrder}
 use Rattle.jt_store.specs.Verdicts.{row_of, number_after, numbered}
 use Rattle.jt_terminal.specs.declared.state.Phase.{Phase}
 use Rattle.jt_terminal.specs.declared.state.Phase.TheVariants.{Down, Registering, Authenticating, Live}
@@ -123,5 +123,6 @@ pub record Agrees (held : Held) (s : State) : Type 0 where
   pub next_behind : gap_after s.mark 1 s.units ≤ gap_of s.mark held.next
   pub next_held : gap_of s.mark held.next ≤ gap_of s.mark s.next
   pub fixes : held.recorded ≡ fixes_in (numbered None held.units) ++ s.waiting
+  pub formed : formed held + length s.waiting ≡ length held.recorded
   pub are_fixes : All IsFix s.waiting
   pub code : held.code ≡ s.code

@@ -9,6 +9,7 @@ use Rattle.jt_codec.specs.Bodies.{body_octets}
 use Rattle.jt_codec.specs.declared.message.Message.{Message}
 use Rattle.jt_codec.specs.declared.message.Message.TheVariants as message
 use Rattle.jt_store.specs.declared.unit.Unit.{Unit as OneUnit}
+use Rattle.jt_store.specs.declared.unit.Loaded.{Loaded}
 use Rattle.jt_store.specs.Vaults.{Change, Forms, Accepts, Sets}
 use Rattle.jt_terminal.specs.declared.settings.Settings.{Settings}
 use Rattle.jt_terminal.specs.declared.state.Phase.{Phase}
@@ -54,6 +55,31 @@ pub record State : Type 0 where
   pub mark : ℕ
   pub next : ℕ
   pub code : Option (List ℕ)
+
+-- the parameters that a terminal begins with
+abbrev pub timing_of : Settings → Timing
+timing_of settings = record { heartbeat = settings.heartbeat; answer = settings.answer; repeats = settings.repeats }
+
+-- a terminal that starts over what its vault loads: the serial that is next is the one that was committed
+abbrev pub started : Settings → Loaded → State
+started settings loaded = record {
+  settings = settings;
+  phase = Down;
+  time = 0;
+  timing = timing_of settings;
+  wait = record { since = 0; last = 0; sendings = 0; first = 0; repeats = 0 };
+  said = 0;
+  units = loaded.units;
+  sent = 0;
+  waiting = loaded.fixes;
+  mark = loaded.mark;
+  next = loaded.next;
+  code = loaded.code;
+}
+
+-- a fix is recorded, and waits
+abbrev pub noted : State → List ℕ → State
+noted s fix = record s { waiting = s.waiting ++ fix ∷ [] }
 
 -- ---- what happens to it
 

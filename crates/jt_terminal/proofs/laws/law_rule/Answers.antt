@@ -4,6 +4,7 @@ use Rattle.jt_terminal.proofs.Batches.{unit_carries}
 use Rattle.jt_terminal.proofs.Controlling.{last_place}
 use Rattle.jt_terminal.proofs.Ruling.{rule_steps}
 use Rattle.jt_terminal.proofs.Telling.{rule_tells}
+use Rattle.jt_terminal.proofs.Starting.{noted_is_a_step, start_is_a_restart}
 use Rattle.jt_terminal.proofs.laws.law_rule.Goals as goal
 
 pub returns-clause-control : goal.returns-clause-control
@@ -18,3 +19,9 @@ returns-clause-cut c = λ held s event good o a.
 
 pub returns-clause-told : goal.returns-clause-told
 returns-clause-told c = rule_tells
+
+pub returns-clause-noted : goal.returns-clause-noted
+returns-clause-noted c = noted_is_a_step
+
+pub returns-clause-start : goal.returns-clause-start
+returns-clause-start c = start_is_a_restart

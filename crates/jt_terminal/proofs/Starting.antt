@@ -1,0 +1,76 @@
+-- A fix is recorded, and a terminal starts again.
+use Rattle.std.proofs.Common.{ℕ, ◌≡◌, ◌≤◌, ◌<◌, ◌+◌, List, [], ◌∷◌, ◌++◌, length, drop, Option, Some, None, refl, ap, sym, ◌∙◌, subst, arith}
+use Rattle.std.specs.Prelude.{All}
+use Rattle.std.proofs.lemmas.List.{length-append, append_assoc}
+use Rattle.std.proofs.Math.Seq.{drop-append_seam}
+use Rattle.std.proofs.lemmas.List.Elements.{All-push}
+use Rattle.jt_value.specs.Serials.{gap_of}
+use Rattle.jt_value.specs.declared.phone.Phone.{Phone}
+use Rattle.jt_position.specs.Fixes.{IsFix}
+use Rattle.jt_store.specs.declared.unit.Loaded.{Loaded}
+use Rattle.jt_store.specs.declared.unit.Unit.{Unit as OneUnit}
+use Rattle.jt_store.specs.Vaults.{Held, AreInOrder, IsLoaded, formed, gap_after}
+use Rattle.jt_store.specs.Verdicts.{numbered}
+use Rattle.jt_terminal.specs.declared.settings.Settings.{Settings}
+use Rattle.jt_terminal.specs.Steps.{fixes_in, past_accepted}
+use Rattle.jt_terminal.specs.Rule.{State, started}
+use Rattle.jt_terminal.specs.Machines.{machine_of, mark_of, AreSerials, IsInOrder, Agrees}
+use Rattle.jt_terminal.specs.Law.{NotedFixIsAStep, IsRestarted, StartIsARestart}
+
+pub noted_is_a_step : NotedFixIsAStep
+noted_is_a_step h s fix is o a = record {
+  may = (is, tt);
+  to = refl;
+  in_order = record { order = o.order; serials = o.serials; phase = o.phase; mark = o.mark; next = o.next; sent = o.sent };
+  agrees = record {
+    known = a.known;
+    units = a.units;
+    mark = a.mark;
+    mark_held = a.mark_held;
+    next_small = a.next_small;
+    next_behind = a.next_behind;
+    next_held = a.next_held;
+    fixes = ap (λ (fs : List (List ℕ)). fs ++ fix ∷ []) a.fixes ∙ append_assoc (fixes_in (numbered None h.units)) s.waiting (fix ∷ []);
+    formed = let all = a.formed in omega (arith, length-append s.waiting (fix ∷ []), length-append h.recorded (fix ∷ []), all);
+    are_fixes = All-push IsFix s.waiting fix a.are_fixes is;
+    code = a.code;
+  };
+}
+
+-- the fixes that wait are those that are in no unit
+pub waiting_is : (h : Held) (s : State) → Agrees h s → drop (formed h) h.recorded ≡ s.waiting
+waiting_is h s a =
+    let len = ap (λ (fs : List (List ℕ)). length fs) a.fixes ∙ length-append (fixes_in (numbered None h.units)) s.waiting in
+    let all = a.formed in
+    let same : formed h ≡ length (fixes_in (numbered None h.units)) = omega (arith, len, all) in
+    ap (λ (n : ℕ). drop n h.recorded) same ∙ (ap (drop (length (fixes_in (numbered None h.units)))) a.fixes ∙ drop-append_seam (fixes_in (numbered None h.units)) s.waiting)
+
+no_more : (n : ℕ) → n ≡ n + 0
+no_more n = omega arith
+
+pub start_is_a_restart : StartIsARestart
+start_is_a_restart h s settings l o a is order own =
+    let units : l.units ≡ s.units = is.units ∙ sym a.units in
+    let mark : l.mark ≡ s.mark = is.mark ∙ a.mark_held in
+    let fixes : l.fixes ≡ s.waiting = is.fixes ∙ waiting_is h s a in
+    let small = o.mark in
+    let next = a.next_small in
+    let next_is = is.next in
+    let behind = a.next_behind in
+    record {
+      in_order = record { order = order; serials = subst AreSerials (sym units) o.serials; phase = tt; mark = omega (arith, mark, small); next = omega (arith, next_is, next); sent = omega arith };
+      agrees = record {
+        known = a.known;
+        units = is.units;
+        mark = mark ∙ a.mark;
+        mark_held = sym is.mark;
+        next_small = next;
+        next_behind = subst (λ (us : List OneUnit). gap_after l.mark 1 us ≤ gap_of l.mark h.next) (sym units) (subst (λ (m : ℕ). gap_after m 1 s.units ≤ gap_of m h.next) (sym mark) behind);
+        next_held = let same = ap (gap_of l.mark) next_is in omega (arith, same);
+        fixes = a.fixes ∙ ap (λ (fs : List (List ℕ)). fixes_in (numbered None h.units) ++ fs) (sym fixes);
+        formed = let all = a.formed in let len = ap (λ (fs : List (List ℕ)). length fs) fixes in omega (arith, all, len);
+        are_fixes = subst (All IsFix) (sym fixes) a.are_fixes;
+        code = sym is.code;
+      };
+      to = ap (λ (n : ℕ). record (machine_of h (started settings l)) { phone = s.settings.phone; reach = n }) (no_more h.accepted) ∙ ap (λ (p : Phone). record (machine_of h (started settings l)) { phone = p }) (sym own);
+    }
