@@ -5,6 +5,7 @@ use Rattle.std.specs.List.{flat_map}
 use Rattle.std.proofs.lemmas.List.{take-append-drop, length-take-le, length-append, length-drop, map-append, append_assoc, append-nil, drop-append-le}
 use Rattle.std.proofs.lemmas.List.Elements.{All-drop}
 use Rattle.std.proofs.lemmas.Grind.{flat_map-append}
+use Rattle.std.proofs.lemmas.List.Sums.{sum_by-append}
 use Rattle.jt_value.specs.Serials.{serial_of, gap_of}
 use Rattle.jt_position.specs.Fixes.{IsFix, fixes_of}
 use Rattle.jt_store.specs.declared.row.Row.{Row}
@@ -43,8 +44,7 @@ serials_push [] u small lt = (lt, tt)
 serials_push (v ∷ units) u small lt = (small.0, serials_push units u small.1 lt)
 
 counts_push : (units : List OneUnit) (u : OneUnit) → counts (units ++ u ∷ []) ≡ counts units + u.count
-counts_push [] u = omega arith
-counts_push (v ∷ units) u = let rest = counts_push units u in omega (arith, rest)
+counts_push units u = let alone : counts (u ∷ []) ≡ u.count = omega arith in let both = sum_by-append (λ (x : OneUnit). x.count) units (u ∷ []) in omega (arith, both, alone)
 
 fixes_append : (rows more : List Row) → fixes_in (rows ++ more) ≡ fixes_in rows ++ fixes_in more
 fixes_append rows more = ap (flat_map fixes_of) (map-append carried rows more) ∙ flat_map-append fixes_of (map carried rows) (map carried more)
