@@ -1,21 +1,18 @@
 -- An acceptance moves the mark by one unit.
-use Rattle.std.proofs.Common.{ℕ, zero, suc, ◌≡◌, ◌<◌, ◌≤◌, ◌+◌, ◌-◌, ◌%◌, List, [], ◌∷◌, ◌++◌, length, take, drop, slice_get, Option, Some, None, refl, ap, sym, ◌∙◌, subst, arith, IsTrue}
+use Rattle.std.proofs.Common.{ℕ, zero, suc, ◌≡◌, ◌<◌, ◌≤◌, ◌+◌, ◌-◌, List, [], ◌∷◌, length, drop, slice_get, Option, Some, None, ap, sym, ◌∙◌, subst, arith, IsTrue}
 use Rattle.std.specs.Prelude.{Bool, true, false, ◌&&◌, ◌==◌}
 use Rattle.jt_value.specs.Serials.{serial_of, gap_of}
 use Rattle.jt_store.specs.declared.row.Row.{Row}
 use Rattle.jt_store.specs.declared.unit.Unit.{Unit as OneUnit}
-use Rattle.jt_store.specs.Vaults.{Held, Gaps, gap_after, AreInOrder, IsUnit, serial_or, held_by, Accepts}
-use Rattle.jt_terminal.specs.declared.state.Phase.{Phase}
+use Rattle.jt_store.specs.Vaults.{Held, Gaps, gap_after, AreInOrder, serial_or, Accepts}
 use Rattle.jt_terminal.specs.declared.state.Phase.TheVariants.{Live}
 use Rattle.jt_terminal.specs.Messages.{Acknowledgement, is_acceptance}
-use Rattle.jt_terminal.specs.Steps.{Machine, MayStep, stepped, past, past_accepted, is_named}
-use Rattle.jt_terminal.specs.Steps as step
+use Rattle.jt_terminal.specs.Steps.{past, past_accepted, is_named}
 use Rattle.jt_terminal.specs.Rule.{State, accepted, names}
 use Rattle.jt_terminal.specs.Rule as rule
 use Rattle.jt_store.specs.Verdicts.{number_after, numbered}
 use Rattle.jt_terminal.specs.Machines.{row_after, machine_of, mark_of, is_up, Agrees, IsInOrder, AreSerials}
 use Rattle.jt_terminal.specs.Law.{AreSteps}
-use Rattle.jt_terminal.proofs.Numbering.{length-numbered}
 
 -- the unit in a place, with its number
 pub row_in : (last : Option ℕ) (units : List OneUnit) (place : ℕ) (u : OneUnit) (more : List OneUnit) → drop place units ≡ u ∷ more

@@ -1,11 +1,10 @@
 -- The fixes of a batch, and how many go into one.
-use Rattle.std.proofs.Common.{ℕ, zero, suc, ◌≡◌, ◌<◌, ◌≤◌, ◌+◌, ◌-◌, ◌*◌, ◌^◌, List, [], ◌∷◌, ◌++◌, length, take, drop, map, Option, Some, None, Bool, true, false, cond, refl, ap, sym, ◌∙◌, subst, arith, inl, inr}
+use Rattle.std.proofs.Common.{ℕ, zero, suc, ◌≡◌, ◌<◌, ◌≤◌, ◌+◌, List, [], ◌∷◌, ◌++◌, length, take, map, Bool, true, false, cond, refl, ap, sym, ◌∙◌, subst, arith, inl, inr}
 use Rattle.std.specs.Prelude.{All, nat_le}
 use Rattle.std.specs.List.{flat_map, AllByRecursion}
-use Rattle.std.specs.Int.{w8, w16, to_be_bytes, byte_len}
+use Rattle.std.specs.Int.{w8, w16, to_be_bytes}
 use Rattle.std.proofs.Math.Dec.{leb}
 use Rattle.std.proofs.lemmas.Bool.{leb-true, le-leb}
-use Rattle.std.proofs.lemmas.Nat.{be_bytes_2}
 use Rattle.std.proofs.lemmas.List.{length-append, length-take-le}
 use Rattle.std.proofs.lemmas.List.Elements.{All-head, All-tail, All-take}
 use Rattle.jt_layout.specs.Layout.{Fills, number, word, sized}
@@ -13,7 +12,6 @@ use Rattle.jt_position.specs.declared.position.Position.{Position}
 use Rattle.jt_position.specs.declared.batch.Batch.{Batch}
 use Rattle.jt_position.specs.Positions.{position, batch}
 use Rattle.jt_position.specs.Fixes.{IsFix, FixesAre, fixes_of}
-use Rattle.jt_store.specs.declared.unit.Unit.{Unit as OneUnit}
 use Rattle.jt_store.specs.Vaults.{IsUnit}
 use Rattle.jt_terminal.specs.Forming.{body_limit, in_batch, batch_of, fitting, fitting_behind, batch_unit, position_unit, unit_of}
 use Rattle.jt_terminal.specs.Law.{FittingIsGreatest, UnitCarriesFirstFixes}

@@ -1,6 +1,6 @@
 -- Steps one after another.
-use Rattle.std.proofs.Common.{ℕ, ◌≡◌, List, [], ◌∷◌, ◌++◌, Option, Some, None, refl, ap, sym, ◌∙◌, subst}
-use Rattle.jt_store.specs.Vaults.{Held, Change, Notes, Forms, Accepts, Sets, held_by}
+use Rattle.std.proofs.Common.{◌≡◌, List, [], ◌∷◌, ◌++◌, Option, None, refl, ap, sym, ◌∙◌, subst}
+use Rattle.jt_store.specs.Vaults.{Held, held_by}
 use Rattle.jt_terminal.specs.Messages.{Acknowledgement}
 use Rattle.jt_terminal.specs.Steps.{Machine, TerminalStep, MayStep, MayRun, run, stepped}
 use Rattle.jt_terminal.specs.Steps as step

@@ -3,7 +3,6 @@ use Rattle.std.proofs.Common.{ℕ, ◌≡◌, ◌<◌, ◌≤◌, ◌+◌, Bool,
 use Rattle.std.specs.Prelude.{nat_lt}
 use Rattle.std.proofs.lemmas.Bool.{ltb-true}
 use Rattle.jt_value.specs.Serials.{gap_of, serial_of}
-use Rattle.jt_terminal.specs.Rule.{State, after_control}
 use Rattle.jt_terminal.specs.Law.{ControlKeepsTheLastPlace}
 
 moved_on : (mark next : ℕ) → mark < 65536 → next < 65536 → gap_of mark next < 32766 → gap_of mark (serial_of (next + 1)) ≤ 32766

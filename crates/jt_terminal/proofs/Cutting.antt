@@ -1,7 +1,6 @@
 -- Steps of the rule that are cut short: what the vault committed, and then the loss of the line.
-use Rattle.std.proofs.Common.{ℕ, ◌≡◌, ◌+◌, List, [], ◌∷◌, ◌++◌, Option, Some, None, Bool, refl, ap, sym, ◌∙◌, subst, arith}
+use Rattle.std.proofs.Common.{ℕ, ◌≡◌, ◌+◌, List, [], ◌∷◌, ◌++◌, Option, Some, None, Bool, ap, sym, ◌∙◌, subst, arith}
 use Rattle.jt_store.specs.declared.row.Row.{Row}
-use Rattle.jt_store.specs.declared.unit.Unit.{Unit as OneUnit}
 use Rattle.jt_store.specs.Vaults.{Held, Notes, Forms, Accepts, Sets, held_by}
 use Rattle.jt_terminal.specs.Messages.{Acknowledgement}
 use Rattle.jt_terminal.specs.Steps.{Machine, TerminalStep, MayForm, MayRun, run, stepped, hears}
@@ -9,7 +8,7 @@ use Rattle.jt_terminal.specs.Steps as step
 use Rattle.jt_terminal.specs.Rule.{State, Step, Ruled, down}
 use Rattle.jt_terminal.specs.Rule as rule
 use Rattle.jt_store.specs.Verdicts.{numbered}
-use Rattle.jt_terminal.specs.Machines.{machine_of, as_step, as_steps, held_after, row_after, last_number}
+use Rattle.jt_terminal.specs.Machines.{machine_of, as_steps, held_after, row_after, last_number}
 use Rattle.jt_terminal.specs.Law.{changes_then_loss, AreCutSteps}
 use Rattle.jt_terminal.proofs.Numbering.{numbered-append}
 use Rattle.jt_terminal.proofs.Composing.{as_steps-append}

@@ -1,20 +1,17 @@
 -- The window is filled by steps of the machine.
-use Rattle.std.proofs.Common.{ℕ, zero, suc, ◌≡◌, ◌<◌, ◌≤◌, ◌+◌, ◌-◌, List, [], ◌∷◌, ◌++◌, length, drop, slice_get, Option, Some, None, Bool, true, false, cond, refl, ap, sym, ◌∙◌, subst, arith, IsTrue}
+use Rattle.std.proofs.Common.{ℕ, zero, suc, ◌≡◌, ◌<◌, ◌≤◌, ◌+◌, List, [], ◌∷◌, ◌++◌, length, drop, slice_get, Option, Some, None, Bool, true, false, cond, refl, ap, sym, ◌∙◌, subst, arith, IsTrue}
 use Rattle.std.specs.Prelude.{nat_lt, max}
-use Rattle.std.proofs.lemmas.Bool.{ltb-true, ltb-false}
-use Rattle.std.proofs.lemmas.List.{length-append, length-drop}
+use Rattle.std.proofs.lemmas.Bool.{ltb-true}
+use Rattle.std.proofs.lemmas.List.{length-drop}
 use Rattle.std.proofs.lemmas.Option.{slice_get_within}
 use Rattle.jt_value.specs.Serials.{gap_of, serial_of}
 use Rattle.jt_store.specs.declared.unit.Unit.{Unit as OneUnit}
 use Rattle.jt_store.specs.Vaults.{Held, Forms, Accepts, held_by}
-use Rattle.jt_terminal.specs.declared.state.Phase.{Phase}
 use Rattle.jt_terminal.specs.declared.state.Phase.TheVariants.{Live}
 use Rattle.jt_terminal.specs.Forming.{unit_of}
 use Rattle.jt_terminal.specs.Messages.{Acknowledgement, is_acceptance}
-use Rattle.jt_terminal.specs.Steps.{Machine, stepped}
 use Rattle.jt_terminal.specs.Rule.{State, Ruled, one_sent, forms_one, sends_one, next_one, or_stays, fill, fills, window, and_then, accepted, names}
 use Rattle.jt_terminal.specs.Rule as rule
-use Rattle.jt_store.specs.Verdicts.{numbered}
 use Rattle.jt_terminal.specs.Machines.{machine_of, is_up, is_live, held_after, Agrees, IsInOrder}
 use Rattle.jt_terminal.specs.Law.{AreSteps, UnitCarriesFirstFixes}
 use Rattle.jt_terminal.proofs.Numbering.{length-numbered}

@@ -1,5 +1,5 @@
 -- A unit of the next serial may be formed.
-use Rattle.std.proofs.Common.{ℕ, zero, suc, ◌≡◌, ◌≢◌, ◌<◌, ◌≤◌, ◌+◌, ◌-◌, ◌%◌, List, [], ◌∷◌, ◌++◌, length, take, drop, map, slice_get, Option, Some, None, Bool, true, false, cond, refl, ap, sym, ◌∙◌, subst, arith}
+use Rattle.std.proofs.Common.{ℕ, zero, suc, ◌≡◌, ◌≢◌, ◌<◌, ◌≤◌, ◌+◌, List, [], ◌∷◌, ◌++◌, length, take, drop, map, slice_get, Option, Some, None, Bool, true, false, cond, refl, ap, sym, ◌∙◌, subst, arith}
 use Rattle.std.specs.Prelude.{All, nat_le}
 use Rattle.std.specs.List.{flat_map}
 use Rattle.std.proofs.lemmas.List.{take-append-drop, length-take-le, length-append, length-drop, map-append, append_assoc, append-nil, drop-append-le}
@@ -13,7 +13,7 @@ use Rattle.jt_store.specs.declared.unit.Unit.{Unit as OneUnit}
 use Rattle.jt_store.specs.Vaults.{Held, Gaps, carried as counts, formed, gap_after, AreInOrder, IsUnit, held_by, Forms}
 use Rattle.jt_terminal.specs.Forming.{unit_of, fitting, batch_unit, position_unit}
 use Rattle.jt_terminal.specs.Law.{AreSteps, UnitCarriesFirstFixes}
-use Rattle.jt_terminal.specs.Steps.{Machine, MayForm, stepped, IsPrefixOf, fixes_in, carried, past, past_accepted}
+use Rattle.jt_terminal.specs.Steps.{MayForm, IsPrefixOf, fixes_in, carried, past, past_accepted}
 use Rattle.jt_terminal.specs.Rule.{State}
 use Rattle.jt_terminal.specs.Rule as rule
 use Rattle.jt_store.specs.Verdicts.{number_after, numbered}

@@ -1,5 +1,5 @@
 -- The rule at each event is steps of the machine.
-use Rattle.std.proofs.Common.{ℕ, zero, suc, ◌≡◌, ◌<◌, ◌≤◌, ◌+◌, List, [], ◌∷◌, ◌++◌, length, Option, Some, None, Bool, true, false, cond, refl, ap, sym, ◌∙◌, subst, arith, IsTrue}
+use Rattle.std.proofs.Common.{ℕ, ◌≡◌, ◌<◌, ◌+◌, List, [], ◌∷◌, ◌++◌, length, Some, None, Bool, true, false, cond, refl, ap, ◌∙◌, arith}
 use Rattle.std.specs.Prelude.{nat_lt, nat_le, not, ◌==◌, ◌&&◌, ◌||◌, max}
 use Rattle.std.specs.Option.{unwrap_or}
 use Rattle.std.proofs.lemmas.Bool.{ltb-true, leb-true, eq-eqb}
@@ -15,10 +15,9 @@ use Rattle.jt_terminal.specs.declared.state.GiveUp.TheVariants.{Denied, TimedOut
 use Rattle.jt_terminal.specs.declared.state.Phase.{Phase}
 use Rattle.jt_terminal.specs.declared.state.Phase.TheVariants.{Down, Registering, Authenticating, Live}
 use Rattle.jt_terminal.specs.Messages.{Acknowledgement, AreSettings, header_of, is_acceptance}
-use Rattle.jt_terminal.specs.Steps.{Machine, hears, lets_in, without_line, auths_by}
+use Rattle.jt_terminal.specs.Steps.{Machine, hears, lets_in, auths_by}
 use Rattle.jt_terminal.specs.Rule.{State, Ruled, fills, window, fills_if_live, responded, answered, authenticated, registered, replied, received, response_in, names, beats, beats_if_silent, is_silent, beaten, repeats, again, oldest_again, goes_on, has_passed, sent_again, ticked, gives_up, accepts, and_then}
 use Rattle.jt_terminal.specs.Rule as rule
-use Rattle.jt_store.specs.Verdicts.{numbered}
 use Rattle.jt_terminal.specs.Machines.{machine_of, held_after, IsPhase, IsInOrder, Agrees}
 use Rattle.jt_terminal.specs.Law.{AreSteps, RuleTakesSteps, UnitCarriesFirstFixes}
 use Rattle.jt_terminal.proofs.Numbering.{length-numbered}

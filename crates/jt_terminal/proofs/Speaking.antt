@@ -1,9 +1,9 @@
 -- Control messages and the end of a line are steps of the machine.
-use Rattle.std.proofs.Common.{ℕ, zero, suc, ◌≡◌, ◌≢◌, ◌<◌, ◌≤◌, ◌+◌, ◌^◌, List, [], ◌∷◌, ◌++◌, length, Option, Some, None, Bool, true, false, cond, refl, ap, sym, ◌∙◌, subst, arith, inl, inr}
-use Rattle.std.specs.Prelude.{nat_lt, ◌==◌, ◌&&◌, ◌||◌, IfSome}
+use Rattle.std.proofs.Common.{ℕ, ◌≡◌, ◌<◌, ◌≤◌, ◌+◌, ◌^◌, List, [], ◌∷◌, ◌++◌, length, Option, Some, None, Bool, true, false, cond, refl, ap, ◌∙◌, arith, inl, inr}
+use Rattle.std.specs.Prelude.{nat_lt, IfSome}
 use Rattle.std.specs.Option.{unwrap_or}
 use Rattle.std.specs.Int.{w8, w16, to_be_bytes}
-use Rattle.std.proofs.lemmas.Bool.{ltb-true, eq-eqb}
+use Rattle.std.proofs.lemmas.Bool.{ltb-true}
 use Rattle.std.proofs.lemmas.List.{length-append}
 use Rattle.jt_value.specs.Serials.{gap_of, serial_of}
 use Rattle.jt_value.specs.declared.phone.Edition.{Edition}
@@ -12,7 +12,6 @@ use Rattle.jt_header.specs.Content.{IsHeader, IsVersion}
 use Rattle.jt_layout.specs.Layout.{number, octets_of, rest}
 use Rattle.jt_register.specs.Registration.{register, auth, auth_2013, auth_2019, auth_tail, maker_len, model_len, terminal_len}
 use Rattle.jt_register.specs.declared.auth.AuthTail.{AuthTail}
-use Rattle.jt_store.specs.declared.unit.Unit.{Unit as OneUnit}
 use Rattle.jt_store.specs.Vaults.{Held, Sets, held_by}
 use Rattle.jt_terminal.specs.declared.settings.Settings.{Settings}
 use Rattle.jt_terminal.specs.declared.state.GiveUp.{GiveUp}
@@ -23,7 +22,7 @@ use Rattle.jt_terminal.specs.Steps.{Machine, MaySay, stepped, without_line, auth
 use Rattle.jt_terminal.specs.Steps as step
 use Rattle.jt_terminal.specs.Rule.{State, Wait, Ruled, after_control, down, begun, beats, registers, authenticates, introduces, opened, gives_up}
 use Rattle.jt_terminal.specs.Rule as rule
-use Rattle.jt_terminal.specs.Machines.{machine_of, is_up, is_live, auths_of, IsPhase, IsInOrder, Agrees}
+use Rattle.jt_terminal.specs.Machines.{machine_of, IsPhase, IsInOrder, Agrees}
 use Rattle.jt_terminal.specs.Law.{AreSteps}
 
 -- ---- states with the same lists

@@ -1,5 +1,5 @@
 -- A fix is recorded, and a terminal starts again.
-use Rattle.std.proofs.Common.{ℕ, ◌≡◌, ◌≤◌, ◌<◌, ◌+◌, List, [], ◌∷◌, ◌++◌, length, drop, Option, Some, None, refl, ap, sym, ◌∙◌, subst, arith}
+use Rattle.std.proofs.Common.{ℕ, ◌≡◌, ◌≤◌, ◌+◌, List, [], ◌∷◌, ◌++◌, length, drop, None, refl, ap, sym, ◌∙◌, subst, arith}
 use Rattle.std.specs.Prelude.{All}
 use Rattle.std.proofs.lemmas.List.{length-append, append_assoc}
 use Rattle.std.proofs.Math.Seq.{drop-append_seam}
@@ -7,15 +7,13 @@ use Rattle.std.proofs.lemmas.List.Elements.{All-push}
 use Rattle.jt_value.specs.Serials.{gap_of}
 use Rattle.jt_value.specs.declared.phone.Phone.{Phone}
 use Rattle.jt_position.specs.Fixes.{IsFix}
-use Rattle.jt_store.specs.declared.unit.Loaded.{Loaded}
 use Rattle.jt_store.specs.declared.unit.Unit.{Unit as OneUnit}
-use Rattle.jt_store.specs.Vaults.{Held, AreInOrder, IsLoaded, formed, gap_after}
+use Rattle.jt_store.specs.Vaults.{Held, formed, gap_after}
 use Rattle.jt_store.specs.Verdicts.{numbered}
-use Rattle.jt_terminal.specs.declared.settings.Settings.{Settings}
-use Rattle.jt_terminal.specs.Steps.{fixes_in, past_accepted}
+use Rattle.jt_terminal.specs.Steps.{fixes_in}
 use Rattle.jt_terminal.specs.Rule.{State, started}
-use Rattle.jt_terminal.specs.Machines.{machine_of, mark_of, AreSerials, IsInOrder, Agrees}
-use Rattle.jt_terminal.specs.Law.{NotedFixIsAStep, IsRestarted, StartIsARestart}
+use Rattle.jt_terminal.specs.Machines.{machine_of, AreSerials, Agrees}
+use Rattle.jt_terminal.specs.Law.{NotedFixIsAStep, StartIsARestart}
 
 pub noted_is_a_step : NotedFixIsAStep
 noted_is_a_step h s fix is o a = record {

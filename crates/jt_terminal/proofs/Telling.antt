@@ -1,16 +1,14 @@
 -- Which unit's acceptance a terminal is told.
-use Rattle.std.proofs.Common.{ℕ, zero, suc, ◌≡◌, ◌≤◌, ◌+◌, ◌-◌, List, [], ◌∷◌, length, drop, slice_get, Option, Some, None, Bool, true, false, cond, refl, ap, sym, ◌∙◌, subst, arith}
+use Rattle.std.proofs.Common.{ℕ, zero, suc, ◌≡◌, ◌+◌, ◌-◌, List, [], ◌∷◌, drop, slice_get, Option, Some, None, Bool, true, false, cond, refl, ap, sym, ◌∙◌, subst, arith}
 use Rattle.std.specs.Prelude.{◌==◌, ◌&&◌}
 use Rattle.std.specs.Option.{option_map}
-use Rattle.jt_value.specs.Serials.{serial_of}
 use Rattle.jt_store.specs.declared.row.Row.{Row}
 use Rattle.jt_store.specs.declared.unit.Unit.{Unit as OneUnit}
-use Rattle.jt_store.specs.Vaults.{Held}
 use Rattle.jt_store.specs.Verdicts.{number_after, numbered}
 use Rattle.jt_terminal.specs.Messages.{Acknowledgement, is_acceptance}
-use Rattle.jt_terminal.specs.Steps.{is_named, named_from, told_by}
-use Rattle.jt_terminal.specs.Rule.{State, names, first_named, told}
-use Rattle.jt_terminal.specs.Machines.{machine_of, row_after, AreSerials, IsInOrder, Agrees}
+use Rattle.jt_terminal.specs.Steps.{is_named, named_from}
+use Rattle.jt_terminal.specs.Rule.{names, first_named}
+use Rattle.jt_terminal.specs.Machines.{AreSerials}
 use Rattle.jt_terminal.specs.Law.{RuleTellsTheUnit}
 use Rattle.jt_terminal.proofs.Accepting.{row_in, serial_back}
 

@@ -1,5 +1,5 @@
 -- How fixes that wait are made a unit (this project's own). To be believed.
-use Rattle.std.specs.Prelude.{ℕ, ◌+◌, ◌≤◌, nat_le, if◌then◌else◌, List, [], ◌∷◌, ◌++◌, length, take}
+use Rattle.std.specs.Prelude.{ℕ, ◌+◌, nat_le, if◌then◌else◌, List, [], ◌∷◌, ◌++◌, length, take}
 use Rattle.std.specs.List.{flat_map}
 use Rattle.std.specs.Int.{w8, w16, to_be_bytes}
 use Rattle.jt_store.specs.declared.unit.Unit.{Unit as OneUnit}

@@ -1,9 +1,8 @@
 -- The laws of the terminal's rule. To be believed.
-use Rattle.std.specs.Prelude.{◌≡◌, ◌≢◌, ℕ, suc, ◌+◌, ◌<◌, ◌≤◌, List, [], ◌∷◌, ◌++◌, length, take, drop, Option, None, Some, IsTrue, ◌^◌, All}
+use Rattle.std.specs.Prelude.{◌≡◌, ℕ, ◌+◌, ◌<◌, ◌≤◌, List, [], ◌∷◌, ◌++◌, length, take, Option, None, All}
 use Rattle.std.specs.Option.{option_map}
 use Rattle.jt_value.specs.Serials.{gap_of}
 use Rattle.jt_position.specs.Fixes.{IsFix, fixes_of}
-use Rattle.jt_store.specs.declared.unit.Unit.{Unit as OneUnit}
 use Rattle.jt_store.specs.Vaults.{AreInOrder, Held, IsLoaded, IsUnit, Notes}
 use Rattle.jt_store.specs.declared.unit.Loaded.{Loaded}
 use Rattle.jt_terminal.specs.declared.settings.Settings.{Settings}

@@ -1,5 +1,5 @@
 -- A terminal over a vault that tells what it holds, as the machine of `Steps`; and what stays true between both. To be believed.
-use Rattle.std.specs.Prelude.{◌≡◌, ℕ, ◌+◌, ◌%◌, ◌<◌, ◌≤◌, drop, Bool, true, false, List, [], ◌∷◌, ◌++◌, length, slice_get, Option, None, Some, map, All}
+use Rattle.std.specs.Prelude.{◌≡◌, ℕ, ◌+◌, ◌%◌, ◌<◌, ◌≤◌, drop, Bool, true, false, List, [], ◌∷◌, ◌++◌, length, Option, None, Some, All}
 use Rattle.jt_value.specs.Serials.{gap_of}
 use Rattle.jt_position.specs.Fixes.{IsFix}
 use Rattle.jt_store.specs.declared.row.Row.{Row}
