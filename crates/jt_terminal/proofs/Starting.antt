@@ -3,7 +3,7 @@ use Rattle.std.proofs.Common.{ℕ, ◌≡◌, ◌≤◌, ◌+◌, List, [], ◌�
 use Rattle.std.specs.Prelude.{All}
 use Rattle.std.proofs.lemmas.List.{length-append, append_assoc}
 use Rattle.std.proofs.Math.Seq.{drop-append_seam}
-use Rattle.std.proofs.lemmas.List.Elements.{All-push}
+use Rattle.std.proofs.lemmas.List.Elements.{All-nil, All-push}
 use Rattle.jt_value.specs.Serials.{gap_of}
 use Rattle.jt_value.specs.declared.phone.Phone.{Phone}
 use Rattle.jt_position.specs.Fixes.{IsFix}
@@ -13,7 +13,7 @@ use Rattle.jt_store.specs.Verdicts.{numbered}
 use Rattle.jt_terminal.specs.Steps.{fixes_in}
 use Rattle.jt_terminal.specs.Rule.{State, started}
 use Rattle.jt_terminal.specs.Machines.{machine_of, AreSerials, Agrees}
-use Rattle.jt_terminal.specs.Law.{NotedFixIsAStep, StartIsARestart}
+use Rattle.jt_terminal.specs.Law.{FirstStartIsInOrder, NotedFixIsAStep, StartIsARestart}
 
 pub noted_is_a_step : NotedFixIsAStep
 noted_is_a_step h s fix is o a = record {
@@ -72,3 +72,28 @@ start_is_a_restart h s settings l o a is order own =
       };
       to = ap (λ (n : ℕ). record (machine_of h (started settings l)) { phone = s.settings.phone; reach = n }) (no_more h.accepted) ∙ ap (λ (p : Phone). record (machine_of h (started settings l)) { phone = p }) (sym own);
     }
+
+pub first_start : FirstStartIsInOrder
+first_start settings = (
+  record {
+    order = record { gaps = tt; behind = omega arith; near = omega arith; short = tt };
+    serials = tt;
+    phase = tt;
+    mark = omega arith;
+    next = omega arith;
+    sent = omega arith;
+  },
+  record {
+    known = omega arith;
+    units = refl;
+    mark = refl;
+    mark_held = refl;
+    next_small = omega arith;
+    next_behind = omega arith;
+    next_held = omega arith;
+    fixes = refl;
+    formed = refl;
+    are_fixes = All-nil IsFix;
+    code = refl;
+  },
+)

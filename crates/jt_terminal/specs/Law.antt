@@ -79,3 +79,14 @@ pub record IsRestarted (held : Held) (s now : State) : Type 0 where
 abbrev pub StartIsARestart : Type 0
 StartIsARestart = (held : Held) (s : State) (settings : Settings) (loaded : Loaded) → IsInOrder s → Agrees held s → IsLoaded held loaded → AreInOrder loaded.mark loaded.next loaded.units loaded.code
     → settings.phone ≡ s.settings.phone → IsRestarted held s (started settings loaded)
+
+-- what a vault holds and loads before anything was recorded
+abbrev pub nothing_held : Held
+nothing_held = record { recorded = []; units = []; accepted = 0; mark = 65535; next = 0; code = None }
+
+abbrev pub nothing_loaded : Loaded
+nothing_loaded = record { fixes = []; units = []; mark = 65535; next = 0; code = None; recorded = 0; accepted = 0 }
+
+-- a terminal that starts over such a vault is in order, and agrees with it
+abbrev pub FirstStartIsInOrder : Type 0
+FirstStartIsInOrder = (settings : Settings) → IsInOrder (started settings nothing_loaded) × Agrees nothing_held (started settings nothing_loaded)

@@ -1,6 +1,6 @@
 //! Laws of the terminal's rule, which is defined in specs/Rule.
 
-ghost use Rattle.jt_terminal.specs.Law.{ControlKeepsTheLastPlace, FittingIsGreatest, NotedFixIsAStep, RuleIsCutInSteps, RuleTakesSteps, RuleTellsTheUnit, StartIsARestart, UnitCarriesFirstFixes};
+ghost use Rattle.jt_terminal.specs.Law.{ControlKeepsTheLastPlace, FirstStartIsInOrder, FittingIsGreatest, NotedFixIsAStep, RuleIsCutInSteps, RuleTakesSteps, RuleTellsTheUnit, StartIsARestart, UnitCarriesFirstFixes};
 
 /// Units are formed of the first fixes that wait: as many as a body of at most 1,023 octets can carry.
 pub fn law_forming()
@@ -19,6 +19,7 @@ pub fn law_rule()
     ensures told { RuleTellsTheUnit }
     ensures noted { NotedFixIsAStep }
     ensures start { StartIsARestart }
+    ensures first { FirstStartIsInOrder }
 {
     jt_position::law_fixes();
 }

@@ -4,7 +4,7 @@ use Rattle.jt_terminal.proofs.Batches.{unit_carries}
 use Rattle.jt_terminal.proofs.Controlling.{last_place}
 use Rattle.jt_terminal.proofs.Ruling.{rule_steps}
 use Rattle.jt_terminal.proofs.Telling.{rule_tells}
-use Rattle.jt_terminal.proofs.Starting.{noted_is_a_step, start_is_a_restart}
+use Rattle.jt_terminal.proofs.Starting.{first_start, noted_is_a_step, start_is_a_restart}
 use Rattle.jt_terminal.proofs.laws.law_rule.Goals as goal
 
 pub returns-clause-control : goal.returns-clause-control
@@ -25,3 +25,6 @@ returns-clause-noted c = noted_is_a_step
 
 pub returns-clause-start : goal.returns-clause-start
 returns-clause-start c = start_is_a_restart
+
+pub returns-clause-first : goal.returns-clause-first
+returns-clause-first c = first_start
