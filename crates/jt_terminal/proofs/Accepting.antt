@@ -118,6 +118,7 @@ module _ (h : Held) (s : State) (serial : ℕ) (u : OneUnit) (more : List OneUni
   accept_steps = record {
     may = ((ap is_up live, omega (arith, some), names_it), tt);
     to = ap (λ (n : ℕ). record (machine_of h s) { accepted = h.accepted + 1; reach = n }) sent_is;
+    commits = (found.3, tt);
     in_order = record { order = order; serials = small.1; phase = o.phase; mark = small.0; next = o.next; sent = let within = subst (λ (us : List OneUnit). s.sent ≤ length us) is o.sent in omega (arith, within) };
     agrees = record {
       known = let lt = found.3 in omega (arith, lt);

@@ -6,7 +6,7 @@ use Rattle.jt_terminal.specs.Steps.{Machine, TerminalStep, MayStep, MayRun, run,
 use Rattle.jt_terminal.specs.Steps as step
 use Rattle.jt_terminal.specs.Rule.{State, Step, Ruled, and_then}
 use Rattle.jt_terminal.specs.Rule as rule
-use Rattle.jt_terminal.specs.Machines.{machine_of, as_step, as_steps, held_after, Agrees, IsInOrder}
+use Rattle.jt_terminal.specs.Machines.{machine_of, as_step, as_steps, held_after, MayCommit, Agrees, IsInOrder}
 use Rattle.jt_terminal.specs.Law.{AreSteps}
 
 pub as_steps-append : (m : Machine) (xs ys : List Step) → as_steps m (xs ++ ys) ≡ as_steps m xs ++ as_steps (run m (as_steps m xs)) ys
@@ -45,6 +45,14 @@ may_append : (m : Machine) (just : Option Acknowledgement) (xs ys : List Termina
 may_append m just [] ys may more = loosen m just ys more
 may_append m just (x ∷ xs) ys may more = (may.0, may_append (stepped m x) None xs ys may.1 more)
 
+commit_append : (xs ys : List Step) (held : Held) → MayCommit held xs → MayCommit (held_after xs held) ys → MayCommit held (xs ++ ys)
+commit_append [] ys held one two = two
+commit_append (rule.Sends older unit ∷ xs) ys held one two = commit_append xs ys held one two
+commit_append (rule.Says h body ∷ xs) ys held one two = commit_append xs ys held one two
+commit_append (rule.Changes change ∷ xs) ys held one two = (one.0, commit_append xs ys (held_by change held) one.1 two)
+commit_append (rule.Opens ∷ xs) ys held one two = commit_append xs ys held one two
+commit_append (rule.Loses ∷ xs) ys held one two = commit_append xs ys held one two
+
 pub and_then_steps : (m : Machine) (held : Held) (just : Option Acknowledgement) (r : Ruled) (more : State → Ruled) → AreSteps m held just r → AreSteps (machine_of (held_after r.steps held) r.state) (held_after r.steps held) None (more r.state) → AreSteps m held just (and_then r more)
 and_then_steps m held just r more one two =
     let parts = as_steps-append m r.steps (more r.state).steps in
@@ -57,14 +65,15 @@ and_then_steps m held just r more one two =
           ∙ (run-append m (as_steps m r.steps) (as_steps (run m (as_steps m r.steps)) (more r.state).steps)
           ∙ (ap (λ (n : Machine). run n (as_steps n (more r.state).steps)) one.to
           ∙ (two.to ∙ ap (λ (h : Held). machine_of h (more r.state).state) (sym behind))));
+      commits = commit_append r.steps (more r.state).steps held one.commits two.commits;
       in_order = two.in_order;
       agrees = subst (λ (h : Held). Agrees h (more r.state).state) (sym behind) two.agrees;
     }
 
 pub stays_steps : (held : Held) (s : State) (just : Option Acknowledgement) → IsInOrder s → Agrees held s → AreSteps (machine_of held s) held just (rule.stays s)
-stays_steps held s just order agrees = record { may = tt; to = refl; in_order = order; agrees = agrees }
+stays_steps held s just order agrees = record { may = tt; to = refl; commits = tt; in_order = order; agrees = agrees }
 
 -- the same steps behind any response, from an equal machine
 pub behind_any : (m n : Machine) (held : Held) (just : Option Acknowledgement) (r : Ruled) → n ≡ m → AreSteps m held None r → AreSteps n held just r
 behind_any m n held just r same one = subst (λ (x : Machine). AreSteps x held just r) (sym same)
-    (record { may = loosen m just (as_steps m r.steps) one.may; to = one.to; in_order = one.in_order; agrees = one.agrees })
+    (record { may = loosen m just (as_steps m r.steps) one.may; to = one.to; commits = one.commits; in_order = one.in_order; agrees = one.agrees })

@@ -32,6 +32,7 @@ send_steps h s serial u live o a there =
     record {
       may = ((ap is_up live, ap is_live live, omega arith, omega arith, omega (arith, within, long, length-numbered None h.units)), tt);
       to = ap (λ (n : ℕ). record (machine_of h s) { reach = n }) reach;
+      commits = tt;
       in_order = record { order = o.order; serials = o.serials; phase = o.phase; mark = o.mark; next = o.next; sent = omega (arith, within) };
       agrees = record { known = a.known; units = a.units; mark = a.mark; mark_held = a.mark_held; next_small = a.next_small; next_behind = a.next_behind; next_held = a.next_held; fixes = a.fixes; formed = a.formed; are_fixes = a.are_fixes; code = a.code };
     }

@@ -11,6 +11,8 @@ use Rattle.jt_position.specs.Fixes.{IsFix, fixes_of}
 use Rattle.jt_store.specs.declared.row.Row.{Row}
 use Rattle.jt_store.specs.declared.unit.Unit.{Unit as OneUnit}
 use Rattle.jt_store.specs.Vaults.{Held, Gaps, carried as counts, formed, gap_after, AreInOrder, IsUnit, held_by, Forms}
+use Rattle.jt_store.specs.Vaults as vaults
+use Rattle.std.proofs.Math.Seq.{drop-append_seam}
 use Rattle.jt_terminal.specs.Forming.{unit_of, fitting, batch_unit, position_unit}
 use Rattle.jt_terminal.specs.Law.{AreSteps, UnitCarriesFirstFixes}
 use Rattle.jt_terminal.specs.Steps.{MayForm, IsPrefixOf, fixes_in, carried, past, past_accepted}
@@ -118,6 +120,14 @@ module _ (h : Held) (s : State) (o : IsInOrder s) (a : Agrees h s) where
           after None = omega arith
           after (Some n) = omega arith
 
+-- the fixes that wait are those that are in no unit
+pub waiting_is : (h : Held) (s : State) → Agrees h s → drop (formed h) h.recorded ≡ s.waiting
+waiting_is h s a =
+    let len = ap (λ (fs : List (List ℕ)). length fs) a.fixes ∙ length-append (fixes_in (numbered None h.units)) s.waiting in
+    let all = a.formed in
+    let same : formed h ≡ length (fixes_in (numbered None h.units)) = omega (arith, len, all) in
+    ap (λ (n : ℕ). drop n h.recorded) same ∙ (ap (drop (length (fixes_in (numbered None h.units)))) a.fixes ∙ drop-append_seam (fixes_in (numbered None h.units)) s.waiting)
+
 -- the state behind a unit that was formed and not sent yet
 abbrev pub with_unit : State → OneUnit → List (List ℕ) → State
 with_unit s u fixes = record s { units = s.units ++ u ∷ []; waiting = drop u.count fixes; next = serial_of (s.next + 1) }
@@ -184,10 +194,26 @@ module _ (carries : UnitCarriesFirstFixes) (h : Held) (s : State) (o : IsInOrder
       let there = ap (λ (fs : List (List ℕ)). length fs) waits in
       omega (arith, sum, left, within, all, there)
 
+  vault_may : vaults.MayForm h u
+  vault_may =
+      let all = a.formed in
+      let there = ap (λ (fs : List (List ℕ)). length fs) waits in
+      let within = carries.count s.next fix more in
+      let from = ap (λ (m : ℕ). gap_of m h.next) a.mark_held in
+      let to = ap (λ (m : ℕ). gap_of m u.serial) a.mark_held in
+      let le = a.next_held in
+      record {
+        enough = omega (arith, all, there, within);
+        fixes = has ∙ ap (take u.count) (sym (waiting_is h s a ∙ waits));
+        from = omega (arith, from, to, unit_gap, le);
+        near = omega (arith, to, unit_gap, near);
+      }
+
   pub form_steps : AreSteps (machine_of h s) h None (record { state = with_unit s u (fix ∷ more); steps = rule.Changes (Forms u) ∷ []; end = None })
   form_steps = record {
     may = (may, tt);
     to = ap (λ (rows : List Row). record (machine_of h s) { units = rows }) (sym units_are);
+    commits = ((is_unit, vault_may), tt);
     in_order = record { order = order; serials = serials_push s.units u o.serials (let lt = o.next in omega (arith, serial, lt)); phase = o.phase; mark = o.mark; next = omega arith; sent = let le = o.sent in omega (arith, length-append s.units (u ∷ []), le) };
     agrees = record {
       known = let le = a.known in omega (arith, length-append h.units (u ∷ []), le);

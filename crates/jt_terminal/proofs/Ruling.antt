@@ -174,13 +174,14 @@ module _ (carries : UnitCarriesFirstFixes) (h : Held) (s : State) (good : AreSet
 
   oldest_steps : (serial : ℕ) → IsInOrder (at s (Live serial)) → Agrees h (at s (Live serial)) → 0 < s.sent → (units : List OneUnit) → s.units ≡ units
       → AreSteps (machine_of h (at s (Live serial))) h None (record { state = (repeats (at s (Live serial))).state; steps = oldest_again units; end = None })
-  oldest_steps serial o a some [] is = record { may = tt; to = refl; in_order = again_order (Live serial) o; agrees = again_agrees (Live serial) a }
+  oldest_steps serial o a some [] is = record { may = tt; to = refl; commits = tt; in_order = again_order (Live serial) o; agrees = again_agrees (Live serial) a }
   oldest_steps serial o a some (u ∷ more) is =
       let within = o.sent in
       let long = ap (λ (us : List OneUnit). length us) a.units ∙ length-drop h.accepted h.units in
       record {
         may = ((refl, refl, omega arith, omega arith, omega (arith, some, within, long, length-numbered None h.units)), tt);
         to = ap (λ (n : ℕ). record (machine_of h (at s (Live serial))) { reach = n }) (reaches some);
+        commits = tt;
         in_order = again_order (Live serial) o;
         agrees = again_agrees (Live serial) a;
       }
@@ -196,12 +197,14 @@ module _ (carries : UnitCarriesFirstFixes) (h : Held) (s : State) (good : AreSet
   again_steps (Registering serial) o a e = record {
     may = ((refl, say_register (machine_of h (at s (Registering serial))) s.settings serial good refl o.phase), tt);
     to = refl;
+    commits = tt;
     in_order = again_order (Registering serial) o;
     agrees = again_agrees (Registering serial) a;
   }
   again_steps (Authenticating serial) o a e = record {
     may = ((refl, say_auth (machine_of h (at s (Authenticating serial))) s.settings serial (unwrap_or s.code []) good refl o.phase (code_short s.code o.order.short) refl), tt);
     to = ap (λ (serials : List ℕ). record (machine_of h (at s (Authenticating serial))) { auths = serials }) (auths_same serial);
+    commits = tt;
     in_order = again_order (Authenticating serial) o;
     agrees = again_agrees (Authenticating serial) a;
   }

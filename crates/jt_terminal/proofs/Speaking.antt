@@ -168,12 +168,14 @@ opened_steps h s good o a = by_code s.code o.order.short
     by_code None le = record {
       may = (tt, ((refl, say_register (stepped (machine_of h s) step.Opens) s.settings s.next good refl o.next), tt));
       to = ap (λ (n : ℕ). record (machine_of h (spoken (record s { sent = 0 }) (Registering s.next) (begun s))) { reach = n }) (no_more h.accepted);
+      commits = tt;
       in_order = spoken_order (record s { sent = 0 }) (Registering s.next) (begun s) o.next o0;
       agrees = spoken_agrees h (record s { sent = 0 }) (Registering s.next) (begun s) o0 a0;
     }
     by_code (Some code) le = record {
       may = (tt, ((refl, say_auth (stepped (machine_of h s) step.Opens) s.settings s.next code good refl o.next le refl), tt));
       to = ap (λ (n : ℕ). record (machine_of h (spoken (record s { sent = 0 }) (Authenticating s.next) (begun s))) { reach = n }) (no_more h.accepted);
+      commits = tt;
       in_order = spoken_order (record s { sent = 0 }) (Authenticating s.next) (begun s) o.next o0;
       agrees = spoken_agrees h (record s { sent = 0 }) (Authenticating s.next) (begun s) o0 a0;
     }
@@ -184,6 +186,7 @@ pub authenticates_steps : (h : Held) (s : State) (serial : ℕ) (code : List ℕ
 authenticates_steps h s serial code good o a le = record {
   may = ((refl, say_auth (machine_of h (at s (Registering serial))) s.settings s.next code good refl o.next le refl), tt);
   to = refl;
+  commits = tt;
   in_order = spoken_order (at s (Registering serial)) (Authenticating s.next) (begun s) o.next o;
   agrees = spoken_agrees h (at s (Registering serial)) (Authenticating s.next) (begun s) o a;
 }
@@ -206,6 +209,7 @@ beat_steps h s serial good o a = record {
     tt,
   );
   to = refl;
+  commits = tt;
   in_order = spoken_order (at s (Live serial)) (Live serial) s.wait o.phase o;
   agrees = spoken_agrees h (at s (Live serial)) (Live serial) s.wait o a;
 }
@@ -222,6 +226,7 @@ pub lost_steps : (m : Machine) (h : Held) (s : State) (just : Option Acknowledge
 lost_steps m h s just cause same o a = record {
   may = (tt, tt);
   to = same ∙ ap (λ (n : ℕ). record (machine_of h (down s)) { reach = n }) (no_more h.accepted);
+  commits = tt;
   in_order = down_order s o;
   agrees = down_agrees h s a;
 }
@@ -232,6 +237,7 @@ pub denied_steps : (m : Machine) (h : Held) (s : State) (just : Option Acknowled
 denied_steps m h s just cause same o a = record {
   may = (tt, (tt, tt));
   to = ap (λ (n : Machine). record n { code = None }) same ∙ ap (λ (n : ℕ). record (machine_of (held_by (Sets None) h) (down (record s { code = None }))) { reach = n }) (no_more h.accepted);
+  commits = (tt, tt);
   in_order = record { order = record { gaps = o.order.gaps; behind = o.order.behind; near = o.order.near; short = tt }; serials = o.serials; phase = tt; mark = o.mark; next = o.next; sent = omega arith };
   agrees = record { known = a.known; units = a.units; mark = a.mark; mark_held = a.mark_held; next_small = a.next_small; next_behind = a.next_behind; next_held = a.next_held; fixes = a.fixes; formed = a.formed; are_fixes = a.are_fixes; code = refl };
 }
@@ -242,6 +248,7 @@ pub sets_steps : (h : Held) (s : State) (code : List ℕ) → IsInOrder s → Ag
 sets_steps h s code o a le = record {
   may = (tt, tt);
   to = refl;
+  commits = (le, tt);
   in_order = record { order = record { gaps = o.order.gaps; behind = o.order.behind; near = o.order.near; short = le }; serials = o.serials; phase = o.phase; mark = o.mark; next = o.next; sent = o.sent };
   agrees = record { known = a.known; units = a.units; mark = a.mark; mark_held = a.mark_held; next_small = a.next_small; next_behind = a.next_behind; next_held = a.next_held; fixes = a.fixes; formed = a.formed; are_fixes = a.are_fixes; code = refl };
 }

@@ -1,24 +1,25 @@
 -- A fix is recorded, and a terminal starts again.
-use Rattle.std.proofs.Common.{ℕ, ◌≡◌, ◌≤◌, ◌+◌, List, [], ◌∷◌, ◌++◌, length, drop, None, refl, ap, sym, ◌∙◌, subst, arith}
+use Rattle.std.proofs.Common.{ℕ, ◌≡◌, ◌≤◌, ◌+◌, List, [], ◌∷◌, ◌++◌, length, None, refl, ap, sym, ◌∙◌, subst, arith}
 use Rattle.std.specs.Prelude.{All}
 use Rattle.std.proofs.lemmas.List.{length-append, append_assoc}
-use Rattle.std.proofs.Math.Seq.{drop-append_seam}
 use Rattle.std.proofs.lemmas.List.Elements.{All-nil, All-push}
 use Rattle.jt_value.specs.Serials.{gap_of}
 use Rattle.jt_value.specs.declared.phone.Phone.{Phone}
 use Rattle.jt_position.specs.Fixes.{IsFix}
 use Rattle.jt_store.specs.declared.unit.Unit.{Unit as OneUnit}
-use Rattle.jt_store.specs.Vaults.{Held, formed, gap_after}
+use Rattle.jt_store.specs.Vaults.{gap_after}
 use Rattle.jt_store.specs.Verdicts.{numbered}
 use Rattle.jt_terminal.specs.Steps.{fixes_in}
-use Rattle.jt_terminal.specs.Rule.{State, started}
-use Rattle.jt_terminal.specs.Machines.{machine_of, AreSerials, Agrees}
+use Rattle.jt_terminal.specs.Rule.{started}
+use Rattle.jt_terminal.specs.Machines.{machine_of, AreSerials}
+use Rattle.jt_terminal.proofs.Forming.{waiting_is}
 use Rattle.jt_terminal.specs.Law.{FirstStartIsInOrder, NotedFixIsAStep, StartIsARestart}
 
 pub noted_is_a_step : NotedFixIsAStep
 noted_is_a_step h s fix is o a = record {
   may = (is, tt);
   to = refl;
+  commits = (is, tt);
   in_order = record { order = o.order; serials = o.serials; phase = o.phase; mark = o.mark; next = o.next; sent = o.sent };
   agrees = record {
     known = a.known;
@@ -34,14 +35,6 @@ noted_is_a_step h s fix is o a = record {
     code = a.code;
   };
 }
-
--- the fixes that wait are those that are in no unit
-pub waiting_is : (h : Held) (s : State) → Agrees h s → drop (formed h) h.recorded ≡ s.waiting
-waiting_is h s a =
-    let len = ap (λ (fs : List (List ℕ)). length fs) a.fixes ∙ length-append (fixes_in (numbered None h.units)) s.waiting in
-    let all = a.formed in
-    let same : formed h ≡ length (fixes_in (numbered None h.units)) = omega (arith, len, all) in
-    ap (λ (n : ℕ). drop n h.recorded) same ∙ (ap (drop (length (fixes_in (numbered None h.units)))) a.fixes ∙ drop-append_seam (fixes_in (numbered None h.units)) s.waiting)
 
 no_more : (n : ℕ) → n ≡ n + 0
 no_more n = omega arith

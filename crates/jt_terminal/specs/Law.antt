@@ -10,7 +10,7 @@ use Rattle.jt_terminal.specs.Forming.{batch_of, body_limit, fitting, unit_of}
 use Rattle.jt_terminal.specs.Messages.{Acknowledgement, AreSettings}
 use Rattle.jt_terminal.specs.Steps.{Machine, MayRun, Restarts, run, stepped, hears, told_by}
 use Rattle.jt_terminal.specs.Rule.{State, Event, Ruled, Step, Sends, Says, Changes, Opens, Loses, after_control, down, noted, response, rule, started, told}
-use Rattle.jt_terminal.specs.Machines.{machine_of, as_steps, held_after, Agrees, IsInOrder}
+use Rattle.jt_terminal.specs.Machines.{machine_of, as_steps, held_after, Agrees, IsInOrder, MayCommit}
 
 -- a batch may have at most 1,023 octets where it has at most so many fixes, and only there
 pub record FittingIsGreatest : Type 0 where
@@ -30,10 +30,11 @@ abbrev pub ControlKeepsTheLastPlace : Type 0
 ControlKeepsTheLastPlace = (s : State) → s.mark < 65536 → s.next < 65536 → gap_of s.mark s.next ≤ 32766 → gap_of s.mark (after_control s) ≤ 32766
 
 -- Steps of the rule from the machine m, where the vault holds `held`: they are steps of the machine, the first of them directly after
--- `just`, and lead to the machine of the new state, which is in order and agrees with what the vault then holds.
+-- `just`, and lead to the machine of the new state, which is in order and agrees with what the vault then holds. The vault takes each change.
 pub record AreSteps (m : Machine) (held : Held) (just : Option Acknowledgement) (r : Ruled) : Type 0 where
   pub may : MayRun m just (as_steps m r.steps)
   pub to : run m (as_steps m r.steps) ≡ machine_of (held_after r.steps held) r.state
+  pub commits : MayCommit held r.steps
   pub in_order : IsInOrder r.state
   pub agrees : Agrees (held_after r.steps held) r.state
 

@@ -1,10 +1,11 @@
 -- A terminal over a vault that tells what it holds, as the machine of `Steps`; and what stays true between both. To be believed.
-use Rattle.std.specs.Prelude.{◌≡◌, ℕ, ◌+◌, ◌%◌, ◌<◌, ◌≤◌, drop, Bool, true, false, List, [], ◌∷◌, ◌++◌, length, Option, None, Some, All}
+use Rattle.std.specs.Prelude.{◌≡◌, ℕ, ◌+◌, ◌%◌, ◌<◌, ◌≤◌, drop, Bool, true, false, List, [], ◌∷◌, ◌++◌, length, Option, None, Some, All, IfSome}
 use Rattle.jt_value.specs.Serials.{gap_of}
 use Rattle.jt_position.specs.Fixes.{IsFix}
 use Rattle.jt_store.specs.declared.row.Row.{Row}
 use Rattle.jt_store.specs.declared.unit.Unit.{Unit as OneUnit}
-use Rattle.jt_store.specs.Vaults.{Held, Change, Notes, Forms, Accepts, Sets, held_by, formed, gap_after, AreInOrder}
+use Rattle.jt_store.specs.Vaults.{Held, Change, Notes, Forms, Accepts, Sets, held_by, formed, gap_after, AreInOrder, IsUnit}
+use Rattle.jt_store.specs.Vaults as vaults
 use Rattle.jt_store.specs.Verdicts.{row_of, number_after, numbered}
 use Rattle.jt_terminal.specs.declared.state.Phase.{Phase}
 use Rattle.jt_terminal.specs.declared.state.Phase.TheVariants.{Down, Registering, Authenticating, Live}
@@ -84,6 +85,22 @@ held_after (rule.Sends older unit ∷ steps) held = held_after steps held
 held_after (rule.Says h body ∷ steps) held = held_after steps held
 held_after (rule.Opens ∷ steps) held = held_after steps held
 held_after (rule.Loses ∷ steps) held = held_after steps held
+
+-- what a vault asks of a change
+abbrev pub MayChange : Held → Change → Type 0
+MayChange held (Notes fix) = IsFix fix
+MayChange held (Forms unit) = IsUnit unit × vaults.MayForm held unit
+MayChange held Accepts = held.accepted < length held.units
+MayChange held (Sets code) = IfSome code (λ octets. length octets ≤ 255)
+
+-- a vault that holds this takes each change of these steps
+abbrev pub MayCommit : Held → List Step → Type 0
+MayCommit held [] = Unit {0}
+MayCommit held (rule.Changes change ∷ steps) = MayChange held change × MayCommit (held_by change held) steps
+MayCommit held (rule.Sends older unit ∷ steps) = MayCommit held steps
+MayCommit held (rule.Says h body ∷ steps) = MayCommit held steps
+MayCommit held (rule.Opens ∷ steps) = MayCommit held steps
+MayCommit held (rule.Loses ∷ steps) = MayCommit held steps
 
 -- ---- what stays true
 
