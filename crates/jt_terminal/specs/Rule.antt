@@ -1,5 +1,5 @@
--- The terminal's rule: from a state and an event to a new state and the steps that are taken (this project's own, over the standard's
--- registration, authentication, heartbeat and general response). To be believed. It answers no other message yet.
+-- The terminal's rule: what it does at each event, as a function of its state (this project's own). To be believed.
+-- Registration, authentication, heartbeat and general response are the standard's. It answers no other message yet.
 use Rattle.std.specs.Prelude.{ℕ, zero, suc, ◌+◌, ◌-◌, ◌*◌, ◌^◌, min, List, [], ◌∷◌, ◌++◌, drop, length, slice_get, Option, None, Some, Bool, true, false, not, ◌==◌, ◌&&◌, nat_lt, nat_le, if◌then◌else◌}
 use Rattle.std.specs.Option.{option_map, unwrap_or}
 use Rattle.jt_value.specs.Serials.{gap_of, serial_of}
