@@ -1,5 +1,5 @@
 -- The laws of the terminal's rule. To be believed.
-use Rattle.std.specs.Prelude.{◌≡◌, ℕ, ◌+◌, ◌<◌, ◌≤◌, List, [], ◌∷◌, ◌++◌, length, take, Option, None, All}
+use Rattle.std.specs.Prelude.{Some, ◌≡◌, ℕ, ◌+◌, ◌<◌, ◌≤◌, List, [], ◌∷◌, ◌++◌, length, take, Option, None, All}
 use Rattle.std.specs.Option.{option_map}
 use Rattle.jt_value.specs.Serials.{gap_of}
 use Rattle.jt_position.specs.Fixes.{IsFix, fixes_of}
@@ -7,9 +7,11 @@ use Rattle.jt_store.specs.Vaults.{AreInOrder, Held, IsLoaded, IsUnit, Notes}
 use Rattle.jt_store.specs.declared.unit.Loaded.{Loaded}
 use Rattle.jt_terminal.specs.declared.settings.Settings.{Settings}
 use Rattle.jt_terminal.specs.Forming.{batch_of, body_limit, fitting, unit_of}
-use Rattle.jt_terminal.specs.Messages.{Acknowledgement, AreSettings}
+use Rattle.jt_terminal.specs.declared.state.GiveUp.{GiveUp}
+use Rattle.jt_terminal.specs.declared.state.GiveUp.TheVariants.{TimedOut}
+use Rattle.jt_terminal.specs.Messages.{Acknowledgement, AreSettings, frame_of, header_of, register_octets}
 use Rattle.jt_terminal.specs.Steps.{Machine, MayRun, Restarts, run, stepped, hears, told_by}
-use Rattle.jt_terminal.specs.Rule.{State, Event, Ruled, Step, Sends, Says, Changes, Opens, Loses, after_control, down, noted, response, rule, started, told}
+use Rattle.jt_terminal.specs.Rule.{State, Event, Ruled, Step, Sends, Says, Changes, Opens, Loses, after_control, down, noted, response, rule, started, told, sends, Opened, Tick}
 use Rattle.jt_terminal.specs.Machines.{machine_of, as_steps, held_after, Agrees, IsInOrder, MayCommit}
 
 -- a batch may have at most 1,023 octets where it has at most so many fixes, and only there
@@ -91,3 +93,17 @@ nothing_loaded = record { fixes = []; units = []; mark = 65535; next = 0; code =
 -- a terminal that starts over such a vault is in order, and agrees with it
 abbrev pub FirstStartIsInOrder : Type 0
 FirstStartIsInOrder = (settings : Settings) → IsInOrder (started settings nothing_loaded) × Agrees nothing_held (started settings nothing_loaded)
+
+-- the frames that are sent at each of these events, and why the line is given up there, if it is
+abbrev pub told_at_each : State → List Event → List (List (List ℕ) × Option GiveUp)
+told_at_each s [] = []
+told_at_each s (event ∷ events) = (sends s.settings (rule s event).steps, (rule s event).end) ∷ told_at_each (rule s event).state events
+
+-- With a first wait of 10 seconds and three repeats a registration is sent at 0, at 10, at 30 and at 90 seconds, with the same octets, and
+-- the line is given up at 330 seconds.
+abbrev pub WaitsGrow : Type 0
+WaitsGrow = (settings : Settings) →
+    let set = record settings { heartbeat = 60; answer = 10; repeats = 3 } in
+    let frame = frame_of (header_of set.phone 0x0100 0) (register_octets set) in
+    told_at_each (started set nothing_loaded) (Opened ∷ Tick 10000 ∷ Tick 30000 ∷ Tick 90000 ∷ Tick 329999 ∷ Tick 330000 ∷ [])
+    ≡ (frame ∷ [], None) ∷ (frame ∷ [], None) ∷ (frame ∷ [], None) ∷ (frame ∷ [], None) ∷ ([], None) ∷ ([], Some (TimedOut 0 330000)) ∷ []

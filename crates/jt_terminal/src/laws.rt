@@ -1,6 +1,6 @@
 //! Laws of the terminal's rule, which is defined in specs/Rule.
 
-ghost use Rattle.jt_terminal.specs.Law.{ControlKeepsTheLastPlace, FirstStartIsInOrder, FittingIsGreatest, NotedFixIsAStep, RuleIsCutInSteps, RuleTakesSteps, RuleTellsTheUnit, StartIsARestart, UnitCarriesFirstFixes};
+ghost use Rattle.jt_terminal.specs.Law.{ControlKeepsTheLastPlace, FirstStartIsInOrder, FittingIsGreatest, NotedFixIsAStep, RuleIsCutInSteps, RuleTakesSteps, RuleTellsTheUnit, StartIsARestart, UnitCarriesFirstFixes, WaitsGrow};
 
 /// Units are formed of the first fixes that wait: as many as a body of at most 1,023 octets can carry.
 pub fn law_forming()
@@ -23,3 +23,8 @@ pub fn law_rule()
 {
     jt_position::law_fixes();
 }
+
+/// The rule at work: the waits for the reply to a registration.
+pub fn law_waits()
+    ensures { WaitsGrow }
+{}
