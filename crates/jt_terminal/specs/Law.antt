@@ -3,15 +3,19 @@ use Rattle.std.specs.Prelude.{Some, ◌≡◌, ℕ, ◌+◌, ◌<◌, ◌≤◌,
 use Rattle.std.specs.Option.{option_map}
 use Rattle.jt_value.specs.Serials.{gap_of}
 use Rattle.jt_position.specs.Fixes.{IsFix, fixes_of}
-use Rattle.jt_store.specs.Vaults.{AreInOrder, Held, IsLoaded, IsUnit, Notes}
+use Rattle.jt_store.specs.Vaults.{AreInOrder, Held, IsLoaded, IsUnit, Notes, Accepts}
 use Rattle.jt_store.specs.declared.unit.Loaded.{Loaded}
 use Rattle.jt_terminal.specs.declared.settings.Settings.{Settings}
 use Rattle.jt_terminal.specs.Forming.{batch_of, body_limit, fitting, unit_of}
+use Rattle.jt_header.specs.declared.header.Header.{Header}
+use Rattle.jt_codec.specs.Bodies.{body_octets}
+use Rattle.jt_codec.specs.declared.message.Message.TheVariants as message
+use Rattle.jt_terminal.specs.declared.state.Phase.TheVariants.{Live}
 use Rattle.jt_terminal.specs.declared.state.GiveUp.{GiveUp}
-use Rattle.jt_terminal.specs.declared.state.GiveUp.TheVariants.{TimedOut}
+use Rattle.jt_terminal.specs.declared.state.GiveUp.TheVariants.{Denied, TimedOut}
 use Rattle.jt_terminal.specs.Messages.{Acknowledgement, AreSettings, frame_of, header_of, register_octets}
 use Rattle.jt_terminal.specs.Steps.{Machine, MayRun, Restarts, run, stepped, hears, told_by}
-use Rattle.jt_terminal.specs.Rule.{State, Event, Ruled, Step, Sends, Says, Changes, Opens, Loses, after_control, down, noted, response, rule, started, told, sends, Opened, Tick}
+use Rattle.jt_terminal.specs.Rule.{State, Event, Ruled, Step, Sends, Says, Changes, Opens, Loses, after_control, down, noted, response, rule, started, told, sends, Opened, Received, Tick}
 use Rattle.jt_terminal.specs.Machines.{machine_of, as_steps, held_after, Agrees, IsInOrder, MayCommit}
 
 -- a batch may have at most 1,023 octets where it has at most so many fixes, and only there
@@ -107,3 +111,14 @@ WaitsGrow = (settings : Settings) →
     let frame = frame_of (header_of set.phone 0x0100 0) (register_octets set) in
     told_at_each (started set nothing_loaded) (Opened ∷ Tick 10000 ∷ Tick 30000 ∷ Tick 90000 ∷ Tick 329999 ∷ Tick 330000 ∷ [])
     ≡ (frame ∷ [], None) ∷ (frame ∷ [], None) ∷ (frame ∷ [], None) ∷ (frame ∷ [], None) ∷ ([], None) ∷ ([], Some (TimedOut 0 330000)) ∷ []
+
+-- a Live terminal over the vault of this start, with one unit that was sent on this line: a position report of serial 2
+abbrev pub with_one_sent : Settings → List ℕ → State
+with_one_sent settings body = record (started settings nothing_loaded) { phase = Live 1; units = record { serial = 2; id = 0x0200; body = body; count = 1 } ∷ []; sent = 1; next = 3 }
+
+-- a response that names another id is passed over, one with result 1 denies the unit, and one with result 4 accepts it
+pub record ResponsesNameTheUnit (settings : Settings) (body : List ℕ) (h : Header) : Type 0 where
+  pub passed_over : rule (with_one_sent settings body) (Received h (message.PlatformAck 2 0x0002 0)) ≡ record { state = with_one_sent settings body; steps = []; end = None }
+  pub denied : (rule (with_one_sent settings body) (Received h (message.PlatformAck 2 0x0200 1))).end ≡ Some (Denied (body_octets h.edition (message.PlatformAck 2 0x0200 1)))
+  pub down : (rule (with_one_sent settings body) (Received h (message.PlatformAck 2 0x0200 1))).steps ≡ Loses ∷ []
+  pub accepted : (rule (with_one_sent settings body) (Received h (message.PlatformAck 2 0x0200 4))).steps ≡ Changes Accepts ∷ []

@@ -1,6 +1,9 @@
 //! Laws of the terminal's rule, which is defined in specs/Rule.
 
-ghost use Rattle.jt_terminal.specs.Law.{ControlKeepsTheLastPlace, FirstStartIsInOrder, FittingIsGreatest, NotedFixIsAStep, RuleIsCutInSteps, RuleTakesSteps, RuleTellsTheUnit, StartIsARestart, UnitCarriesFirstFixes, WaitsGrow};
+ghost use Rattle.jt_terminal.specs.Law.{ControlKeepsTheLastPlace, FirstStartIsInOrder, FittingIsGreatest, NotedFixIsAStep, ResponsesNameTheUnit, RuleIsCutInSteps, RuleTakesSteps, RuleTellsTheUnit, StartIsARestart, UnitCarriesFirstFixes, WaitsGrow};
+ghost use Rattle.std.specs.Prelude.{ℕ, List};
+ghost use Rattle.jt_header.specs.declared.header.Header.{Header};
+ghost use Rattle.jt_terminal.specs.declared.settings.Settings.{Settings};
 
 /// Units are formed of the first fixes that wait: as many as a body of at most 1,023 octets can carry.
 pub fn law_forming()
@@ -24,7 +27,8 @@ pub fn law_rule()
     jt_position::law_fixes();
 }
 
-/// The rule at work: the waits for the reply to a registration.
-pub fn law_waits()
-    ensures { WaitsGrow }
+/// The rule at work: the waits for the reply to a registration, and responses that name a unit.
+pub fn law_examples()
+    ensures waits { WaitsGrow }
+    ensures responses { (settings : Settings) (body : List ℕ) (h : Header) → ResponsesNameTheUnit settings body h }
 {}

@@ -5,6 +5,6 @@ mod laws;
 mod settings;
 mod state;
 
-pub use laws::{law_forming, law_rule, law_waits};
+pub use laws::{law_examples, law_forming, law_rule};
 pub use settings::Settings;
 pub use state::{GiveUp, Phase};
