@@ -1,10 +1,10 @@
 -- What every verdict near the last row is.
-use Rattle.std.proofs.Common.{◌≡◌, ◌<◌, ◌≤◌, ◌+◌, ◌-◌, ◌%◌, ℕ, List, [], ◌∷◌, Option, None, Some, refl, sym, ap, subst, arith}
-use Rattle.jt_value.specs.Serials.{IsVerdict, Verdict, New, Repeat, Anew, LeastAbove, GreatestUpTo, IsFar, next_with, serial_of}
+use Rattle.std.proofs.Common.{◌≡◌, ◌<◌, ◌≤◌, ◌+◌, ◌%◌, ℕ, List, [], ◌∷◌, Some, refl, ap, subst, arith}
+use Rattle.jt_value.specs.Serials.{IsVerdict, Verdict, New, Repeat, Anew, next_with, serial_of}
 use Rattle.jt_store.specs.declared.row.Row.{Row}
 use Rattle.jt_store.specs.declared.unit.Unit.{Unit as OneUnit}
-use Rattle.jt_store.specs.Tables.{IsRow, Rises, last_of}
-use Rattle.jt_store.specs.Verdicts.{IsVerdictOn, VerdictsNear, number_after, numbered, row_of}
+use Rattle.jt_store.specs.Tables.{IsRow, Rises}
+use Rattle.jt_store.specs.Verdicts.{IsVerdictOn, VerdictsNear, numbered, row_of}
 
 first : (serial id : ℕ) (body : List ℕ) (v : Verdict) → IsVerdictOn [] serial id body v → v ≡ New serial
 first serial id body (New n) h = ap New h

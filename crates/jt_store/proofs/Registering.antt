@@ -1,5 +1,5 @@
 -- Registrations that are found by their names.
-use Rattle.std.proofs.Common.{◌≡◌, ℕ, List, Option, Some, None, refl, sym, ap, subst, ◌∙◌}
+use Rattle.std.proofs.Common.{◌≡◌, ℕ, List, Option, Some, None, refl, subst}
 use Rattle.std.specs.Prelude.{IsSomeAnd}
 use Rattle.jt_store.specs.declared.row.Registered.{Registered}
 use Rattle.jt_store.specs.Memory.{owner_of}

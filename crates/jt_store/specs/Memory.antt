@@ -1,5 +1,5 @@
 -- What contracts see of the stores in memory (this project's own). To be believed.
-use Rattle.std.specs.Prelude.{ℕ, ◌≡◌, ◌≤◌, ◌↔◌, length, List, Option, Some, None, Result, Bool, true, false, if◌then◌else◌, Contains, IsErrOf, [], ◌∷◌}
+use Rattle.std.specs.Prelude.{ℕ, ◌≡◌, ◌≤◌, ◌↔◌, length, List, Option, Some, None, Result, Bool, true, false, Contains, IsErrOf, [], ◌∷◌}
 use Rattle.std.specs.Map.{lookup}
 use Rattle.std.specs.Option.{unwrap_or}
 use Rattle.std.specs.Str.{bytes_eq}

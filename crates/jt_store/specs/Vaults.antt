@@ -1,5 +1,5 @@
 -- What a vault holds, and what its calls change (this project's own). To be believed.
-use Rattle.std.specs.Prelude.{ℕ, ◌≡◌, ◌+◌, ◌-◌, ◌<◌, ◌≤◌, ◌⊎◌, List, [], ◌∷◌, ◌++◌, length, take, drop, sum_by, Option, None, Some, Result, Ok, Err, IfSome, slice_get}
+use Rattle.std.specs.Prelude.{ℕ, ◌≡◌, ◌+◌, ◌-◌, ◌≤◌, ◌⊎◌, List, [], ◌∷◌, ◌++◌, length, take, drop, sum_by, Option, None, Some, Result, IfSome, slice_get}
 use denote.Bor.{Bor}
 use Rattle.jt_value.specs.Serials.{gap_of, serial_of}
 use Rattle.jt_position.specs.Fixes.{fixes_of}

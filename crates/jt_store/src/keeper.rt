@@ -20,7 +20,7 @@ pub trait Keeper {
     /// How many rows a phone may have.
     ghost limit: { Self → ℕ };
 
-    /// How often the keeper failed. The count never falls, and stays at 2^64 - 1 once it is there.
+    /// How often the keeper failed. The count never falls. That it rose in a call holds also where it stands at 2^64 - 1.
     ghost faults: { Self → ℕ };
 
     /// Whether a call may fail yet.

@@ -20,7 +20,7 @@ pub trait Vault {
     /// How many fixes may be recorded and not accepted.
     ghost limit: { Self → ℕ };
 
-    /// How often the vault failed. The count never falls, and stays at 2^64 - 1 once it is there.
+    /// How often the vault failed. The count never falls. That it rose in a call holds also where it stands at 2^64 - 1.
     ghost faults: { Self → ℕ };
 
     /// Whether a call may fail yet.

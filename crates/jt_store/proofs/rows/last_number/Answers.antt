@@ -1,4 +1,4 @@
-use Rattle.std.proofs.Common.{sym, length, ◌+◌, ◌-◌, ◌≡◌, ◌<◌, arith}
+use Rattle.std.proofs.Common.{sym, length, ◌-◌, ◌<◌, arith}
 use Rattle.std.proofs.lemmas.Option.{slice_get_within}
 use Rattle.jt_store.proofs.Rising.{last_is}
 use Rattle.jt_store.proofs.rows.last_number.Goals as goal

@@ -1,5 +1,4 @@
 use Rattle.std.proofs.Common.{refl, ◌∙◌, ◌++◌, ◌∷◌, [], ap, sym, Some, None, cond, subst, ◌≡◌, List, ℕ}
-use Rattle.std.specs.Option.{unwrap_or}
 use Rattle.std.specs.Prelude.{IsSome}
 use Rattle.std.specs.Str.{bytes_eq}
 use Rattle.jt_store.specs.Memory.{list_under, under}

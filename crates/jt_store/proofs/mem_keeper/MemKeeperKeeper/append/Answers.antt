@@ -1,4 +1,4 @@
-use Rattle.std.proofs.Common.{ap, sym, subst, length, List, Option, Some, ◌∙◌, ◌<◌, ◌≡◌}
+use Rattle.std.proofs.Common.{ap, sym, subst, length, Some, ◌∙◌, ◌<◌}
 use Rattle.jt_value.specs.Sameness.{key_of}
 use Rattle.jt_store.specs.declared.row.Row.{Row}
 use Rattle.jt_store.specs.Memory.{Kept, list_under, tables_of, under}

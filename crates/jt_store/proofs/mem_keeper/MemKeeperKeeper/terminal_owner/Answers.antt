@@ -1,4 +1,4 @@
-use Rattle.std.proofs.Common.{ap, sym, subst, Some, Option, ◌≡◌}
+use Rattle.std.proofs.Common.{ap, sym, subst, Some, Option}
 use Rattle.jt_value.specs.declared.phone.Phone.{Phone}
 use Rattle.jt_store.specs.Memory.{Kept, tables_of, under}
 use Rattle.jt_store.specs.Tables.{IsOwner, terminals}
