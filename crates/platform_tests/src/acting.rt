@@ -92,10 +92,8 @@ fn other_edition(edition: Edition) -> Edition {
 }
 
 fn auth(alloc: Global, phone: Phone, edition: Edition) -> Result<Request, Memory> {
-    let known = Phone {
-        edition,
-        digits: phone.digits,
-    };
+    let digits = phone.digits;
+    let known = Phone { edition, digits };
     let code = octets(alloc, code_of(SECRET, &known).as_slice())?;
     Ok(Request::Auth { phone, code })
 }
