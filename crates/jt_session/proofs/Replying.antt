@@ -1,7 +1,7 @@
-use Rattle.std.proofs.Common.{◌≡◌, ℕ, List, [], ◌∷◌, ◌++◌, Bool, true, false, if◌then◌else◌, Option, Some, None, is_some, IfSome, IsTrue, refl, sym, ap, ◌∙◌, subst, append_assoc}
+use Rattle.std.proofs.Common.{◌≡◌, ℕ, List, [], ◌++◌, Bool, true, false, if◌then◌else◌, Option, Some, None, is_some, IfSome, IsTrue, refl, sym, ap, ◌∙◌, subst}
 use Rattle.std.proofs.lemmas.Bool.{false≢true}
 use Rattle.std.proofs.lemmas.List.{append-nil}
-use Rattle.std.specs.Option.{option_map, option_to_list}
+use Rattle.std.specs.Option.{option_map}
 use Rattle.jt_escape.specs.Scan.{State as Splitting}
 use Rattle.jt_escape.specs.Splitter.{StandsFor}
 use Rattle.jt_header.specs.declared.header.Header.{Header}
@@ -9,8 +9,8 @@ use Rattle.jt_stream.specs.Unplaced.{Unplaced, Message, items}
 use Rattle.jt_platform.specs.Allowed.{makes_entry}
 use Rattle.jt_platform.specs.declared.request.Request.{Request}
 use Rattle.jt_platform.specs.declared.request.Reply.{Reply}
-use Rattle.jt_session.specs.Talk.{State, Turned, Goes, Stops, Talked, turn_on, told, answers, saying, answer_to, asks, message_of, reads_on, frame_said, is_fenced, IsReplied}
-use Rattle.jt_session.specs.Sessions.{Seen, Turns, IsRepliedTo, turn_by, before}
+use Rattle.jt_session.specs.Talk.{State, Goes, Stops, Talked, turn_on, told, answers, saying, answer_to, asks, message_of, reads_on, frame_said, is_fenced, IsReplied}
+use Rattle.jt_session.specs.Sessions.{Seen, IsRepliedTo, turn_by, before}
 use Rattle.jt_header.specs.Fields.{header_at, body_at}
 use Rattle.jt_session.specs.Waiting.{AsksFor, Waits, ends_by, state_of, waiting_of}
 

@@ -1,9 +1,7 @@
-use Rattle.std.proofs.Common.{◌≡◌, ℕ, List, [], ◌∷◌, ◌++◌, refl, sym, ap, ◌∙◌, subst, append_assoc}
+use Rattle.std.proofs.Common.{◌≡◌, List, [], ◌∷◌, ◌++◌, refl, sym, ap, ◌∙◌, append_assoc}
 use Rattle.std.proofs.lemmas.List.{append_cancel_left}
-use Rattle.jt_stream.specs.Unplaced.{Unplaced, items}
-use Rattle.jt_platform.specs.declared.request.Request.{Request}
-use Rattle.jt_platform.specs.declared.request.Reply.{Reply}
-use Rattle.jt_session.specs.Talk.{Turn, Way, Talk, talk_from, at_state, start, items_of}
+use Rattle.jt_stream.specs.Unplaced.{Unplaced}
+use Rattle.jt_session.specs.Talk.{Turn, talk_from, at_state, start, items_of}
 use Rattle.jt_session.specs.Law.{ways_of, IsOneTalk}
 
 head_is : {A : Type 0} (x y : A) (xs ys : List A) → x ∷ xs ≡ y ∷ ys → x ≡ y

@@ -1,13 +1,12 @@
-use Rattle.std.proofs.Common.{◌≡◌, ℕ, zero, suc, ◌<◌, List, [], ◌∷◌, ◌++◌, length, get_or, Bool, true, false, Option, Some, None, refl, sym, ap, ◌∙◌, subst, append_assoc, arith}
+use Rattle.std.proofs.Common.{◌≡◌, ℕ, zero, suc, List, [], ◌∷◌, ◌++◌, true, false, Option, Some, None, refl, sym, ap, ◌∙◌, subst, append_assoc}
 use Rattle.std.proofs.lemmas.List.{append-nil}
 use Rattle.std.specs.Option.{option_to_list}
 use Rattle.jt_value.specs.Octets.{AreOctets}
-use Rattle.jt_escape.specs.Scan.{State as Splitting}
 use Rattle.jt_escape.specs.Splitter.{StandsFor}
 use Rattle.jt_stream.specs.Unplaced.{Unplaced, items}
 use Rattle.jt_platform.specs.declared.request.Request.{Request}
-use Rattle.jt_session.specs.Talk.{State, Turn, Goes, Stops, Talked, turn_on, turned, talk_from, quiet, asks, stopped, frame_said, is_frame, IsReplied, items_of}
-use Rattle.jt_session.specs.Sessions.{Seen, Turns, Takes, before, counts}
+use Rattle.jt_session.specs.Talk.{Goes, Stops, Talked, turn_on, turned, talk_from, quiet, asks, stopped, frame_said, is_frame, IsReplied, items_of}
+use Rattle.jt_session.specs.Sessions.{Seen, Takes, before, counts}
 use Rattle.jt_session.specs.Steps.{Brings, WasSilent, WasQuiet, HasAsked, RanShort, GoesOn}
 
 are_both : (a b : List ℕ) → AreOctets a → AreOctets b → AreOctets (a ++ b)

@@ -1,5 +1,5 @@
 -- Which replies a session can write (this project's own). To be believed.
-use Rattle.std.specs.Prelude.{ℕ, ◌≤◌, ◌≡◌, List, length}
+use Rattle.std.specs.Prelude.{◌≤◌, length}
 use Rattle.jt_platform.specs.declared.request.Reply.{Reply}
 use Rattle.jt_platform.specs.declared.request.Reply.TheVariants as say
 
