@@ -1,4 +1,4 @@
-use Rattle.std.proofs.Common.{Some, true, ◌≡◌}
+use Rattle.std.proofs.Common.{Some}
 use Rattle.jt_value.specs.Sameness.{key_of}
 use Rattle.jt_store.specs.Memory.{tables_of}
 use Rattle.store_tests.proofs.Calling.{may_append}
