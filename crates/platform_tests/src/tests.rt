@@ -41,31 +41,6 @@ fn a_full_list_takes_no_row_but_knows_repeats(rt: HostRuntime) -> Result<(), Fai
     Ok(())
 }
 
-// The plate is looked at before the terminal id, the fleet before the other phones. Zeros behind a terminal id do not count.
-#[test]
-fn registrations_are_denied_in_order(rt: HostRuntime) -> Result<(), Fail> {
-    let mut hub = hub(rt.alloc(), 100, &[])?;
-    let steps = [
-        (1, FIRST, Ask::Register(b"C", b"1"), Told::Denied(2)),
-        (1, FIRST, Ask::Register(b"A", b"3"), Told::Denied(4)),
-        (1, FIRST, Ask::Register(b"C", b"3"), Told::Denied(2)),
-        (1, FIRST, Ask::Register(b"A", b"1"), Told::Registered),
-        (1, SECOND, Ask::Register(b"A", b"2"), Told::Denied(1)),
-        (1, SECOND, Ask::Register(b"B", b"1"), Told::Denied(3)),
-        (1, SECOND, Ask::Register(b"B", b"1\0\0\0"), Told::Denied(3)),
-        (1, SECOND, Ask::Register(b"B", b"\x001"), Told::Denied(4)),
-        (
-            1,
-            FIRST,
-            Ask::Register(b"A", b"1\0\0\0\0"),
-            Told::Registered,
-        ),
-        (1, SECOND, Ask::Register(b"B", b"2"), Told::Registered),
-    ];
-    assert_eq!(rt; first_other(rt.alloc(), &mut hub, &steps)?, None);
-    Ok(())
-}
-
 // SHA-256 over 12345678 in ASCII is ef797c8118f02dfb649607dd..
 #[test]
 fn a_code_is_of_secret_and_phone(rt: HostRuntime) -> Result<(), Fail> {
@@ -123,28 +98,6 @@ fn a_deregistered_phone_keeps_its_rows_alone(rt: HostRuntime) -> Result<(), Fail
     };
     assert!(rt; !registered);
     assert_eq!(rt; keeper.last(rt.alloc(), &own), Ok(Some(2)));
-    Ok(())
-}
-
-// The phone of 2019 has the digits of the one of 2013 and no code of its own, until it registers; its units go on in the rows.
-#[test]
-fn one_phone_in_both_editions(rt: HostRuntime) -> Result<(), Fail> {
-    let mut hub = hub(rt.alloc(), 100, &[])?;
-    let steps = [
-        (1, FIRST, Ask::Register(b"A", b"1"), Told::Registered),
-        (1, FIRST, Ask::Auth, Told::Accepted),
-        (1, FIRST, Ask::Unit(2, b"x"), Told::Stored(2)),
-    ];
-    assert_eq!(rt; first_other(rt.alloc(), &mut hub, &steps)?, None);
-    let newer = phone(Edition::E2019, FIRST);
-    let denied = asked(rt.alloc(), &mut hub, 2, newer, Ask::OtherAuth)?;
-    assert_eq!(rt; denied, Told::Denied(1));
-    let registered = asked(rt.alloc(), &mut hub, 2, newer, Ask::Register(b"A", b"1"))?;
-    assert_eq!(rt; registered, Told::Registered);
-    let accepted = asked(rt.alloc(), &mut hub, 2, newer, Ask::Auth)?;
-    assert_eq!(rt; accepted, Told::Accepted);
-    let stored = asked(rt.alloc(), &mut hub, 2, newer, Ask::Unit(3, b"y"))?;
-    assert_eq!(rt; stored, Told::Stored(3));
     Ok(())
 }
 
