@@ -80,11 +80,11 @@ fn run(rt: &(impl std::rt::Clock + Print + AllocGlobal), count: u64) -> io::Resu
     let mut keeper = MemKeeper::new(alloc, 1_000_000_000, Seq::new(alloc));
     let start = Instant::now(rt)?;
     let done = put_all(alloc, &mut keeper, count);
-    let micros = start.elapsed(rt)?.as_micros() as u64;
+    let micros = start.elapsed(rt)?.as_micros();
     println!(rt; "{done} appends: {micros} us")?;
     let start = Instant::now(rt)?;
     let found = find_all(alloc, &mut keeper, 1_000_000, count / PHONES + 1);
-    let micros = start.elapsed(rt)?.as_micros() as u64;
+    let micros = start.elapsed(rt)?.as_micros();
     println!(rt; "1000000 look-ups over {count} rows, {found} found: {micros} us")
 }
 
