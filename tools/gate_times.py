@@ -27,12 +27,12 @@ def read(path):
 
 
 def processes():
-    """Each process's parent and the seconds that it has used."""
+    """Each process's parent, the seconds that it has used, and when it began: numbers of processes are used again."""
     found = {}
     for pid in filter(str.isdigit, os.listdir("/proc")):
         stat = read(f"/proc/{pid}/stat").rpartition(")")[2].split()
-        if len(stat) > 12:
-            found[int(pid)] = int(stat[1]), (int(stat[11]) + int(stat[12])) / TICKS
+        if len(stat) > 19:
+            found[int(pid)] = int(stat[1]), (int(stat[11]) + int(stat[12])) / TICKS, stat[19]
     return found
 
 
@@ -63,13 +63,14 @@ def job_of(pid):
 def sample(used, jobs):
     """Keeps the most seconds that each process was seen with, and what it works at."""
     found = processes()
-    for pid, (parent, seconds) in found.items():
+    for pid, (parent, seconds, began) in found.items():
         if not below(pid, found):
             continue
-        job = job_of(pid) or jobs.get(parent)
+        above = found.get(parent)
+        job = job_of(pid) or jobs.get((parent, above and above[2]))
         if job:
-            jobs[pid] = job
-            used[pid] = max(used.get(pid, 0.0), seconds)
+            jobs[pid, began] = job
+            used[pid, began] = max(used.get((pid, began), 0.0), seconds)
 
 
 def record(log):
@@ -90,8 +91,8 @@ def record(log):
         status = ran.wait()
         watcher.join()
         totals = {}
-        for pid, seconds in used.items():
-            totals[jobs[pid]] = totals.get(jobs[pid], 0.0) + seconds
+        for process, seconds in used.items():
+            totals[jobs[process]] = totals.get(jobs[process], 0.0) + seconds
         for (crate, part), seconds in sorted(totals.items()):
             print(f"time: {crate} {part} {seconds:.0f}", file=file)
         print(f"time: whole elapsed {time.monotonic() - began:.0f}", file=file)
