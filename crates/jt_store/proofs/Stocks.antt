@@ -1,14 +1,16 @@
 -- What stays true of a vault in memory.
-use Rattle.std.proofs.Common.{◌≡◌, ◌<◌, ◌≤◌, ◌+◌, ℕ, zero, suc, List, [], ◌∷◌, ◌++◌, length, take, drop, Option, Some, refl, sym, ap, subst, ◌∙◌, arith, get_or, length-append}
+use Rattle.std.proofs.Common.{◌≡◌, ◌<◌, ◌≤◌, ◌+◌, ℕ, suc, List, [], ◌∷◌, ◌++◌, length, take, drop, Option, Some, refl, sym, ap, subst, ◌∙◌, arith, get_or, length-append}
 use Rattle.std.specs.Prelude.{slice_get}
-use Rattle.std.proofs.Math.Seq.{drop-cons}
-use Rattle.std.proofs.lemmas.List.{drop-append-le, take_more, take-append-drop}
+use Rattle.std.proofs.Math.Seq.{drop-cons, take-add}
+use Rattle.std.proofs.lemmas.Grind.{flat_map-append}
+use Rattle.std.proofs.lemmas.List.{append-nil, drop-append-le, take_more, take-append-drop, take-append-le}
 use Rattle.std.proofs.lemmas.List.Sums.{sum_by-append}
 use Rattle.std.proofs.lemmas.Option.{get_or_from_slice_get, slice_get_within}
 use Rattle.jt_value.specs.Serials.{gap_of, serial_of}
 use Rattle.jt_store.specs.declared.unit.Unit.{Unit as OneUnit}
 use Rattle.jt_store.specs.Memory.{IsStock}
-use Rattle.jt_store.specs.Vaults.{Held, Forms, AreInOrder, Gaps, IsUnit, MayForm, carried, gap_after, held_by, pending}
+use Rattle.jt_position.specs.Fixes.{fixes_of}
+use Rattle.jt_store.specs.Vaults.{Held, Forms, AreInOrder, Gaps, IsUnit, IsWhole, MayForm, carried, fixes_in_units, formed, gap_after, held_by, last_serial, pending}
 
 -- ---- gaps
 
@@ -64,11 +66,6 @@ order_formed mark next u units code m is from near one =
     let step = gap_next mark u.serial m near in
     record { gaps = gaps-push mark 1 units u is.gaps (omega arith) near one; behind = omega arith; near = omega arith; short = is.short }
 
-take-append-le : (n : ℕ) (units more : List OneUnit) → n ≤ length units → take n (units ++ more) ≡ take n units
-take-append-le zero units more h = refl
-take-append-le (suc n) [] more h = absurd (omega arith)
-take-append-le (suc n) (u ∷ units) more h = ap (λ xs. u ∷ xs) (take-append-le n units more (omega arith))
-
 -- what one unit more carries, and some of the units
 carried-push : (units : List OneUnit) (u : OneUnit) → carried (units ++ u ∷ []) ≡ carried units + u.count
 carried-push units u = let sum = sum_by-append (λ (x : OneUnit). x.count) units (u ∷ []) in omega (arith, sum)
@@ -79,28 +76,51 @@ carried-le n units =
     let same : carried (take n units ++ drop n units) ≡ carried units = ap carried (take-append-drop n units) in
     omega arith
 
+-- ---- units carry the first fixes
+
+last_serial-push : (mark : ℕ) (units : List OneUnit) (u : OneUnit) → last_serial mark (units ++ u ∷ []) ≡ u.serial
+last_serial-push mark [] u = refl
+last_serial-push mark (x ∷ units) u = last_serial-push x.serial units u
+
+-- one unit more, of the next fixes
+fixes_formed : (h : Held) (u : OneUnit) → fixes_in_units h.units ≡ take (formed h) h.recorded → fixes_of (u.id, u.body) ≡ take u.count (drop (formed h) h.recorded)
+    → fixes_in_units (h.units ++ u ∷ []) ≡ take (formed h + u.count) h.recorded
+fixes_formed h u are is =
+    flat_map-append (λ (x : OneUnit). fixes_of (x.id, x.body)) h.units (u ∷ [])
+    ∙ ap (λ (xs : List (List ℕ)). xs ++ (fixes_of (u.id, u.body) ++ [])) are
+    ∙ ap (λ (xs : List (List ℕ)). take (formed h) h.recorded ++ xs) (append-nil (fixes_of (u.id, u.body)) ∙ is)
+    ∙ sym (take-add (formed h) u.count h.recorded)
+
 pub stock_formed : (h : Held) (in_units accepted limit : ℕ) (u : OneUnit) → IsStock h in_units accepted limit → h.mark < 65536 → IsUnit u → MayForm h u → IsStock (held_by (Forms u) h) (in_units + u.count) accepted limit
 stock_formed h in_units accepted limit u is m one may =
     let more : carried (h.units ++ u ∷ []) ≡ carried h.units + u.count = carried-push h.units u in
-    let front : carried (take h.accepted (h.units ++ u ∷ [])) ≡ carried (take h.accepted h.units) = ap carried (take-append-le h.accepted h.units (u ∷ []) is.known) in
-    let rest : drop h.accepted (h.units ++ u ∷ []) ≡ drop h.accepted h.units ++ u ∷ [] = drop-append-le h.accepted h.units (u ∷ []) is.known in
+    let w = is.whole in
+    let first : take h.accepted (h.units ++ u ∷ []) ≡ take h.accepted h.units = take-append-le h.accepted h.units (u ∷ []) w.known in
+    let front : carried (take h.accepted (h.units ++ u ∷ [])) ≡ carried (take h.accepted h.units) = ap carried first in
+    let rest : drop h.accepted (h.units ++ u ∷ []) ≡ drop h.accepted h.units ++ u ∷ [] = drop-append-le h.accepted h.units (u ∷ []) w.known in
     let enough = may.enough in
-    let known = is.known in
+    let known = w.known in
     let in_units_is = is.in_units_is in
     let few = is.few in
-    let order = order_formed h.mark h.next u (pending h) h.code m is.order may.from may.near one in
+    let order = order_formed h.mark h.next u (pending h) h.code m w.order may.from may.near one in
+    let whole : IsWhole (held_by (Forms u) h) = record {
+      known = omega (arith, length-append h.units (u ∷ []));
+      mark = w.mark ∙ ap (last_serial 65535) (sym first);
+      order = subst (λ units. AreInOrder h.mark (serial_of (u.serial + 1)) units h.code) (sym rest) order;
+      enough = omega arith;
+      fixes = fixes_formed h u w.fixes may.fixes ∙ ap (λ n. take n h.recorded) (sym more);
+    } in
     record {
       limit_fits = is.limit_fits;
-      known = omega (arith, length-append h.units (u ∷ []));
+      whole = whole;
       in_units_is = omega arith;
       accepted_is = is.accepted_is ∙ sym front;
-      enough = omega arith;
       few = omega arith;
-      order = subst (λ units. AreInOrder h.mark (serial_of (u.serial + 1)) units h.code) (sym rest) order;
     }
 
 -- the oldest pending unit
-pub one_more : (units : List OneUnit) (n : ℕ) (u : OneUnit) → slice_get units n ≡ Some u → (carried (take (n + 1) units) ≡ carried (take n units) + u.count) × (drop n units ≡ u ∷ drop (n + 1) units) × (n < length units)
+pub one_more : (units : List OneUnit) (n : ℕ) (u : OneUnit) → slice_get units n ≡ Some u
+    → (carried (take (n + 1) units) ≡ carried (take n units) + u.count) × (drop n units ≡ u ∷ drop (n + 1) units) × (n < length units) × (last_serial 65535 (take (n + 1) units) ≡ u.serial)
 one_more units n u at =
     let within = slice_get_within units n u at in
     let here = get_or_from_slice_get units n u u at in
@@ -108,7 +128,8 @@ one_more units n u at =
     let sum : carried (take n units ++ get_or units n u ∷ []) ≡ carried (take n units) + (get_or units n u).count = carried-push (take n units) (get_or units n u) in
     let count : (get_or units n u).count ≡ u.count = ap (λ (x : OneUnit). x.count) here in
     let next : suc n ≡ n + 1 = omega arith in
-    (omega arith, drop-cons units n u within ∙ ap (λ (x : OneUnit). x ∷ drop (suc n) units) here ∙ ap (λ k. u ∷ drop k units) next, within)
+    let last : last_serial 65535 (take (n + 1) units) ≡ (get_or units n u).serial = ap (last_serial 65535) (take_more units n u within) ∙ last_serial-push 65535 (take n units) (get_or units n u) in
+    (omega arith, drop-cons units n u within ∙ ap (λ (x : OneUnit). x ∷ drop (suc n) units) here ∙ ap (λ k. u ∷ drop k units) next, within, last ∙ ap (λ (x : OneUnit). x.serial) here)
 
 pub settled_fits : (h : Held) (in_units accepted limit : ℕ) (u : OneUnit) → IsStock h in_units accepted limit → slice_get h.units h.accepted ≡ Some u → accepted + u.count ≤ in_units
 settled_fits h in_units accepted limit u is at =
@@ -126,12 +147,18 @@ stock_accepted h in_units accepted limit u is m l at =
     let within = step.2 in
     let accepted_is = is.accepted_is in
     let few = is.few in
+    let w = is.whole in
+    let whole : IsWhole (record h { accepted = h.accepted + 1; mark = u.serial }) = record {
+      known = omega arith;
+      mark = sym step.3;
+      order = order_accepted h.mark h.next u (drop (h.accepted + 1) h.units) h.code m l (subst (λ units. AreInOrder h.mark h.next units h.code) step.1 w.order);
+      enough = w.enough;
+      fixes = w.fixes;
+    } in
     record {
       limit_fits = is.limit_fits;
-      known = omega arith;
+      whole = whole;
       in_units_is = is.in_units_is;
       accepted_is = omega arith;
-      enough = is.enough;
       few = omega arith;
-      order = order_accepted h.mark h.next u (drop (h.accepted + 1) h.units) h.code m l (subst (λ units. AreInOrder h.mark h.next units h.code) step.1 is.order);
     }

@@ -1,5 +1,5 @@
 -- What contracts see of the stores in memory (this project's own). To be believed.
-use Rattle.std.specs.Prelude.{ℕ, ◌≡◌, ◌≤◌, ◌↔◌, length, List, Option, Some, None, Result, Bool, true, false, Contains, IsErrOf, [], ◌∷◌}
+use Rattle.std.specs.Prelude.{ℕ, ◌≡◌, ◌≤◌, ◌↔◌, List, Option, Some, None, Result, Bool, true, false, Contains, IsErrOf, [], ◌∷◌}
 use Rattle.std.specs.Map.{lookup}
 use Rattle.std.specs.Option.{unwrap_or}
 use Rattle.std.specs.Str.{bytes_eq}
@@ -11,7 +11,7 @@ use Rattle.jt_store.specs.declared.error.StoreError.TheVariants.{Failed}
 use Rattle.jt_store.specs.declared.row.Registered.{Registered}
 use Rattle.jt_store.specs.declared.row.Row.{Row}
 use Rattle.jt_store.specs.Tables.{Tables, counted}
-use Rattle.jt_store.specs.Vaults.{Held, AreInOrder, formed, pending, settled, unsettled}
+use Rattle.jt_store.specs.Vaults.{Held, IsWhole, formed, settled, unsettled}
 
 -- what a list of pairs has under some octets
 abbrev pub under : {T : Type 0} → List (List ℕ × T) → List ℕ → Option T
@@ -56,9 +56,7 @@ pub record Stock : Type 0 where
 -- what stays true of it, with how many fixes are in units and how many are accepted
 pub record IsStock (h : Held) (in_units accepted limit : ℕ) : Type 0 where
   pub limit_fits : limit ≤ 100000
-  pub known : h.accepted ≤ length h.units
+  pub whole : IsWhole h
   pub in_units_is : in_units ≡ formed h
   pub accepted_is : accepted ≡ settled h
-  pub enough : formed h ≤ length h.recorded
   pub few : unsettled h ≤ limit
-  pub order : AreInOrder h.mark h.next (pending h) h.code

@@ -1,5 +1,5 @@
 -- What a vault holds, and what its calls change (this project's own). To be believed.
-use Rattle.std.specs.Prelude.{ℕ, ◌≡◌, ◌+◌, ◌-◌, ◌≤◌, ◌⊎◌, List, [], ◌∷◌, ◌++◌, length, take, drop, sum_by, Option, None, Some, Result, IfSome, slice_get}
+use Rattle.std.specs.Prelude.{ℕ, ◌≡◌, ◌+◌, ◌-◌, ◌≤◌, ◌⊎◌, List, [], ◌∷◌, ◌++◌, length, take, drop, sum_by, flat_map, Option, None, Some, Result, IfSome, slice_get}
 use denote.Bor.{Bor}
 use Rattle.jt_value.specs.Serials.{gap_of, serial_of}
 use Rattle.jt_position.specs.Fixes.{fixes_of}
@@ -59,6 +59,24 @@ pub record AreInOrder (mark next : ℕ) (units : List OneUnit) (code : Option (L
   pub behind : gap_after mark 1 units ≤ gap_of mark next
   pub near : gap_of mark next ≤ 32767
   pub short : IfSome code (λ octets. length octets ≤ 255)
+
+-- the serial of the last of some units, or this one where there is none
+abbrev pub last_serial : ℕ → List OneUnit → ℕ
+last_serial mark [] = mark
+last_serial mark (u ∷ units) = last_serial u.serial units
+
+-- the fixes that some units carry, in order
+abbrev pub fixes_in_units : List OneUnit → List (List ℕ)
+fixes_in_units units = flat_map (λ (u : OneUnit). fixes_of (u.id, u.body)) units
+
+-- What every vault that tells keeps together: the mark is the serial of the last accepted unit, at first 65,535; what is not accepted
+-- is in order; and the units carry the first fixes recorded, as many as they count.
+pub record IsWhole (h : Held) : Type 0 where
+  pub known : h.accepted ≤ length h.units
+  pub mark : h.mark ≡ last_serial 65535 (take h.accepted h.units)
+  pub order : AreInOrder h.mark h.next (pending h) h.code
+  pub enough : formed h ≤ length h.recorded
+  pub fixes : fixes_in_units h.units ≡ take (formed h) h.recorded
 
 -- what a vault loads: the fixes that are in no unit, the units that are not accepted, mark, next and code, and how many fixes are
 -- recorded and accepted

@@ -17,7 +17,7 @@ pub trait Keeper {
     /// The registrations and the rows, where the keeper tells them.
     ghost tables: { Self → Option Tables };
 
-    /// How many rows a phone may have.
+    /// How many rows a phone may have, at most 1,000,000,000.
     ghost limit: { Self → ℕ };
 
     /// How often the keeper failed. The count never falls. That it rose in a call holds also where it stands at 2^64 - 1.
@@ -31,6 +31,7 @@ pub trait Keeper {
         ensures answer { Reads (tables self.old) (tables self.new) (λ t found. found ≡ t.registered (key_of phone.now)) result }
         ensures names { OnOk result (Told (tables self.old) (λ t. AreNamedOnce t.registered)) }
         ensures limit { limit self.new ≡ limit self.old }
+        ensures bound { limit self.old ≤ 1000000000 }
         ensures cause { HasCause (faults self.old) (faults self.new) result }
         ensures steady { IsSteady (may_fail self.old) (may_fail self.new) result };
 
@@ -39,6 +40,7 @@ pub trait Keeper {
         ensures answer { Reads (tables self.old) (tables self.new) (λ t found. IsOwner plates t.registered plate.now found) result }
         ensures names { OnOk result (Told (tables self.old) (λ t. AreNamedOnce t.registered)) }
         ensures limit { limit self.new ≡ limit self.old }
+        ensures bound { limit self.old ≤ 1000000000 }
         ensures cause { HasCause (faults self.old) (faults self.new) result }
         ensures steady { IsSteady (may_fail self.old) (may_fail self.new) result };
 
@@ -51,6 +53,7 @@ pub trait Keeper {
         ensures answer { Reads (tables self.old) (tables self.new) (λ t found. IsOwner terminals t.registered terminal.now found) result }
         ensures names { OnOk result (Told (tables self.old) (λ t. AreNamedOnce t.registered)) }
         ensures limit { limit self.new ≡ limit self.old }
+        ensures bound { limit self.old ≤ 1000000000 }
         ensures cause { HasCause (faults self.old) (faults self.new) result }
         ensures steady { IsSteady (may_fail self.old) (may_fail self.new) result };
 
@@ -66,6 +69,7 @@ pub trait Keeper {
         requires may { Told (tables self.old) (λ t. MayRegister t.registered (key_of phone.now) registered.now) }
         ensures answer { Writes (tables self.old) (registered_set (key_of phone.now) (Some registered.now) (tables self.old)) (tables self.new) result }
         ensures limit { limit self.new ≡ limit self.old }
+        ensures bound { limit self.old ≤ 1000000000 }
         ensures cause { HasCause (faults self.old) (faults self.new) result }
         ensures steady { IsSteady (may_fail self.old) (may_fail self.new) result };
 
@@ -73,6 +77,7 @@ pub trait Keeper {
     fn unregister(&mut self, alloc: Global, phone: &Phone) -> Result<(), StoreError>
         ensures answer { Writes (tables self.old) (registered_set (key_of phone.now) None (tables self.old)) (tables self.new) result }
         ensures limit { limit self.new ≡ limit self.old }
+        ensures bound { limit self.old ≤ 1000000000 }
         ensures cause { HasCause (faults self.old) (faults self.new) result }
         ensures steady { IsSteady (may_fail self.old) (may_fail self.new) result };
 
@@ -82,6 +87,7 @@ pub trait Keeper {
         ensures low { IfOk result (λ last. IfSome last (λ n. n < 2 ^ 47)) }
         ensures rows { Told (tables self.old) (λ t. AreRows (limit self.old) (t.rows (key_of phone.now))) }
         ensures limit { limit self.new ≡ limit self.old }
+        ensures bound { limit self.old ≤ 1000000000 }
         ensures cause { HasCause (faults self.old) (faults self.new) result }
         ensures steady { IsSteady (may_fail self.old) (may_fail self.new) result };
 
@@ -95,6 +101,7 @@ pub trait Keeper {
         ensures answer { Reads (tables self.old) (tables self.new) (λ t found. Finds (t.rows (key_of phone.now)) number found) result }
         ensures rows { Told (tables self.old) (λ t. AreRows (limit self.old) (t.rows (key_of phone.now))) }
         ensures limit { limit self.new ≡ limit self.old }
+        ensures bound { limit self.old ≤ 1000000000 }
         ensures cause { HasCause (faults self.old) (faults self.new) result }
         ensures steady { IsSteady (may_fail self.old) (may_fail self.new) result };
 
@@ -109,6 +116,7 @@ pub trait Keeper {
         ensures within { IfOk result (λ found. IfSome found (λ row. (number ≤ row.number) × (row.number < 2 ^ 47))) }
         ensures rows { Told (tables self.old) (λ t. AreRows (limit self.old) (t.rows (key_of phone.now))) }
         ensures limit { limit self.new ≡ limit self.old }
+        ensures bound { limit self.old ≤ 1000000000 }
         ensures cause { HasCause (faults self.old) (faults self.new) result }
         ensures steady { IsSteady (may_fail self.old) (may_fail self.new) result };
 
@@ -118,6 +126,7 @@ pub trait Keeper {
         requires { Told (tables self.old) (λ t. MayAppend (last_of (t.rows (key_of phone.now))) row.now.number) }
         ensures answer { Appends (limit self.old) (key_of phone.now) row.now (tables self.old) (tables self.new) result }
         ensures limit { limit self.new ≡ limit self.old }
+        ensures bound { limit self.old ≤ 1000000000 }
         ensures cause { HasCause (faults self.old) (faults self.new) result }
         ensures steady { IsSteady (may_fail self.old) (may_fail self.new) result };
 }

@@ -110,6 +110,7 @@ impl Keeper for MemKeeper {
         ensures answer { Reads (Some (tables_of self.old)) (Some (tables_of self.new)) (λ t found. found ≡ t.registered (key_of phone.now)) result }
         ensures names { OnOk result (AreNamedOnce (tables_of self.old).registered) }
         ensures limit { self.new.limit ≡ self.old.limit }
+        ensures bound { self.old.limit ≤ 1000000000 }
         ensures cause { HasCause self.old.calls.faults self.new.calls.faults result }
         ensures steady { IsSteady (is_listed self.old.calls.failing) (is_listed self.new.calls.failing) result }
         ensures in_order { InOrder self.old.calls self.new.calls result }
@@ -125,6 +126,7 @@ impl Keeper for MemKeeper {
         ensures answer { Reads (Some (tables_of self.old)) (Some (tables_of self.new)) (λ t found. IsOwner plates t.registered plate.now found) result }
         ensures names { OnOk result (AreNamedOnce (tables_of self.old).registered) }
         ensures limit { self.new.limit ≡ self.old.limit }
+        ensures bound { self.old.limit ≤ 1000000000 }
         ensures cause { HasCause self.old.calls.faults self.new.calls.faults result }
         ensures steady { IsSteady (is_listed self.old.calls.failing) (is_listed self.new.calls.failing) result }
         ensures in_order { InOrder self.old.calls self.new.calls result }
@@ -143,6 +145,7 @@ impl Keeper for MemKeeper {
         ensures answer { Reads (Some (tables_of self.old)) (Some (tables_of self.new)) (λ t found. IsOwner terminals t.registered terminal.now found) result }
         ensures names { OnOk result (AreNamedOnce (tables_of self.old).registered) }
         ensures limit { self.new.limit ≡ self.old.limit }
+        ensures bound { self.old.limit ≤ 1000000000 }
         ensures cause { HasCause self.old.calls.faults self.new.calls.faults result }
         ensures steady { IsSteady (is_listed self.old.calls.failing) (is_listed self.new.calls.failing) result }
         ensures in_order { InOrder self.old.calls self.new.calls result }
@@ -163,6 +166,7 @@ impl Keeper for MemKeeper {
         requires may { MayRegister (tables_of self.old).registered (key_of phone.now) registered.now }
         ensures answer { Writes (Some (tables_of self.old)) (registered_set (key_of phone.now) (Some registered.now) (Some (tables_of self.old))) (Some (tables_of self.new)) result }
         ensures limit { self.new.limit ≡ self.old.limit }
+        ensures bound { self.old.limit ≤ 1000000000 }
         ensures cause { HasCause self.old.calls.faults self.new.calls.faults result }
         ensures steady { IsSteady (is_listed self.old.calls.failing) (is_listed self.new.calls.failing) result }
         ensures in_order { InOrder self.old.calls self.new.calls result }
@@ -177,6 +181,7 @@ impl Keeper for MemKeeper {
     fn unregister(&mut self, _alloc: Global, phone: &Phone) -> Result<(), StoreError>
         ensures answer { Writes (Some (tables_of self.old)) (registered_set (key_of phone.now) None (Some (tables_of self.old))) (Some (tables_of self.new)) result }
         ensures limit { self.new.limit ≡ self.old.limit }
+        ensures bound { self.old.limit ≤ 1000000000 }
         ensures cause { HasCause self.old.calls.faults self.new.calls.faults result }
         ensures steady { IsSteady (is_listed self.old.calls.failing) (is_listed self.new.calls.failing) result }
         ensures in_order { InOrder self.old.calls self.new.calls result }
@@ -193,6 +198,7 @@ impl Keeper for MemKeeper {
         ensures low { IfOk result (λ last. IfSome last (λ n. n < 2 ^ 47)) }
         ensures rows { AreRows self.old.limit ((tables_of self.old).rows (key_of phone.now)) }
         ensures limit { self.new.limit ≡ self.old.limit }
+        ensures bound { self.old.limit ≤ 1000000000 }
         ensures cause { HasCause self.old.calls.faults self.new.calls.faults result }
         ensures steady { IsSteady (is_listed self.old.calls.failing) (is_listed self.new.calls.failing) result }
         ensures in_order { InOrder self.old.calls self.new.calls result }
@@ -212,6 +218,7 @@ impl Keeper for MemKeeper {
         ensures answer { Reads (Some (tables_of self.old)) (Some (tables_of self.new)) (λ t found. Finds (t.rows (key_of phone.now)) number found) result }
         ensures rows { AreRows self.old.limit ((tables_of self.old).rows (key_of phone.now)) }
         ensures limit { self.new.limit ≡ self.old.limit }
+        ensures bound { self.old.limit ≤ 1000000000 }
         ensures cause { HasCause self.old.calls.faults self.new.calls.faults result }
         ensures steady { IsSteady (is_listed self.old.calls.failing) (is_listed self.new.calls.failing) result }
         ensures in_order { InOrder self.old.calls self.new.calls result }
@@ -233,6 +240,7 @@ impl Keeper for MemKeeper {
         ensures within { IfOk result (λ found. IfSome found (λ row. (number ≤ row.number) × (row.number < 2 ^ 47))) }
         ensures rows { AreRows self.old.limit ((tables_of self.old).rows (key_of phone.now)) }
         ensures limit { self.new.limit ≡ self.old.limit }
+        ensures bound { self.old.limit ≤ 1000000000 }
         ensures cause { HasCause self.old.calls.faults self.new.calls.faults result }
         ensures steady { IsSteady (is_listed self.old.calls.failing) (is_listed self.new.calls.failing) result }
         ensures in_order { InOrder self.old.calls self.new.calls result }
@@ -248,6 +256,7 @@ impl Keeper for MemKeeper {
         requires { MayAppend (last_of ((tables_of self.old).rows (key_of phone.now))) row.now.number }
         ensures answer { Appends self.old.limit (key_of phone.now) row.now (Some (tables_of self.old)) (Some (tables_of self.new)) result }
         ensures limit { self.new.limit ≡ self.old.limit }
+        ensures bound { self.old.limit ≤ 1000000000 }
         ensures cause { HasCause self.old.calls.faults self.new.calls.faults result }
         ensures steady { IsSteady (is_listed self.old.calls.failing) (is_listed self.new.calls.failing) result }
         ensures in_order { InOrder self.old.calls self.new.calls result }

@@ -3,7 +3,7 @@
 ghost use Rattle.std.specs.Prelude.{◌≡◌, ◌<◌, ◌≤◌, None, Some, [], IfOk, IfSome, length};
 ghost use Rattle.jt_store.specs.Memory.{is_listed, InOrder};
 ghost use Rattle.jt_store.specs.Tables.{HasCause, IsSteady, Reads};
-ghost use Rattle.jt_store.specs.Vaults.{Accepts, AreInOrder, Changes, Forms, IsLoaded, IsUnit, MayForm, Records, Sets, octets_of};
+ghost use Rattle.jt_store.specs.Vaults.{Accepts, AreInOrder, Changes, Forms, IsLoaded, IsUnit, IsWhole, MayForm, Records, Sets, octets_of};
 
 use crate::calls::Calls;
 use crate::error::StoreError;
@@ -97,7 +97,9 @@ impl Vault for MemVault {
     fn load(&mut self, alloc: Global) -> Result<Loaded, StoreError>
         ensures answer { Reads (Some self.old.held) (Some self.new.held) IsLoaded result }
         ensures order { IfOk result (λ loaded. AreInOrder loaded.mark loaded.next loaded.units loaded.code) }
+        ensures whole { IsWhole self.old.held }
         ensures limit { self.new.limit ≡ self.old.limit }
+        ensures bound { self.old.limit ≤ 100000 }
         ensures cause { HasCause self.old.calls.faults self.new.calls.faults result }
         ensures steady { IsSteady (is_listed self.old.calls.failing) (is_listed self.new.calls.failing) result }
         ensures in_order { InOrder self.old.calls self.new.calls result }
@@ -122,6 +124,7 @@ impl Vault for MemVault {
     fn note_fix(&mut self, _alloc: Global, fix: &Fix) -> Result<(), StoreError>
         ensures answer { Records self.old.limit fix.now (Some self.old.held) (Some self.new.held) result }
         ensures limit { self.new.limit ≡ self.old.limit }
+        ensures bound { self.old.limit ≤ 100000 }
         ensures cause { HasCause self.old.calls.faults self.new.calls.faults result }
         ensures steady { IsSteady (is_listed self.old.calls.failing) (is_listed self.new.calls.failing) result }
         ensures in_order { InOrder self.old.calls self.new.calls result }
@@ -142,6 +145,7 @@ impl Vault for MemVault {
         requires may { MayForm self.old.held unit.now }
         ensures answer { Changes (Forms unit.now) (Some self.old.held) (Some self.new.held) result }
         ensures limit { self.new.limit ≡ self.old.limit }
+        ensures bound { self.old.limit ≤ 100000 }
         ensures cause { HasCause self.old.calls.faults self.new.calls.faults result }
         ensures steady { IsSteady (is_listed self.old.calls.failing) (is_listed self.new.calls.failing) result }
         ensures in_order { InOrder self.old.calls self.new.calls result }
@@ -161,6 +165,7 @@ impl Vault for MemVault {
         requires { self.old.held.accepted < length self.old.held.units }
         ensures answer { Changes Accepts (Some self.old.held) (Some self.new.held) result }
         ensures limit { self.new.limit ≡ self.old.limit }
+        ensures bound { self.old.limit ≤ 100000 }
         ensures cause { HasCause self.old.calls.faults self.new.calls.faults result }
         ensures steady { IsSteady (is_listed self.old.calls.failing) (is_listed self.new.calls.failing) result }
         ensures in_order { InOrder self.old.calls self.new.calls result }
@@ -183,6 +188,7 @@ impl Vault for MemVault {
         requires { IfSome (octets_of code) (λ octets. length octets ≤ 255) }
         ensures answer { Changes (Sets (octets_of code.entry)) (Some self.old.held) (Some self.new.held) result }
         ensures limit { self.new.limit ≡ self.old.limit }
+        ensures bound { self.old.limit ≤ 100000 }
         ensures cause { HasCause self.old.calls.faults self.new.calls.faults result }
         ensures steady { IsSteady (is_listed self.old.calls.failing) (is_listed self.new.calls.failing) result }
         ensures in_order { InOrder self.old.calls self.new.calls result }

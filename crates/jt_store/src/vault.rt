@@ -2,7 +2,7 @@
 
 ghost use Rattle.std.specs.Prelude.{◌≡◌, ◌<◌, ◌≤◌, ℕ, Bool, Option, IfOk, IfSome, length};
 ghost use Rattle.jt_store.specs.Tables.{HasCause, IsSteady, Reads, Told};
-ghost use Rattle.jt_store.specs.Vaults.{Accepts, AreInOrder, Changes, Forms, Held, IsLoaded, IsUnit, MayForm, Records, Sets, octets_of};
+ghost use Rattle.jt_store.specs.Vaults.{Accepts, AreInOrder, Changes, Forms, Held, IsLoaded, IsUnit, IsWhole, MayForm, Records, Sets, octets_of};
 
 use crate::error::StoreError;
 use crate::unit::{Loaded, Unit};
@@ -17,7 +17,7 @@ pub trait Vault {
     /// What the vault holds, where it tells it.
     ghost holds: { Self → Option Held };
 
-    /// How many fixes may be recorded and not accepted.
+    /// How many fixes may be recorded and not accepted, at most 100,000.
     ghost limit: { Self → ℕ };
 
     /// How often the vault failed. The count never falls. That it rose in a call holds also where it stands at 2^64 - 1.
@@ -27,11 +27,14 @@ pub trait Vault {
     ghost may_fail: { Self → Bool };
 
     /// What a terminal begins with. The gaps of the units' serials from mark rise and are 1 to 32,766; the gap of next
-    /// is above them, and 1 to 32,767.
+    /// is above them, and 1 to 32,767. A vault that tells holds units that carry the first fixes recorded, and mark is the
+    /// serial of the last one accepted.
     fn load(&mut self, alloc: Global) -> Result<Loaded, StoreError>
         ensures answer { Reads (holds self.old) (holds self.new) IsLoaded result }
         ensures order { IfOk result (λ loaded. AreInOrder loaded.mark loaded.next loaded.units loaded.code) }
+        ensures whole { Told (holds self.old) IsWhole }
         ensures limit { limit self.new ≡ limit self.old }
+        ensures bound { limit self.old ≤ 100000 }
         ensures cause { HasCause (faults self.old) (faults self.new) result }
         ensures steady { IsSteady (may_fail self.old) (may_fail self.new) result };
 
@@ -40,6 +43,7 @@ pub trait Vault {
     fn note_fix(&mut self, alloc: Global, fix: &Fix) -> Result<(), StoreError>
         ensures answer { Records (limit self.old) fix.now (holds self.old) (holds self.new) result }
         ensures limit { limit self.new ≡ limit self.old }
+        ensures bound { limit self.old ≤ 100000 }
         ensures cause { HasCause (faults self.old) (faults self.new) result }
         ensures steady { IsSteady (may_fail self.old) (may_fail self.new) result };
 
@@ -50,6 +54,7 @@ pub trait Vault {
         requires may { Told (holds self.old) (λ held. MayForm held unit.now) }
         ensures answer { Changes (Forms unit.now) (holds self.old) (holds self.new) result }
         ensures limit { limit self.new ≡ limit self.old }
+        ensures bound { limit self.old ≤ 100000 }
         ensures cause { HasCause (faults self.old) (faults self.new) result }
         ensures steady { IsSteady (may_fail self.old) (may_fail self.new) result };
 
@@ -58,6 +63,7 @@ pub trait Vault {
         requires { Told (holds self.old) (λ held. held.accepted < length held.units) }
         ensures answer { Changes Accepts (holds self.old) (holds self.new) result }
         ensures limit { limit self.new ≡ limit self.old }
+        ensures bound { limit self.old ≤ 100000 }
         ensures cause { HasCause (faults self.old) (faults self.new) result }
         ensures steady { IsSteady (may_fail self.old) (may_fail self.new) result };
 
@@ -66,6 +72,7 @@ pub trait Vault {
         requires { IfSome (octets_of code) (λ octets. length octets ≤ 255) }
         ensures answer { Changes (Sets (octets_of code.entry)) (holds self.old) (holds self.new) result }
         ensures limit { limit self.new ≡ limit self.old }
+        ensures bound { limit self.old ≤ 100000 }
         ensures cause { HasCause (faults self.old) (faults self.new) result }
         ensures steady { IsSteady (may_fail self.old) (may_fail self.new) result };
 }
