@@ -1,4 +1,6 @@
 pub mod Memory
+pub mod Migrating
+pub mod Places
 pub mod Registry
 pub mod Tables
 pub mod Vaults
