@@ -6,6 +6,10 @@ mod keeper_calls;
 #[cfg(test)]
 mod keeper_tests;
 #[cfg(test)]
+mod migrate_calls;
+#[cfg(test)]
+mod migrate_tests;
+#[cfg(test)]
 mod serial_tests;
 #[cfg(test)]
 mod vault_calls;
