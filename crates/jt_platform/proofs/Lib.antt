@@ -1,4 +1,12 @@
 pub mod Asking
+pub mod Places
+pub mod Rolls
+pub mod Verdicts
+pub mod Answering
+pub mod Alone
+pub mod Making
+pub mod Indexing
+pub mod Storing
 pub mod Acting
 pub mod Holding
 pub mod Zeros

@@ -41,35 +41,40 @@ IsAnothers name_of t key name = (other : List ℕ) × HasName name_of t.register
 abbrev pub IsOfFleet : Fleet → Registered → Type 0
 IsOfFleet fleet r = (has_plate fleet.plates r.plate ≡ true) × (has_terminal fleet.terminals r.terminal ≡ true)
 
--- why a registration is denied, in this order: the plate is not in the fleet, the terminal id is not, another phone has the
--- plate, another phone has the terminal id
-abbrev pub IsDenied : Fleet → Tables → List ℕ → Registered → ℕ → Type 0
-IsDenied fleet t key r n =
+-- the phone is registered so, or otherwise, or not at all
+abbrev pub IsSo : Tables → List ℕ → Registered → Type 0
+IsSo t key r = t.registered key ≡ Some r
+
+abbrev pub IsNotSo : Tables → List ℕ → Registered → Type 0
+IsNotSo t key r = t.registered key ≢ Some r
+
+-- Why a registration is denied, in this order: the plate is not in the fleet, the terminal id is not, another phone has the
+-- plate, another phone has the terminal id. Of other phones only the tables tell.
+abbrev pub IsDenied : Fleet → Option Tables → List ℕ → Registered → ℕ → Type 0
+IsDenied fleet now key r n =
     ((n ≡ 2) × (has_plate fleet.plates r.plate ≡ false))
     ⊎ ((n ≡ 4) × (has_plate fleet.plates r.plate ≡ true) × (has_terminal fleet.terminals r.terminal ≡ false))
-    ⊎ ((n ≡ 1) × IsOfFleet fleet r × IsAnothers plates t key r.plate)
-    ⊎ ((n ≡ 3) × IsOfFleet fleet r × (IsAnothers plates t key r.plate → ⊥) × IsAnothers terminals t key r.terminal)
+    ⊎ ((n ≡ 1) × IsOfFleet fleet r × Told now (λ t. IsAnothers plates t key r.plate))
+    ⊎ ((n ≡ 3) × IsOfFleet fleet r × Told now (λ t. (IsAnothers plates t key r.plate → ⊥) × IsAnothers terminals t key r.terminal))
 
--- the phone may have the plate and the terminal id
-abbrev pub IsFree : Fleet → Tables → List ℕ → Registered → Type 0
-IsFree fleet t key r = IsOfFleet fleet r × (IsAnothers plates t key r.plate → ⊥) × (IsAnothers terminals t key r.terminal → ⊥)
+-- no other phone has the plate or the terminal id
+abbrev pub IsFree : Tables → List ℕ → Registered → Type 0
+IsFree t key r = (IsAnothers plates t key r.plate → ⊥) × (IsAnothers terminals t key r.terminal → ⊥)
 
 -- Registered with the code if the phone is registered so already; else denied, or registered with the code
-abbrev pub RegisterReply : Fleet → Tables → List ℕ → Registered → List ℕ → Reply → Type 0
-RegisterReply fleet t key r code (say.Registered c) = (c ≡ code) × ((t.registered key ≡ Some r) ⊎ ((t.registered key ≢ Some r) × IsFree fleet t key r))
-RegisterReply fleet t key r code (say.Denied n) = (t.registered key ≢ Some r) × IsDenied fleet t key r n
-RegisterReply fleet t key r code reply = ⊥
+abbrev pub RegisterReply : Fleet → Option Tables → List ℕ → Registered → List ℕ → Reply → Type 0
+RegisterReply fleet now key r code (say.Registered c) =
+    (c ≡ code) × (Told now (λ t. IsSo t key r) ⊎ (IsOfFleet fleet r × Told now (λ t. IsNotSo t key r × IsFree t key r)))
+RegisterReply fleet now key r code (say.Denied n) = Told now (λ t. IsNotSo t key r) × IsDenied fleet now key r n
+RegisterReply fleet now key r code reply = ⊥
 
 -- ---- authentications
 
--- the phone is registered, and the code is its own
-abbrev pub MayEnter : List ℕ → Tables → Phone → List ℕ → Type 0
-MayEnter secret t phone code = IsSome (t.registered (key_of phone)) × (code ≡ code_for secret phone)
-
-abbrev pub AuthReply : List ℕ → Tables → Phone → List ℕ → Reply → Type 0
-AuthReply secret t phone code say.Accepted = MayEnter secret t phone code
-AuthReply secret t phone code (say.Denied n) = (n ≡ 1) × (MayEnter secret t phone code → ⊥)
-AuthReply secret t phone code reply = ⊥
+-- accepted if the phone is registered and the code is its own
+abbrev pub AuthReply : List ℕ → Option Tables → Phone → List ℕ → Reply → Type 0
+AuthReply secret now phone code say.Accepted = (code ≡ code_for secret phone) × Told now (λ t. IsSome (t.registered (key_of phone)))
+AuthReply secret now phone code (say.Denied n) = (n ≡ 1) × (Told now (λ t. t.registered (key_of phone) ≡ None) ⊎ (code ≢ code_for secret phone))
+AuthReply secret now phone code reply = ⊥
 
 -- ---- units
 
@@ -77,14 +82,18 @@ AuthReply secret t phone code reply = ⊥
 abbrev pub VerdictOn : List Row → ℕ → ℕ → List ℕ → Verdict → Type 0
 VerdictOn rows serial id body v = IsVerdict (last_of rows) (λ n. IsRow rows (record { number = n; id = id; body = body })) serial v
 
--- replies to a unit of the holder's live session. ListFull stands in place of Stored and Renumbered, exactly where the phone has
+-- a row more would be stored, or renumbered
+abbrev pub IsMore : List Row → ℕ → ℕ → List ℕ → Type 0
+IsMore rows serial id body = (n : ℕ) × (VerdictOn rows serial id body (New n) ⊎ VerdictOn rows serial id body (Anew n))
+
+-- Replies to a unit of the holder's live session. ListFull stands in place of Stored and Renumbered, exactly where the phone has
 -- as many rows as the limit.
-abbrev pub StoreReply : ℕ → List Row → ℕ → ℕ → List ℕ → Reply → Type 0
-StoreReply limit rows serial id body (say.Stored n) = VerdictOn rows serial id body (New n) × (length rows < limit)
-StoreReply limit rows serial id body (say.Repeat n) = VerdictOn rows serial id body (Repeat n)
-StoreReply limit rows serial id body (say.Renumbered n) = VerdictOn rows serial id body (Anew n) × (length rows < limit)
-StoreReply limit rows serial id body (say.ListFull l) = (l ≡ limit) × (length rows ≡ limit) × (n : ℕ) × (VerdictOn rows serial id body (New n) ⊎ VerdictOn rows serial id body (Anew n))
-StoreReply limit rows serial id body reply = ⊥
+abbrev pub StoreReply : ℕ → Option Tables → List ℕ → ℕ → ℕ → List ℕ → Reply → Type 0
+StoreReply limit now key serial id body (say.Stored n) = Told now (λ t. VerdictOn (t.rows key) serial id body (New n) × (length (t.rows key) < limit))
+StoreReply limit now key serial id body (say.Repeat n) = Told now (λ t. VerdictOn (t.rows key) serial id body (Repeat n))
+StoreReply limit now key serial id body (say.Renumbered n) = Told now (λ t. VerdictOn (t.rows key) serial id body (Anew n) × (length (t.rows key) < limit))
+StoreReply limit now key serial id body (say.ListFull l) = (l ≡ limit) × Told now (λ t. (length (t.rows key) ≡ limit) × IsMore (t.rows key) serial id body)
+StoreReply limit now key serial id body reply = ⊥
 
 -- ---- the session's right
 
@@ -103,12 +112,13 @@ GuardedReply key h session reply Otherwise =
     ((live key h session ≡ false) × (reply ≡ say.NotLive))
     ⊎ ((live key h session ≡ true) × (FencedReply session (holder key h) reply ⊎ (IsHolder session (holder key h) × Otherwise)))
 
--- ---- the table. `now` is what the history left of the keeper's tables.
+-- ---- the table. `now` is what the history left of the keeper's tables. Where the keeper does not tell them, `Told` leaves the
+-- conditions on them out, and no others.
 
 abbrev pub OpenReply : Opening → Option Tables → List Entry → ℕ → Request → Reply → Type 0
-OpenReply o now h session (ask.Register phone register) reply = Told now (λ t. RegisterReply o.fleet t (key_of phone) (registration register) (code_for o.secret phone) reply)
-OpenReply o now h session (ask.Auth phone code) reply = Told now (λ t. AuthReply o.secret t phone code reply)
-OpenReply o now h session (ask.Unit phone serial id body) reply = GuardedReply (key_of phone) h session reply (Told now (λ t. StoreReply o.limit (t.rows (key_of phone)) serial id body reply))
+OpenReply o now h session (ask.Register phone register) reply = RegisterReply o.fleet now (key_of phone) (registration register) (code_for o.secret phone) reply
+OpenReply o now h session (ask.Auth phone code) reply = AuthReply o.secret now phone code reply
+OpenReply o now h session (ask.Unit phone serial id body) reply = GuardedReply (key_of phone) h session reply (StoreReply o.limit now (key_of phone) serial id body reply)
 OpenReply o now h session (ask.Deregister phone) reply = GuardedReply (key_of phone) h session reply (reply ≡ say.Accepted)
 OpenReply o now h session (ask.Other phone id) reply = GuardedReply (key_of phone) h session reply (reply ≡ say.Accepted)
 OpenReply o now h session ask.Close reply = reply ≡ say.Accepted

@@ -38,10 +38,10 @@ IsThere rows at id body None = (n : ℕ) → at ≡ Some n → IsRow rows (recor
 
 -- a unit of the holder is answered by the verdict
 abbrev pub UnitDone : Option Tables → Option Tables → ℕ → List ℕ → ℕ → ℕ → List ℕ → Reply → Type 0
-UnitDone old now limit key serial id body (say.Stored n) = Told old (λ t. StoreReply limit (t.rows key) serial id body (say.Stored n)) × (now ≡ row_added key (record { number = n; id = id; body = body }) old)
-UnitDone old now limit key serial id body (say.Renumbered n) = Told old (λ t. StoreReply limit (t.rows key) serial id body (say.Renumbered n)) × (now ≡ row_added key (record { number = n; id = id; body = body }) old)
-UnitDone old now limit key serial id body (say.Repeat n) = Told old (λ t. StoreReply limit (t.rows key) serial id body (say.Repeat n)) × (now ≡ old)
-UnitDone old now limit key serial id body (say.ListFull l) = Told old (λ t. StoreReply limit (t.rows key) serial id body (say.ListFull l)) × (now ≡ old)
+UnitDone old now limit key serial id body (say.Stored n) = StoreReply limit old key serial id body (say.Stored n) × (now ≡ row_added key (record { number = n; id = id; body = body }) old)
+UnitDone old now limit key serial id body (say.Renumbered n) = StoreReply limit old key serial id body (say.Renumbered n) × (now ≡ row_added key (record { number = n; id = id; body = body }) old)
+UnitDone old now limit key serial id body (say.Repeat n) = StoreReply limit old key serial id body (say.Repeat n) × (now ≡ old)
+UnitDone old now limit key serial id body (say.ListFull l) = StoreReply limit old key serial id body (say.ListFull l) × (now ≡ old)
 UnitDone old now limit key serial id body say.StoreFault = now ≡ old
 UnitDone old now limit key serial id body say.Memory = now ≡ old
 UnitDone old now limit key serial id body reply = ⊥
@@ -49,13 +49,13 @@ UnitDone old now limit key serial id body reply = ⊥
 abbrev pub AuthDone : Option Tables → Option Tables → List ℕ → Phone → List ℕ → Reply → Type 0
 AuthDone old now secret phone code say.StoreFault = now ≡ old
 AuthDone old now secret phone code say.Memory = now ≡ old
-AuthDone old now secret phone code say.Accepted = (now ≡ old) × Told old (λ t. AuthReply secret t phone code say.Accepted)
-AuthDone old now secret phone code (say.Denied n) = (now ≡ old) × Told old (λ t. AuthReply secret t phone code (say.Denied n))
+AuthDone old now secret phone code say.Accepted = (now ≡ old) × AuthReply secret old phone code say.Accepted
+AuthDone old now secret phone code (say.Denied n) = (now ≡ old) × AuthReply secret old phone code (say.Denied n)
 AuthDone old now secret phone code reply = ⊥
 
 abbrev pub RegisterDone : Option Tables → Option Tables → Fleet → List ℕ → Registered → List ℕ → Reply → Type 0
-RegisterDone old now fleet key r code (say.Registered c) = (c ≡ code) × (now ≡ registered_set key (Some r) old) × Told old (λ t. RegisterReply fleet t key r code (say.Registered c))
-RegisterDone old now fleet key r code (say.Denied n) = (now ≡ old) × Told old (λ t. RegisterReply fleet t key r code (say.Denied n))
+RegisterDone old now fleet key r code (say.Registered c) = (now ≡ registered_set key (Some r) old) × RegisterReply fleet old key r code (say.Registered c)
+RegisterDone old now fleet key r code (say.Denied n) = (now ≡ old) × RegisterReply fleet old key r code (say.Denied n)
 RegisterDone old now fleet key r code say.StoreFault = now ≡ old
 RegisterDone old now fleet key r code say.Memory = now ≡ old
 RegisterDone old now fleet key r code reply = ⊥

@@ -4,4 +4,6 @@ pub mod Allowed
 pub mod Calls
 pub mod Hub
 pub mod Desks
+pub mod Answer
 pub mod Laws
+pub mod Index

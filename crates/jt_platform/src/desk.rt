@@ -44,6 +44,6 @@ impl<P: Keeper> Desk for Hub<P> {
     ghost enters = { λ reply. makes_entry reply };
 
     fn act(&mut self, session: u32, ask: &Request) -> Reply {
-        self.answer_to(session, ask)
+        Hub::act(self, session, ask)
     }
 }

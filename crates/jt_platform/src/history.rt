@@ -1,4 +1,4 @@
-//! Scans of the history.
+//! What a history says, by going through it. A hub looks it up in tables; these are the plain form that tests compare with.
 
 ghost use Rattle.std.specs.Prelude.{◌≡◌, ◌&&◌, ◌==◌, if◌then◌else◌};
 ghost use Rattle.jt_value.specs.Sameness.{key_of, same_key};
@@ -7,8 +7,8 @@ ghost use Rattle.jt_platform.specs.History.{newest, live, closed, is_close, or_e
 use crate::request::{Entry, Reply, Request};
 use jt_value::Phone;
 
-// Whether the session's Close stands in the history.
-pub(crate) fn is_closed(history: &[Entry], session: u32) -> bool
+/// Whether the session's Close stands in the history, which is oldest entry first.
+pub fn is_closed(history: &[Entry], session: u32) -> bool
     ensures { result ≡ closed (newest history.now) session }
 {
     let mut found = false;
@@ -48,8 +48,8 @@ fn said(other: &Phone, phone: &Phone, live: bool) -> Option<bool>
     if other.same(phone) { Some(live) } else { None }
 }
 
-// Whether the session is live for the phone.
-pub(crate) fn is_live(history: &[Entry], phone: &Phone, session: u32) -> bool
+/// Whether the session is live for the phone after a history, oldest entry first.
+pub fn is_live(history: &[Entry], phone: &Phone, session: u32) -> bool
     ensures { result ≡ live (key_of phone.now) (newest history.now) session }
 {
     let mut alive = false;
@@ -93,8 +93,8 @@ fn takes(history: &[Entry], entry: &Entry, phone: &Phone) -> bool
     lets_in(entry, phone) && !is_live(history, phone, entry.session)
 }
 
-// The session that holds the phone.
-pub(crate) fn holder(history: &[Entry], phone: &Phone) -> Option<u32>
+/// The session that holds the phone after a history, oldest entry first.
+pub fn holder(history: &[Entry], phone: &Phone) -> Option<u32>
     ensures { result ≡ holder_of (key_of phone.now) (newest history.now) }
 {
     let mut found = None;

@@ -6,30 +6,33 @@ ghost use Rattle.jt_platform.specs.History.{newest, closed};
 ghost use Rattle.jt_platform.specs.Allowed.{AnyReply, Allowed, Legal, is_trouble};
 ghost use Rattle.jt_platform.specs.Allowed.{makes_entry as makes_an_entry};
 ghost use Rattle.jt_platform.specs.Calls.{tables_by, code_said, IsGuard, IsCoded};
+ghost use Rattle.jt_platform.specs.Index.{IsReady, KeepsPlaces};
 ghost use Rattle.jt_platform.specs.Hub.{HubValue, history_by, opening_of, IsAt, IsOwed, HasReason};
 ghost use Rattle.jt_platform.specs.declared.request.Request.TheVariants.{Close};
 ghost use Rattle.jt_platform.specs.declared.request.Reply.TheVariants.{Accepted};
 
 use crate::code::code_octets;
 use crate::copying::{copy_reply, copy_request};
-use crate::history::{holder, is_closed, is_live};
+use crate::log::Log;
 use crate::registering::{auth, deregister, register};
 use crate::request::{Entry, Fleet, Reply, Request};
+use crate::roll::Roll;
 use crate::unit::unit;
 use jt_store::Keeper;
-use jt_value::{Buffer, Memory, Octets, Phone, Seq};
+use jt_value::{Memory, Octets, Phone, Seq};
 use std::alloc::Global;
 use std::marker::Model;
 use std::snapshot::Snapshot;
 
 // NotLive or Fenced, where the session is not live for the phone or not its holder.
-fn guard(history: &[Entry], phone: &Phone, session: u32) -> Option<Reply>
-    ensures { IsGuard (key_of phone.now) (newest history.now) session result }
+fn guard(log: &Log, phone: &Phone, session: u32) -> Option<Reply>
+    requires { closed (newest log.now.entries) session ≡ false }
+    ensures { IsGuard (key_of phone.now) (newest log.now.entries) session result }
 {
-    if !is_live(history, phone, session) {
+    if !log.is_live(phone, session) {
         return Some(Reply::NotLive);
     }
-    match holder(history, phone) {
+    match log.holder(phone) {
         Some(other) => {
             if other == session {
                 None
@@ -45,14 +48,14 @@ fn guard(history: &[Entry], phone: &Phone, session: u32) -> Option<Reply>
 fn answer_open<P: Keeper>(
     alloc: Global,
     keeper: &mut P,
-    fleet: &Fleet,
+    fleet: &Roll,
     secret: &Octets,
-    history: &[Entry],
+    log: &Log,
     session: u32,
     request: &Request,
 ) -> Reply
-    requires { closed (newest history.now) session ≡ false }
-    ensures reply { is_trouble result ≡ false → AnyReply (opening_of (P.tables keeper.old) (P.limit keeper.old) fleet.now secret.now) (P.tables keeper.old) (newest history.now) session request.now result }
+    requires { closed (newest log.now.entries) session ≡ false }
+    ensures reply { is_trouble result ≡ false → AnyReply (opening_of (P.tables keeper.old) (P.limit keeper.old) fleet.now secret.now) (P.tables keeper.old) (newest log.now.entries) session request.now result }
     ensures tables { P.tables keeper.new ≡ tables_by request.now result (P.tables keeper.old) }
     ensures limit { P.limit keeper.new ≡ P.limit keeper.old }
     ensures coded { IsCoded (code_said secret.now request.now) result }
@@ -70,15 +73,15 @@ fn answer_open<P: Keeper>(
             serial,
             id,
             body,
-        } => match guard(history, phone, session) {
+        } => match guard(log, phone, session) {
             Some(reply) => reply,
             None => unit(alloc, keeper, phone, *serial, *id, body),
         },
-        Request::Deregister { phone } => match guard(history, phone, session) {
+        Request::Deregister { phone } => match guard(log, phone, session) {
             Some(reply) => reply,
             None => deregister(alloc, keeper, phone),
         },
-        Request::Other { phone, id: _ } => match guard(history, phone, session) {
+        Request::Other { phone, id: _ } => match guard(log, phone, session) {
             Some(reply) => reply,
             None => Reply::Accepted,
         },
@@ -90,13 +93,13 @@ fn answer_open<P: Keeper>(
 fn answer<P: Keeper>(
     alloc: Global,
     keeper: &mut P,
-    fleet: &Fleet,
+    fleet: &Roll,
     secret: &Octets,
-    history: &[Entry],
+    log: &Log,
     session: u32,
     request: &Request,
 ) -> Reply
-    ensures reply { is_trouble result ≡ false → AnyReply (opening_of (P.tables keeper.old) (P.limit keeper.old) fleet.now secret.now) (P.tables keeper.old) (newest history.now) session request.now result }
+    ensures reply { is_trouble result ≡ false → AnyReply (opening_of (P.tables keeper.old) (P.limit keeper.old) fleet.now secret.now) (P.tables keeper.old) (newest log.now.entries) session request.now result }
     ensures tables { P.tables keeper.new ≡ tables_by request.now result (P.tables keeper.old) }
     ensures limit { P.limit keeper.new ≡ P.limit keeper.old }
     ensures coded { IsCoded (code_said secret.now request.now) result }
@@ -106,10 +109,10 @@ fn answer<P: Keeper>(
     if let Request::Close = request {
         return Reply::Accepted;
     }
-    if is_closed(history, session) {
+    if log.is_closed(session) {
         return Reply::NotLive;
     }
-    answer_open(alloc, keeper, fleet, secret, history, session, request)
+    answer_open(alloc, keeper, fleet, secret, log, session, request)
 }
 
 fn makes_entry(reply: &Reply) -> bool
@@ -133,30 +136,40 @@ fn entry_code(alloc: Global, secret: &Octets, request: &Request) -> Result<Octet
 }
 
 // Whether the request is a Close whose memory is there.
-fn is_owed_close(history: &[Entry], reserved: u32, session: u32, request: &Request) -> bool
-    ensures { IsTrue result ↔ ((request.now ≡ Close) × IsOwed history.now reserved session) }
+fn is_owed_close(log: &Log, reserved: u32, session: u32, request: &Request) -> bool
+    ensures { IsTrue result ↔ ((request.now ≡ Close) × IsOwed log.now.entries reserved session) }
 {
     matches!(request, Request::Close)
         && 1 <= session
         && session <= reserved
-        && !is_closed(history, session)
+        && !log.is_closed(session)
 }
 
-// Makes room for one more entry, beside those that are owed.
-fn make_room(history: &mut Buffer<Entry>, owed: u64, is_owed: bool) -> Result<(), Memory>
+// Makes room and places for an entry of the request, beside those that are owed.
+fn make_room(
+    log: &mut Log,
+    owed: u64,
+    is_owed: bool,
+    session: u32,
+    request: &Request,
+) -> Result<(), Memory>
     requires few { owed < 2 ^ 32 }
-    requires room { owed ≤ history.old.spare }
+    requires room { owed ≤ log.old.spare }
     requires one { is_owed ≡ true → 0 < owed }
-    ensures items { history.new.items ≡ history.old.items }
-    ensures room { OnOk result (0 < history.new.spare) }
-    ensures owed { OnOk result ((if is_owed then owed else owed + 1) ≤ history.new.spare) }
-    ensures same { OnErr result (history.new.spare ≡ history.old.spare) }
+    requires place { is_owed ≡ true → IsReady log.old.index session request.now }
+    ensures entries { log.new.entries ≡ log.old.entries }
+    ensures room { OnOk result (0 < log.new.spare) }
+    ensures owed { OnOk result ((if is_owed then owed else owed + 1) ≤ log.new.spare) }
+    ensures ready { OnOk result (IsReady log.new.index session request.now) }
+    ensures same { OnErr result (log.new.spare ≡ log.old.spare) }
+    ensures kept { KeepsPlaces log.old.index log.new.index }
     ensures close { is_owed ≡ true → IsOk result }
 {
     if is_owed {
         return Ok(());
     }
-    history.reserve(owed + 1)
+    log.place(session, request)?;
+    log.reserve(owed + 1)
 }
 
 /// The hub over a keeper, with its history. It keeps the allocator that it began with, and, for contracts alone and in no
@@ -166,30 +179,32 @@ pub struct Hub<P: Keeper> {
     alloc: Global,
     keeper: P,
     start: Snapshot<P>,
-    fleet: Fleet,
+    fleet: Roll,
     secret: Octets,
-    history: Buffer<Entry>,
+    log: Log,
     reserved: u32,
     // For how many Closes the history has room at least.
     owed: u64,
 }
 
 impl<P: Keeper> Model for Hub<P> {
+    ghost use Rattle.jt_platform.specs.Index.{IsReady, KeepsPlaces};
     ghost use Rattle.jt_platform.specs.Hub.{HubValue, IsAt, opening_of};
     ghost use Rattle.jt_platform.specs.Calls.{HasRoom};
     ghost use Rattle.jt_platform.specs.Allowed.{Legal};
     ghost use Rattle.jt_platform.specs.History.{newest};
+    ghost use Rattle.jt_platform.specs.Index.{HasPlaces};
 
     ghost Value = { HubValue P };
 
-    ghost view = { λ h. record { keeper = h.keeper; start = h.start.value; fleet = h.fleet; secret = h.secret; history = h.history.items; reserved = h.reserved } };
+    ghost view = { λ h. record { keeper = h.keeper; start = h.start.value; fleet = h.fleet; secret = h.secret; history = h.log.entries; reserved = h.reserved } };
 
-    ghost invariant = { λ h. IsAt (P.tables h.start.value) (P.tables h.keeper) (P.limit h.start.value) (P.limit h.keeper) h.history.items × HasRoom h.history.items h.reserved h.owed h.history.spare × Legal (opening_of (P.tables h.start.value) (P.limit h.start.value) h.fleet h.secret) (newest h.history.items) };
+    ghost invariant = { λ h. IsAt (P.tables h.start.value) (P.tables h.keeper) (P.limit h.start.value) (P.limit h.keeper) h.log.entries × HasRoom h.log.entries h.reserved h.owed h.log.spare × Legal (opening_of (P.tables h.start.value) (P.limit h.start.value) h.fleet h.secret) (newest h.log.entries) × HasPlaces h.log.index 0 h.reserved };
 }
 
 impl<P: Keeper> Hub<P> {
-    /// A hub over a keeper, with an empty history over the keeper's registrations and rows. Memory never comes, since nothing
-    /// is taken; it would give the keeper back.
+    /// A hub over a keeper, with an empty history over the keeper's registrations and rows. It takes memory for the fleet's
+    /// names; Memory gives the keeper back.
     pub fn start(
         alloc: Global,
         keeper: P,
@@ -199,25 +214,29 @@ impl<P: Keeper> Hub<P> {
         ensures ok { IfOk result (λ hub. hub ≡ record { keeper = keeper; start = keeper; fleet = fleet; secret = secret; history = []; reserved = 0 }) }
         ensures err { IfErr result (λ refused. refused.0 ≡ keeper) }
     {
+        let Ok(roll) = Roll::of(alloc, &fleet) else {
+            return Err((keeper, Memory));
+        };
         let start = Snapshot::of(&keeper);
         Ok(Hub {
             alloc,
             keeper,
             start,
-            fleet,
+            fleet: roll,
             secret,
-            history: Buffer::new(alloc),
+            log: Log::new(alloc),
             reserved: 0,
             owed: 0,
         })
     }
 
-    /// The entries, oldest first. Each reply is one that the entries before it allow.
+    /// The entries, oldest first. Each reply is one that the entries before it allow, and the keeper is where they leave it.
     pub fn history(&self) -> &[Entry]
         ensures entries { result.now ≡ self.now.history }
+        ensures keeper { IsAt (P.tables self.now.start) (P.tables self.now.keeper) (P.limit self.now.start) (P.limit self.now.keeper) self.now.history }
         ensures legal { Legal (opening_of (P.tables self.now.start) (P.limit self.now.start) self.now.fleet self.now.secret) (newest self.now.history) }
     {
-        self.history.as_slice()
+        self.log.entries()
     }
 
     /// Takes the memory for a Close of each session from 1 to `upto`, so that the first Close of such a session takes none.
@@ -230,7 +249,8 @@ impl<P: Keeper> Hub<P> {
             return Ok(());
         }
         let owed = self.owed + u64::from(upto - self.reserved);
-        self.history.reserve(owed)?;
+        self.log.place_closes(self.reserved, upto)?;
+        self.log.reserve(owed)?;
         self.owed = owed;
         self.reserved = upto;
         Ok(())
@@ -249,26 +269,15 @@ impl<P: Keeper> Hub<P> {
         ensures close { request.now ≡ Close → IsOwed self.old.history self.old.reserved session → result ≡ Accepted }
         ensures reason { HasReason (P.faults self.old.keeper) (P.faults self.new.keeper) (P.may_fail self.old.keeper) (P.may_fail self.new.keeper) result }
     {
-        self.answer_to(session, request)
-    }
-
-    pub(crate) fn answer_to(&mut self, session: u32, request: &Request) -> Reply
-        ensures allowed { is_trouble result ≡ false → Allowed (opening_of (P.tables self.old.start) (P.limit self.old.start) self.old.fleet self.old.secret) (newest self.old.history) session request.now result }
-        ensures history { self.new.history ≡ history_by session request.now result self.old.history }
-        ensures opening { (self.new.start ≡ self.old.start) × (self.new.fleet ≡ self.old.fleet) × (self.new.secret ≡ self.old.secret) × (self.new.reserved ≡ self.old.reserved) }
-        ensures keeper { IsAt (P.tables self.new.start) (P.tables self.new.keeper) (P.limit self.new.start) (P.limit self.new.keeper) self.new.history }
-        ensures close { request.now ≡ Close → IsOwed self.old.history self.old.reserved session → result ≡ Accepted }
-        ensures reason { HasReason (P.faults self.old.keeper) (P.faults self.new.keeper) (P.may_fail self.old.keeper) (P.may_fail self.new.keeper) result }
-    {
-        let _ = &self.history;
-        let is_owed = is_owed_close(self.history.as_slice(), self.reserved, session, request);
+        let _ = &self.log;
+        let is_owed = is_owed_close(&self.log, self.reserved, session, request);
         let Ok(copy) = copy_request(self.alloc, request) else {
             return Reply::Memory;
         };
         let Ok(code) = entry_code(self.alloc, &self.secret, request) else {
             return Reply::Memory;
         };
-        let Ok(()) = make_room(&mut self.history, self.owed, is_owed) else {
+        let Ok(()) = make_room(&mut self.log, self.owed, is_owed, session, request) else {
             return Reply::Memory;
         };
         let reply = answer(
@@ -276,7 +285,7 @@ impl<P: Keeper> Hub<P> {
             &mut self.keeper,
             &self.fleet,
             &self.secret,
-            self.history.as_slice(),
+            &self.log,
             session,
             request,
         );
@@ -288,18 +297,17 @@ impl<P: Keeper> Hub<P> {
             request: copy,
             reply: copy_reply(&reply, code),
         };
-        let Ok(()) = self.history.push(entry) else {
-            unreachable!();
-        };
+        self.log.push(entry);
         if is_owed {
             self.owed -= 1;
         }
         reply
     }
 
-    /// The keeper and the history, with no memory taken.
+    /// The keeper, which is where the history leaves it, and the history, with no memory taken.
     pub fn into_parts(self) -> (P, Seq<Entry>)
         ensures parts { (result.0 ≡ self.keeper) × (result.1 ≡ self.history) }
+        ensures keeper { IsAt (P.tables self.start) (P.tables result.0) (P.limit self.start) (P.limit result.0) result.1 }
         ensures legal { Legal (opening_of (P.tables self.start) (P.limit self.start) self.fleet self.secret) (newest self.history) }
     {
         let Hub {
@@ -308,10 +316,10 @@ impl<P: Keeper> Hub<P> {
             start: _,
             fleet: _,
             secret: _,
-            history,
+            log,
             reserved: _,
             owed: _,
         } = self;
-        (keeper, history.into_seq())
+        (keeper, log.into_seq())
     }
 }

@@ -5,41 +5,18 @@ ghost use Rattle.jt_value.specs.Sameness.{key_of};
 ghost use Rattle.jt_store.specs.Tables.{Reads, HasCause, IsSteady, IsTrimmed, plates, terminals};
 ghost use Rattle.jt_platform.specs.Codes.{code_for};
 ghost use Rattle.jt_platform.specs.History.{registration};
-ghost use Rattle.jt_platform.specs.Allowed.{has_plate as has_this_plate, has_terminal as has_this_terminal};
 ghost use Rattle.jt_platform.specs.Calls.{AuthDone, RegisterDone, DeregisterDone, IsTaken};
 ghost use Rattle.jt_platform.specs.Hub.{HasReason};
 
 use crate::code::{code_octets, code_of};
 use crate::copying::registered_by;
-use crate::request::{Fleet, Reply};
-use crate::trimming::without_zeros;
+use crate::request::Reply;
+use crate::roll::Roll;
 use crate::unit::trouble;
 use jt_register::Register;
 use jt_store::{Keeper, Registered, StoreError};
-use jt_value::{Octets, Phone, Seq};
+use jt_value::{Octets, Phone};
 use std::alloc::Global;
-
-fn has_plate(plates: &Seq<Octets>, plate: &[u8]) -> bool
-    ensures { result ≡ has_this_plate plates.now plate.now }
-{
-    for one in plates.as_slice() {
-        if one.as_slice() == plate {
-            return true;
-        }
-    }
-    false
-}
-
-fn has_terminal(terminals: &Seq<Octets>, terminal: &[u8]) -> bool
-    ensures { result ≡ has_this_terminal terminals.now terminal.now }
-{
-    for one in terminals.as_slice() {
-        if without_zeros(one.as_slice()) == terminal {
-            return true;
-        }
-    }
-    false
-}
 
 fn is_registered_so(found: &Option<Registered>, wanted: &Registered) -> bool
     ensures { IsTrue result ↔ (found.now ≡ Some wanted.now) }
@@ -93,7 +70,7 @@ fn is_terminal_taken<P: Keeper>(
 fn register_made<P: Keeper>(
     alloc: Global,
     keeper: &mut P,
-    fleet: &Fleet,
+    fleet: &Roll,
     phone: &Phone,
     wanted: &Registered,
     code: Octets,
@@ -110,10 +87,10 @@ fn register_made<P: Keeper>(
     if is_registered_so(&found, wanted) {
         return Reply::Registered(code);
     }
-    if !has_plate(&fleet.plates, wanted.plate.as_slice()) {
+    if !fleet.has_plate(wanted.plate.as_slice()) {
         return Reply::Denied(2);
     }
-    if !has_terminal(&fleet.terminals, wanted.terminal.as_slice()) {
+    if !fleet.has_terminal(wanted.terminal.as_slice()) {
         return Reply::Denied(4);
     }
     match is_plate_taken(alloc, keeper, phone, wanted.plate.as_slice()) {
@@ -136,7 +113,7 @@ fn register_made<P: Keeper>(
 pub(crate) fn register<P: Keeper>(
     alloc: Global,
     keeper: &mut P,
-    fleet: &Fleet,
+    fleet: &Roll,
     secret: &Octets,
     phone: &Phone,
     register: &Register,

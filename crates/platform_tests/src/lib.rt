@@ -5,3 +5,5 @@
 mod acting;
 #[cfg(test)]
 mod tests;
+#[cfg(test)]
+mod turning;

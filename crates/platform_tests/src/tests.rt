@@ -1,135 +1,195 @@
 use crate::acting::*;
-use jt_platform::{Reply, code_of};
-use jt_store::Keeper;
-use jt_value::Edition;
+use crate::turning::by_turn;
+use jt_platform::code_of;
 use std::test::*;
 
-const FIRST: u8 = 0x38;
+const A: u16 = 0x41;
 
-const SECOND: u8 = 0x39;
+const B: u16 = 0x42;
+
+// A plate that is not in the fleet.
+const C: u16 = 0x43;
 
 #[test]
-fn a_later_authentication_takes_the_phone_over(rt: HostRuntime) -> Result<(), Fail> {
-    let mut hub = hub(rt.alloc(), 100, &[])?;
+fn a_later_authentication_takes_the_phone_over(rt: HostRuntime) {
     let steps = [
-        (1, FIRST, Ask::Register(b"A", b"1"), Told::Registered),
-        (1, FIRST, Ask::Auth, Told::Accepted),
-        (2, FIRST, Ask::Auth, Told::Accepted),
-        (1, FIRST, Ask::Auth, Told::Accepted),
-        (1, FIRST, Ask::Unit(2, b"x"), Told::Fenced(2)),
-        (2, FIRST, Ask::Unit(2, b"x"), Told::Stored(2)),
-        (1, FIRST, Ask::Close, Told::Accepted),
-        (1, FIRST, Ask::Unit(2, b"x"), Told::NotLive),
+        (1, Who::First, Ask::Register, A, b'1', Told::Registered, 0),
+        (1, Who::First, Ask::Auth, 0, 0, Told::Accepted, 0),
+        (2, Who::First, Ask::Auth, 0, 0, Told::Accepted, 0),
+        (1, Who::First, Ask::Auth, 0, 0, Told::Accepted, 0),
+        (1, Who::First, Ask::Unit, 2, b'x', Told::Fenced, 2),
+        (2, Who::First, Ask::Unit, 2, b'x', Told::Stored, 2),
+        (1, Who::First, Ask::Close, 0, 0, Told::Accepted, 0),
+        (1, Who::First, Ask::Unit, 2, b'x', Told::NotLive, 0),
     ];
-    assert_eq!(rt; first_other(rt.alloc(), &mut hub, &steps)?, None);
-    assert_eq!(rt; hub.history().len(), 8);
-    Ok(())
+    assert!(rt; all_go(rt.alloc(), 100, &[], &steps, 8));
 }
 
 #[test]
-fn a_full_list_takes_no_row_but_knows_repeats(rt: HostRuntime) -> Result<(), Fail> {
-    let mut hub = hub(rt.alloc(), 1, &[])?;
+fn a_full_list_takes_no_row_but_knows_repeats(rt: HostRuntime) {
     let steps = [
-        (1, FIRST, Ask::Register(b"A", b"1"), Told::Registered),
-        (1, FIRST, Ask::Auth, Told::Accepted),
-        (1, FIRST, Ask::Unit(2, b"x"), Told::Stored(2)),
-        (1, FIRST, Ask::Unit(3, b"y"), Told::ListFull(1)),
-        (1, FIRST, Ask::Unit(2, b"x"), Told::Repeat(2)),
+        (1, Who::First, Ask::Register, A, b'1', Told::Registered, 0),
+        (1, Who::First, Ask::Auth, 0, 0, Told::Accepted, 0),
+        (1, Who::First, Ask::Unit, 2, b'x', Told::Stored, 2),
+        (1, Who::First, Ask::Unit, 3, b'y', Told::ListFull, 1),
+        (1, Who::First, Ask::Unit, 2, b'x', Told::Repeat, 2),
     ];
-    assert_eq!(rt; first_other(rt.alloc(), &mut hub, &steps)?, None);
-    assert_eq!(rt; hub.history().len(), 4);
-    Ok(())
+    assert!(rt; all_go(rt.alloc(), 1, &[], &steps, 4));
 }
 
-// SHA-256 over 12345678 in ASCII is ef797c8118f02dfb649607dd..
+// The fleet has the plates A and B and the terminal ids 1 and 2.
 #[test]
-fn a_code_is_of_secret_and_phone(rt: HostRuntime) -> Result<(), Fail> {
-    let code = code_of(b"12", &phone(Edition::E2013, FIRST));
-    assert_eq!(rt; code, *b"ef797c8118f02dfb");
-    let mut hub = hub(rt.alloc(), 100, &[])?;
-    let steps = [(1, FIRST, Ask::Register(b"A", b"1"), Told::Registered)];
-    assert_eq!(rt; first_other(rt.alloc(), &mut hub, &steps)?, None);
-    let held = match hub.history().get(0) {
-        Some(entry) => match &entry.reply {
-            Reply::Registered(code) => code.as_slice() == b"ef797c8118f02dfb".as_slice(),
-            _ => false,
-        },
-        None => false,
-    };
-    assert!(rt; held);
-    Ok(())
+fn registrations_are_denied_in_order(rt: HostRuntime) {
+    let steps = [
+        (1, Who::First, Ask::Register, C, b'1', Told::Denied, 2),
+        (1, Who::First, Ask::Register, A, b'3', Told::Denied, 4),
+        (1, Who::First, Ask::Register, C, b'3', Told::Denied, 2),
+        (1, Who::First, Ask::Register, A, b'1', Told::Registered, 0),
+        (
+            1,
+            Who::First,
+            Ask::RegisterZeros,
+            A,
+            b'1',
+            Told::Registered,
+            0,
+        ),
+        (2, Who::Second, Ask::Register, A, b'2', Told::Denied, 1),
+        (2, Who::Second, Ask::Register, B, b'1', Told::Denied, 3),
+        (2, Who::Second, Ask::RegisterZeros, B, b'1', Told::Denied, 3),
+        (2, Who::Second, Ask::Register, A, b'1', Told::Denied, 1),
+        (2, Who::Second, Ask::Auth, 0, 0, Told::Denied, 1),
+        (
+            2,
+            Who::Second,
+            Ask::RegisterZeros,
+            B,
+            b'2',
+            Told::Registered,
+            0,
+        ),
+        (1, Who::First, Ask::Register, A, b'2', Told::Denied, 3),
+        (2, Who::Second, Ask::Auth, 0, 0, Told::Accepted, 0),
+    ];
+    assert!(rt; all_go(rt.alloc(), 100, &[], &steps, 13));
+}
+
+#[test]
+fn one_phone_in_both_editions(rt: HostRuntime) {
+    let steps = [
+        (1, Who::First, Ask::Register, A, b'1', Told::Registered, 0),
+        (1, Who::First, Ask::Auth, 0, 0, Told::Accepted, 0),
+        (1, Who::First, Ask::Unit, 2, b'x', Told::Stored, 2),
+        (2, Who::Same, Ask::OtherAuth, 0, 0, Told::Denied, 1),
+        (2, Who::Same, Ask::Register, A, b'1', Told::Registered, 0),
+        (2, Who::Same, Ask::Auth, 0, 0, Told::Accepted, 0),
+        (2, Who::Same, Ask::Unit, 2, b'x', Told::Repeat, 2),
+        (2, Who::Same, Ask::Unit, 3, b'y', Told::Stored, 3),
+        (1, Who::First, Ask::Unit, 4, b'z', Told::Fenced, 2),
+    ];
+    assert!(rt; all_go(rt.alloc(), 100, &[], &steps, 9));
+}
+
+// SHA-256 over 12345678 in ASCII is ef797c8118f02dfb649607dd.., and over 12, four zero octets and 345678 it is
+// 337338e726f241401e66a501..
+#[test]
+fn a_code_is_of_secret_and_phone(rt: HostRuntime) {
+    assert!(rt; code_of(b"12", &phone(Who::First)) == *b"ef797c8118f02dfb");
+    assert!(rt; code_of(b"12", &phone(Who::Same)) == *b"337338e726f24140");
 }
 
 // Serial 3 is 9 above 65,530. Serial 65,530 is then 65,527 above it, so the unit is a repeat of row 65,530, or one of a
 // terminal that began anew: 65,539 + 65,527 + 65,536.
 #[test]
-fn a_unit_far_above_is_a_repeat_or_numbered_anew(rt: HostRuntime) -> Result<(), Fail> {
-    let mut hub = hub(rt.alloc(), 100, &[])?;
+fn a_unit_far_above_is_a_repeat_or_numbered_anew(rt: HostRuntime) {
     let steps = [
-        (1, FIRST, Ask::Register(b"A", b"1"), Told::Registered),
-        (1, FIRST, Ask::Auth, Told::Accepted),
-        (1, FIRST, Ask::Unit(65530, b"x"), Told::Stored(65530)),
-        (1, FIRST, Ask::Unit(3, b"y"), Told::Stored(65539)),
-        (1, FIRST, Ask::Unit(65530, b"x"), Told::Repeat(65530)),
-        (1, FIRST, Ask::Unit(65530, b"z"), Told::Renumbered(196602)),
+        (1, Who::First, Ask::Register, A, b'1', Told::Registered, 0),
+        (1, Who::First, Ask::Auth, 0, 0, Told::Accepted, 0),
+        (1, Who::First, Ask::Unit, 65530, b'x', Told::Stored, 65530),
+        (1, Who::First, Ask::Unit, 3, b'y', Told::Stored, 65539),
+        (1, Who::First, Ask::Unit, 65530, b'x', Told::Repeat, 65530),
+        (
+            1,
+            Who::First,
+            Ask::Unit,
+            65530,
+            b'z',
+            Told::Renumbered,
+            196602,
+        ),
     ];
-    assert_eq!(rt; first_other(rt.alloc(), &mut hub, &steps)?, None);
-    Ok(())
+    assert!(rt; all_go(rt.alloc(), 100, &[], &steps, 6));
 }
 
 #[test]
-fn a_deregistered_phone_keeps_its_rows_alone(rt: HostRuntime) -> Result<(), Fail> {
-    let mut hub = hub(rt.alloc(), 100, &[])?;
+fn a_deregistered_phone_keeps_its_rows_alone(rt: HostRuntime) {
     let steps = [
-        (1, FIRST, Ask::Register(b"A", b"1"), Told::Registered),
-        (1, FIRST, Ask::Auth, Told::Accepted),
-        (1, FIRST, Ask::Unit(2, b"x"), Told::Stored(2)),
-        (1, FIRST, Ask::Deregister, Told::Accepted),
-        (1, FIRST, Ask::Unit(3, b"y"), Told::NotLive),
-        (2, FIRST, Ask::Auth, Told::Denied(1)),
+        (1, Who::First, Ask::Register, A, b'1', Told::Registered, 0),
+        (1, Who::First, Ask::Auth, 0, 0, Told::Accepted, 0),
+        (1, Who::First, Ask::Unit, 2, b'x', Told::Stored, 2),
+        (1, Who::First, Ask::Deregister, 0, 0, Told::Accepted, 0),
+        (1, Who::First, Ask::Unit, 3, b'y', Told::NotLive, 0),
+        (2, Who::First, Ask::Auth, 0, 0, Told::Denied, 1),
     ];
-    assert_eq!(rt; first_other(rt.alloc(), &mut hub, &steps)?, None);
-    let (mut keeper, history) = hub.into_parts();
-    assert_eq!(rt; history.len(), 6);
-    let own = phone(Edition::E2013, FIRST);
-    let registered = match keeper.registered(rt.alloc(), &own) {
-        Ok(found) => found.is_some(),
-        Err(_) => true,
-    };
-    assert!(rt; !registered);
-    assert_eq!(rt; keeper.last(rt.alloc(), &own), Ok(Some(2)));
-    Ok(())
+    let mut hub = hub(rt.alloc(), 100, &[]).expect(&rt, "memory");
+    assert!(rt; matches!(first_other(rt.alloc(), &mut hub, &steps), Ok(None)));
+    let mut keeper = keeper_of(hub);
+    assert!(rt; !is_registered(rt.alloc(), &mut keeper, Who::First));
+    assert!(rt; last_row(rt.alloc(), &mut keeper, Who::First) == Some(2));
 }
 
 // The keeper's first call, that of the registration, fails.
 #[test]
-fn a_fault_of_the_keeper_makes_no_entry(rt: HostRuntime) -> Result<(), Fail> {
-    let mut hub = hub(rt.alloc(), 100, &[1])?;
+fn a_fault_of_the_keeper_makes_no_entry(rt: HostRuntime) {
     let steps = [
-        (1, FIRST, Ask::Register(b"A", b"1"), Told::StoreFault),
-        (1, FIRST, Ask::Register(b"A", b"1"), Told::Registered),
+        (1, Who::First, Ask::Register, A, b'1', Told::StoreFault, 0),
+        (1, Who::First, Ask::Register, A, b'1', Told::Registered, 0),
     ];
-    assert_eq!(rt; first_other(rt.alloc(), &mut hub, &steps)?, None);
-    assert_eq!(rt; hub.history().len(), 1);
-    Ok(())
+    assert!(rt; all_go(rt.alloc(), 100, &[1], &steps, 1));
 }
 
 #[test]
-fn a_closed_session_is_answered_close_alone(rt: HostRuntime) -> Result<(), Fail> {
-    let mut hub = hub(rt.alloc(), 100, &[])?;
-    assert!(rt; hub.reserve(3).is_ok());
+fn a_closed_session_is_answered_close_alone(rt: HostRuntime) {
     let steps = [
-        (1, FIRST, Ask::Register(b"A", b"1"), Told::Registered),
-        (1, FIRST, Ask::Auth, Told::Accepted),
-        (1, FIRST, Ask::Other, Told::Accepted),
-        (2, FIRST, Ask::Other, Told::NotLive),
-        (1, FIRST, Ask::Close, Told::Accepted),
-        (1, FIRST, Ask::Other, Told::NotLive),
-        (1, FIRST, Ask::Auth, Told::NotLive),
-        (1, FIRST, Ask::Register(b"A", b"1"), Told::NotLive),
-        (1, FIRST, Ask::Close, Told::Accepted),
+        (1, Who::First, Ask::Register, A, b'1', Told::Registered, 0),
+        (1, Who::First, Ask::Auth, 0, 0, Told::Accepted, 0),
+        (1, Who::First, Ask::Other, 0, 0, Told::Accepted, 0),
+        (2, Who::First, Ask::Other, 0, 0, Told::NotLive, 0),
+        (1, Who::First, Ask::Close, 0, 0, Told::Accepted, 0),
+        (1, Who::First, Ask::Other, 0, 0, Told::NotLive, 0),
+        (1, Who::First, Ask::Auth, 0, 0, Told::NotLive, 0),
+        (1, Who::First, Ask::Register, A, b'1', Told::NotLive, 0),
+        (1, Who::First, Ask::Close, 0, 0, Told::Accepted, 0),
+        (3, Who::First, Ask::Close, 0, 0, Told::Accepted, 0),
+        (3, Who::First, Ask::Auth, 0, 0, Told::NotLive, 0),
     ];
-    assert_eq!(rt; first_other(rt.alloc(), &mut hub, &steps)?, None);
-    assert_eq!(rt; hub.history().len(), 9);
-    Ok(())
+    assert!(rt; all_go(rt.alloc(), 100, &[], &steps, 11));
+}
+
+// A hub that went through its history at each request would not end in the time of a test.
+#[test]
+fn no_request_goes_through_the_history(rt: HostRuntime) {
+    let steps = [
+        (1, Who::First, Ask::Register, A, b'1', Told::Registered, 0),
+        (1, Who::First, Ask::Auth, 0, 0, Told::Accepted, 0),
+    ];
+    let mut hub = hub(rt.alloc(), 100, &[]).expect(&rt, "memory");
+    assert!(rt; matches!(first_other(rt.alloc(), &mut hub, &steps), Ok(None)));
+    assert!(rt; accepted(&mut hub, 1, Who::First, 300_000) == 300_000);
+}
+
+#[test]
+fn a_hub_behind_a_turn(rt: HostRuntime) {
+    let steps = [
+        (1, Who::First, Ask::Register, A, b'1', Told::Registered, 0),
+        (1, Who::First, Ask::Auth, 0, 0, Told::Accepted, 0),
+        (1, Who::First, Ask::Unit, 2, b'x', Told::Stored, 2),
+        (1, Who::First, Ask::Close, 0, 0, Told::Accepted, 0),
+        (1, Who::First, Ask::Other, 0, 0, Told::NotLive, 0),
+    ];
+    let hub = hub(rt.alloc(), 100, &[]).expect(&rt, "memory");
+    let hub = by_turn(&rt, rt.alloc(), hub, &steps).expect(&rt, "the turn");
+    assert!(rt; hub.history().len() == 5);
+    let mut keeper = keeper_of(hub);
+    assert!(rt; last_row(rt.alloc(), &mut keeper, Who::First) == Some(2));
 }

@@ -6,4 +6,4 @@ use Rattle.jt_platform.proofs.hub.guard.Goals as goal
 
 pub unreachable-requires : goal.unreachable-requires
 unreachable-requires c =
-    some_holder (key_of c.args.phone.now) (newest c.args.history.now) c.args.session (sym c.is_live.ensures ∙ c.if-not-is_live.false) (sym c.holder.ensures ∙ c.in-None.is)
+    some_holder (key_of c.args.phone.now) (newest c.args.log.now.entries) c.args.session (sym c.is_live.ensures ∙ c.if-not-is_live.false) (sym c.holder.ensures ∙ c.in-None.is)

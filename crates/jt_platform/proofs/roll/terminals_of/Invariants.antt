@@ -1,0 +1,6 @@
+use Rattle.std.proofs.Common.{◌≡◌, ◌||◌, drop, ℕ, List}
+use Rattle.jt_platform.specs.Allowed.{has_plate, has_terminal}
+use Rattle.jt_platform.proofs.roll.terminals_of.Given as goal
+
+abbrev pub invariant-loop-one : goal.invariant-loop-one
+invariant-loop-one l = (q : List ℕ) → (has_plate l.names q || has_terminal (drop l.one-index l.one-items) q) ≡ has_terminal l.terminals q
