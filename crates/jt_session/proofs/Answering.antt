@@ -8,7 +8,7 @@ use Rattle.jt_platform.specs.declared.request.Reply.TheVariants as say
 use Rattle.jt_session.specs.Talk.{ack, accepted_result, answer_to, is_answer, register_reply}
 use Rattle.jt_session.specs.Law.{IsAcceptedOnceStored, IsUnitId, is_stored}
 
-abbrev result_of : Option Message → ℕ
+abbrev pub result_of : Option Message → ℕ
 result_of (Some (message.PlatformAck serial id result)) = result
 result_of other = 1
 
@@ -34,7 +34,7 @@ accepted : (b : Bool) (h : Header) (n : ℕ) → b ≡ false → result_of (if b
 accepted true h n e = absurd cc
 accepted false h n e = refl
 
-stored : (h : Header) (r : Reply) → is_stored r ≡ true → answer_to h r ≡ Some (ack h 0)
+pub stored : (h : Header) (r : Reply) → is_stored r ≡ true → answer_to h r ≡ Some (ack h 0)
 stored h (say.Stored n) e = refl
 stored h (say.Repeat n) e = refl
 stored h (say.Renumbered n) e = refl
@@ -47,7 +47,7 @@ stored h (say.ListFull l) e = absurd cc
 stored h say.StoreFault e = absurd cc
 stored h say.Memory e = absurd cc
 
-otherwise : (h : Header) (r : Reply) (serial id result : ℕ) → IsUnitId h.id → is_stored r ≡ false → answer_to h r ≡ Some (message.PlatformAck serial id result) → (result ≢ 0) × (result ≢ 4)
+pub otherwise : (h : Header) (r : Reply) (serial id result : ℕ) → IsUnitId h.id → is_stored r ≡ false → answer_to h r ≡ Some (message.PlatformAck serial id result) → (result ≢ 0) × (result ≢ 4)
 otherwise h (say.Stored n) serial id result unit e is = absurd cc
 otherwise h (say.Repeat n) serial id result unit e is = absurd cc
 otherwise h (say.Renumbered n) serial id result unit e is = absurd cc

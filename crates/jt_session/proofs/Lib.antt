@@ -2,3 +2,12 @@ pub mod Talking
 pub mod Replying
 pub mod Turning
 pub mod Answering
+pub mod Asking
+pub mod Bringing
+pub mod Joining
+pub mod Ending
+pub mod Onward
+pub mod Requests
+pub mod Saying
+pub mod Hubs
+pub mod Stepping

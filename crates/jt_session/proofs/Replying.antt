@@ -61,7 +61,7 @@ module _ (number : ℕ) (stream : Splitting) (kept was : State) (header h : Head
       record {
         turn = record {
           fits = (refl, rw asked.1 (turn_fits (makes_entry r) (Message h octets) asked.0 r refl), tt);
-          state = λ on. same_state;
+          state = λ none. same_state;
           counted = ap (λ s. (s.frames, s.refused, s.dropped)) same_state;
           over = rw asked.1 (sym (turn_over (makes_entry r) (before then_seen) (Message h octets) asked.0 r));
           number = refl;

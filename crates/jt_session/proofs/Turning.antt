@@ -1,4 +1,5 @@
-use Rattle.std.proofs.Common.{◌≡◌, ℕ, zero, suc, List, [], ◌∷◌, ◌++◌, true, false, Option, Some, None, refl, sym, ap, ◌∙◌, subst, append_assoc}
+use Rattle.std.proofs.Common.{◌≡◌, ℕ, List, [], ◌∷◌, ◌++◌, true, false, Option, Some, None, refl, sym, ap, ◌∙◌, subst, append_assoc}
+use Rattle.std.proofs.lemmas.Bool.{false≢true}
 use Rattle.std.proofs.lemmas.List.{append-nil}
 use Rattle.std.specs.Option.{option_to_list}
 use Rattle.jt_value.specs.Octets.{AreOctets}
@@ -7,12 +8,8 @@ use Rattle.jt_stream.specs.Unplaced.{Unplaced, items}
 use Rattle.jt_platform.specs.declared.request.Request.{Request}
 use Rattle.jt_session.specs.Talk.{Goes, Stops, Talked, turn_on, turned, talk_from, quiet, asks, stopped, frame_said, is_frame, IsReplied, items_of}
 use Rattle.jt_session.specs.Sessions.{Seen, Takes, before, counts}
+use Rattle.jt_session.proofs.Joining.{are_both, not_short}
 use Rattle.jt_session.specs.Steps.{Brings, WasSilent, WasQuiet, HasAsked, RanShort, GoesOn}
-
-are_both : (a b : List ℕ) → AreOctets a → AreOctets b → AreOctets (a ++ b)
-are_both [] b of_a of_b place = of_b place
-are_both (x ∷ a) b of_a of_b zero = of_a 0
-are_both (x ∷ a) b of_a of_b (suc place) = are_both a b (λ k. of_a (suc k)) of_b place
 
 quiet_on : (k : Talked) (item : Unplaced) → asks k.state item ≡ None → turn_on k item (asks k.state item) (Goes None) ≡ turned k (quiet k.state item) [] false
 quiet_on k item e = rw e refl
@@ -32,11 +29,11 @@ module _ (s now : Seen) (octets out out_now : List ℕ) (free : s.waiting ≡ No
   abbrev k : Talked
   k = talk_from (before first) tk.turns
 
-  state_then : s.state ≡ k.state
-  state_then = tk.went.state on
-
   over_then : k.over ≡ false
   over_then = sym tk.went.over ∙ on
+
+  state_then : s.state ≡ k.state
+  state_then = tk.went.state (not_short (before first) tk.turns over_then)
 
   -- what the stream has now
   grown : (gained : List Unplaced) → Brings s.stream now.stream octets gained → (read : List ℕ) (gone : List Unplaced) → AreOctets read → StandsFor first.stream read
@@ -57,7 +54,7 @@ module _ (s now : Seen) (octets out out_now : List ℕ) (free : s.waiting ≡ No
     turns = tk.turns;
     went = record {
       fits = tk.went.fits;
-      state = λ open_now. did.state ∙ state_then;
+      state = λ none. did.state ∙ state_then;
       counted = ap counts (did.state ∙ state_then);
       over = did.over ∙ sym over_then;
       number = did.number ∙ tk.went.number;
@@ -65,6 +62,7 @@ module _ (s now : Seen) (octets out out_now : List ℕ) (free : s.waiting ≡ No
           let more = grown [] did.brings read gone are stands e in
           ([], more.0 ∙ ap (λ w. gone ++ (items_of tk.turns ++ (option_to_list w ++ []))) (sym did.waiting), λ open_now. (refl, more.1));
     };
+    unasked = tk.unasked;
     wrote = did.wrote ∙ tk.wrote;
   }
 
@@ -78,7 +76,7 @@ module _ (s now : Seen) (octets out out_now : List ℕ) (free : s.waiting ≡ No
         turns = record { item = item; way = Goes None } ∷ tk.turns;
         went = record {
           fits = (over_then, quiet_fits (asks k.state item) item none, tk.went.fits);
-          state = λ open_now. state_now;
+          state = λ none. state_now;
           counted = ap counts state_now;
           over = did.over ∙ sym (ap (λ (j : Talked). j.over) turn);
           number = did.number ∙ tk.went.number;
@@ -86,6 +84,7 @@ module _ (s now : Seen) (octets out out_now : List ℕ) (free : s.waiting ≡ No
               let more = grown (item ∷ []) did.brings read gone are stands e in
               ([], more.0 ∙ (ap (λ l. gone ++ l) (sym (append-nil (items_of tk.turns ++ item ∷ []))) ∙ ap (λ w. gone ++ ((items_of tk.turns ++ item ∷ []) ++ (option_to_list w ++ []))) (sym did.waiting)), λ open_now. (refl, more.1));
         };
+        unasked = (refl, tk.unasked);
         wrote = did.wrote ∙ (ap (λ o. o ++ frame_said (quiet s.state item).says) tk.wrote ∙ (append_assoc front k.written (frame_said (quiet s.state item).says)
             ∙ (ap (λ state. front ++ (k.written ++ frame_said (quiet state item).says)) state_then ∙ ap (λ (j : Talked). front ++ j.written) (sym turn))));
       }
@@ -95,7 +94,7 @@ module _ (s now : Seen) (octets out out_now : List ℕ) (free : s.waiting ≡ No
     turns = tk.turns;
     went = record {
       fits = tk.went.fits;
-      state = λ open_now. did.state ∙ state_then;
+      state = λ none. did.state ∙ state_then;
       counted = ap counts (did.state ∙ state_then);
       over = did.over ∙ sym over_then;
       number = did.number ∙ tk.went.number;
@@ -103,6 +102,7 @@ module _ (s now : Seen) (octets out out_now : List ℕ) (free : s.waiting ≡ No
           let more = grown (item ∷ []) did.brings read gone are stands e in
           ([], more.0 ∙ ap (λ w. gone ++ (items_of tk.turns ++ (option_to_list w ++ []))) (sym did.waiting), λ open_now. (refl, more.1));
     };
+    unasked = tk.unasked;
     wrote = did.wrote ∙ tk.wrote;
   }
 
@@ -113,7 +113,7 @@ module _ (s now : Seen) (octets out out_now : List ℕ) (free : s.waiting ≡ No
         turns = record { item = item; way = Stops None } ∷ tk.turns;
         went = record {
           fits = (over_then, short_fits item (asks k.state item) did.frame, tk.went.fits);
-          state = λ open_now. absurd (let shut = did.over in cc);
+          state = λ none. absurd (false≢true (sym none));
           counted = did.counted ∙ (ap (λ state. counts (stopped state item)) state_then ∙ sym (ap (λ (j : Talked). counts j.state) turn));
           over = did.over ∙ sym (ap (λ (j : Talked). j.over) turn);
           number = did.number ∙ tk.went.number;
@@ -121,6 +121,7 @@ module _ (s now : Seen) (octets out out_now : List ℕ) (free : s.waiting ≡ No
               let more = grown (item ∷ []) did.brings read gone are stands e in
               ([], more.0 ∙ (ap (λ l. gone ++ l) (sym (append-nil (items_of tk.turns ++ item ∷ []))) ∙ ap (λ w. gone ++ ((items_of tk.turns ++ item ∷ []) ++ (option_to_list w ++ []))) (sym did.waiting)), λ open_now. (refl, more.1));
         };
+        unasked = (refl, tk.unasked);
         wrote = did.wrote ∙ (tk.wrote ∙ ap (λ (j : Talked). front ++ j.written) (sym turn));
       }
 
@@ -142,12 +143,13 @@ takes_none s out free = record {
   turns = [];
   went = record {
     fits = tt;
-    state = λ open_now. refl;
+    state = λ none. refl;
     counted = refl;
     over = refl;
     number = refl;
     items = λ read gone are stands e.
         ([], ap items (append-nil read) ∙ (e ∙ ap (λ l. gone ++ l) (sym (append-nil (option_to_list s.waiting)))), λ open_now. (refl, subst (λ o. StandsFor s.stream o) (sym (append-nil read)) stands));
   };
+  unasked = tt;
   wrote = sym (append-nil out);
 }

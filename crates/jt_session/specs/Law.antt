@@ -1,22 +1,39 @@
 -- The laws of talks and of answers (this project's own). To be believed.
-use Rattle.std.specs.Prelude.{◌≡◌, ◌≢◌, ◌⊎◌, ℕ, List, [], ◌∷◌, Bool, true, false, Some}
+use Rattle.std.specs.Prelude.{◌≡◌, ◌≢◌, ◌⊎◌, ℕ, List, [], ◌∷◌, ◌++◌, length, Bool, true, false, if◌then◌else◌, Option, None, Some}
 use Rattle.jt_header.specs.declared.header.Header.{Header}
 use Rattle.jt_codec.specs.declared.message.Message.TheVariants as message
 use Rattle.jt_platform.specs.declared.request.Request.{Request}
 use Rattle.jt_platform.specs.declared.request.Reply.{Reply}
 use Rattle.jt_platform.specs.declared.request.Reply.TheVariants as say
-use Rattle.jt_session.specs.Talk.{Turn, Way, Talk, ack, answer_to}
+use Rattle.jt_session.specs.Talk.{Turn, Way, Goes, Stops, Talk, ack, answer_to}
 
--- how the session went on at each item, newest first
-abbrev pub ways_of : List Turn → List Way
-ways_of [] = []
-ways_of (t ∷ older) = t.way ∷ ways_of older
+-- the replies that were given, newest first
+abbrev pub reply_in : Way → List Reply
+reply_in (Goes None) = []
+reply_in (Goes (Some r)) = r ∷ []
+reply_in (Stops None) = []
+reply_in (Stops (Some r)) = r ∷ []
 
--- What was read, with how the session went on at each item, has one list of requests with replies, and one list of octets written.
+abbrev pub replies_of : List Turn → List Reply
+replies_of [] = []
+replies_of (t ∷ older) = reply_in t.way ++ replies_of older
+
+-- whether memory was wanted before the item asked or wrote
+abbrev pub ran_short : Way → Bool
+ran_short (Stops None) = true
+ran_short way = false
+
+-- where memory was wanted so at the last item, how many items were gone through before it
+abbrev pub short_at : List Turn → Option ℕ
+short_at [] = None
+short_at (t ∷ older) = if ran_short t.way then Some (length older) else None
+
+-- What was read, with the replies, and with the item at which memory was wanted, if it was, has one list of requests with replies,
+-- and one list of octets written.
 abbrev pub IsOneTalk : Type 0
 IsOneTalk =
     (read : List ℕ) (entries others : List (Request × Reply)) (written other_octets : List ℕ)
-    → (one : Talk read entries written) (other : Talk read others other_octets) → ways_of one.turns ≡ ways_of other.turns
+    → (one : Talk read entries written) (other : Talk read others other_octets) → replies_of one.turns ≡ replies_of other.turns → short_at one.turns ≡ short_at other.turns
     → (entries ≡ others) × (written ≡ other_octets)
 
 -- a unit is one message of positions

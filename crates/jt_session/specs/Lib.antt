@@ -4,3 +4,6 @@ pub mod Sessions
 pub mod Waiting
 pub mod Steps
 pub mod Law
+pub mod Reading
+pub mod TurnLaw
+pub mod AnswerLaw

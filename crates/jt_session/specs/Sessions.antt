@@ -1,19 +1,23 @@
 -- What contracts see of a session, and what its calls did (this project's own). To be believed.
-use Rattle.std.specs.Prelude.{◌≡◌, ℕ, List, [], ◌∷◌, ◌++◌, map, Bool, false, if◌then◌else◌, Option, Some}
+use Rattle.std.specs.Prelude.{◌≡◌, ◌≢◌, ◌≤◌, ℕ, List, [], ◌∷◌, ◌++◌, map, Bool, true, false, if◌then◌else◌, Option, None, Some, IsSomeAnd}
 use Rattle.std.specs.Option.{option_to_list}
 use Rattle.jt_value.specs.Octets.{AreOctets}
 use Rattle.jt_escape.specs.Scan.{State as Splitting}
 use Rattle.jt_escape.specs.Splitter.{StandsFor}
 use Rattle.jt_stream.specs.Unplaced.{Unplaced, items}
+use Rattle.jt_store.specs.Tables.{Rose}
 use Rattle.jt_platform.specs.declared.request.Request.{Request}
 use Rattle.jt_platform.specs.declared.request.Reply.{Reply}
 use Rattle.jt_platform.specs.declared.request.Reply.TheVariants as say
 use Rattle.jt_platform.specs.declared.request.Entry.{Entry}
 use Rattle.jt_platform.specs.Allowed.{Opening, Allowed, is_trouble, makes_entry}
 use Rattle.jt_session.specs.declared.end.End.TheVariants as ends
+use Rattle.jt_session.specs.declared.step.Step.{Step}
+use Rattle.jt_session.specs.declared.step.Step.TheVariants.{More, Ask, Memory}
 use Rattle.jt_session.specs.declared.end.Fed.{Fed}
 use Rattle.jt_session.specs.declared.end.Fed.TheVariants.{On, Stop}
 use Rattle.jt_session.specs.Talk.{State, Turn, Way, Goes, Stops, Talked, talk_from, at_state, FitsFrom, items_of, asks}
+use Rattle.jt_session.specs.Law.{ran_short}
 
 -- a session's number, where its stream stands, its state before the item whose request waits, that item, and whether it is over
 pub record Seen : Type 0 where
@@ -30,11 +34,17 @@ before s = record (at_state s.state) { over = s.over }
 abbrev pub counts : State → ℕ × ℕ × ℕ
 counts s = (s.frames, s.refused, s.dropped)
 
+-- memory was wanted at the last item, before it asked or wrote
+abbrev pub ended_short : List Turn → Bool
+ended_short [] = false
+ended_short (t ∷ older) = ran_short t.way
+
 -- The octets brought these turns, newest first: whatever octets were read before, its items go on with theirs, then with the item whose
--- request waits, and with nothing else unless the session is over. Of a session that is over the counts alone are told.
+-- request waits, and with nothing else unless the session is over. The state is that of the turns, also where a reply ended the
+-- session; where memory was wanted before the last item asked or wrote, the counts alone are told.
 pub record Turns (s now : Seen) (octets : List ℕ) (turns : List Turn) : Type 0 where
   pub fits : FitsFrom (before s) turns
-  pub state : now.over ≡ false → now.state ≡ (talk_from (before s) turns).state
+  pub state : ended_short turns ≡ false → now.state ≡ (talk_from (before s) turns).state
   pub counted : counts now.state ≡ counts (talk_from (before s) turns).state
   pub over : now.over ≡ (talk_from (before s) turns).over
   pub number : now.number ≡ s.number
@@ -42,11 +52,33 @@ pub record Turns (s now : Seen) (octets : List ℕ) (turns : List Turn) : Type 0
       → (rest : List Unplaced) × (items (read ++ octets) ≡ gone ++ (items_of turns ++ (option_to_list now.waiting ++ rest)))
       × (now.over ≡ false → (rest ≡ []) × StandsFor now.stream (read ++ octets))
 
--- the octets were taken, which brought these turns, and what was written stands behind what was there
+-- no reply is in the turns
+abbrev pub is_unasked : Way → Bool
+is_unasked (Goes None) = true
+is_unasked (Stops None) = true
+is_unasked way = false
+
+abbrev pub AreUnasked : List Turn → Type 0
+AreUnasked [] = Unit {0}
+AreUnasked (t ∷ older) = (is_unasked t.way ≡ true) × AreUnasked older
+
+-- the octets were taken, which brought these turns, none with a reply, and what was written stands behind what was there
 pub record Takes (s now : Seen) (octets out out_now : List ℕ) : Type 0 where
   pub turns : List Turn
   pub went : Turns s now octets turns
+  pub unasked : AreUnasked turns
   pub wrote : out_now ≡ out ++ (talk_from (before s) turns).written
+
+-- What octets led to. A request waits, which is what the item asks; or none does, and where memory was wanted the session is over.
+abbrev pub LedTo : Seen → Step → Type 0
+LedTo now More = (now.waiting ≡ None) × (now.over ≡ false)
+LedTo now (Ask q) = IsSomeAnd now.waiting (λ item. asks now.state item ≡ Some q) × (now.over ≡ false)
+LedTo now Memory = (now.waiting ≡ None) × (now.over ≡ true)
+
+-- where a request waits there is room for any answer
+abbrev pub HasRoom : ℕ → Step → Type 0
+HasRoom spare (Ask q) = 2092 ≤ spare
+HasRoom spare step = Unit {0}
 
 -- ---- the answer to a request
 
@@ -89,10 +121,29 @@ MayTurn o h session k (t ∷ older) =
     MayGo o (entries_on session (talk_from k older).entries ++ h) session (asks (talk_from k older).state t.item) t.way
     × MayTurn o h session k older
 
--- the octets were fed to the session over a hub: its turns, each reply allowed, its entries and what was written
-pub record Feeds (s now : Seen) (octets : List ℕ) (o : Opening) (h h_now : List Entry) (out out_now : List ℕ) : Type 0 where
+-- how the last of the turns ended the session, newest turn first: by its reply, or by want of memory before it asked or wrote
+abbrev pub end_by : Way → Fed
+end_by (Goes None) = On
+end_by (Goes (Some r)) = fed_by r
+end_by (Stops None) = Stop ends.Memory
+end_by (Stops (Some r)) = fed_by r
+
+abbrev pub end_of : List Turn → Fed
+end_of [] = On
+end_of (t ∷ older) = end_by t.way
+
+-- the octets were fed to the session over a hub: its turns, each reply allowed, its entries, what was written, and how it ended
+pub record Feeds (s now : Seen) (octets : List ℕ) (o : Opening) (h h_now : List Entry) (out out_now : List ℕ) (fed : Fed) : Type 0 where
   pub turns : List Turn
   pub went : Turns s now octets turns
   pub allowed : MayTurn o h s.number (before s) turns
   pub entries : h_now ≡ entries_on s.number (talk_from (before s) turns).entries ++ h
   pub wrote : out_now ≡ out ++ (talk_from (before s) turns).written
+  pub ended : fed ≡ end_of turns
+
+-- What feeding says of the keeper's faults: the count never falls, a session ends by StoreFault only where it rose, and where no call
+-- may fail none does and no session ends so.
+pub record HasFedReason (before now : ℕ) (may may_now : Bool) (fed : Fed) : Type 0 where
+  pub later : before ≤ now
+  pub fault : fed ≡ Stop ends.StoreFault → Rose before now
+  pub steady : may ≡ false → (may_now ≡ false) × (fed ≢ Stop ends.StoreFault)

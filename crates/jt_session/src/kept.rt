@@ -149,7 +149,7 @@ impl Kept {
     }
 
     // Writes a message of this id and body in answer to the header's message.
-    fn say(&mut self, header: &Header, id: u16, body: &[u8], out: &mut Buffer<u8>)
+    pub(crate) fn say(&mut self, header: &Header, id: u16, body: &[u8], out: &mut Buffer<u8>)
         requires header { IsHeader header.now }
         requires short { length body.now < 2 ^ 10 }
         requires room { 2092 ≤ out.old.spare }

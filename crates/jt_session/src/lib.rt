@@ -1,11 +1,18 @@
 //! A connection's session of the platform: what it asks of the hub, and what it answers.
 #![tactic(auto)]
 
+mod counts;
 mod end;
+mod feeding;
 mod kept;
 mod laws;
+mod reading;
+mod request;
 mod session;
+mod step;
 
+pub use counts::Counts;
 pub use end::{End, Fed};
-pub use laws::{law_of_acceptances, law_of_talks};
+pub use laws::{law_of_acceptances, law_of_answers, law_of_requests, law_of_talks, law_of_turns};
 pub use session::Session;
+pub use step::Step;

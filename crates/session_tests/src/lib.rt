@@ -3,3 +3,9 @@
 
 #[cfg(test)]
 mod beginning;
+#[cfg(test)]
+mod ends;
+#[cfg(test)]
+mod rows;
+#[cfg(test)]
+mod running;

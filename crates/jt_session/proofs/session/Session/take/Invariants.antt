@@ -1,0 +1,15 @@
+use Rattle.std.proofs.Common.{◌≡◌, ◌≤◌, ◌+◌, ◌-◌, None, false, length, take}
+use Rattle.jt_session.specs.Sessions.{Takes}
+use Rattle.jt_session.proofs.session.Session.take.Given as goal
+
+abbrev pub invariant-loop-taken : goal.invariant-loop-taken
+invariant-loop-taken l = record {
+  within : l.taken ≤ length l.octets;
+  waits : l.self.waiting ≡ None;
+  on : l.self.over ≡ false;
+  place : l.self.stream.place ≡ l.fn.self.stream.place + l.taken;
+  turns : Takes l.fn.self l.self (take l.taken l.octets) l.fn.out.items l.out.items;
+}
+
+abbrev pub decreases-loop-taken : goal.decreases-loop-taken
+decreases-loop-taken l = length l.octets - l.taken
