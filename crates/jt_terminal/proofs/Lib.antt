@@ -1,12 +1,5 @@
-mod Batches
-mod Numbering
-mod Forming
-mod Accepting
-mod Composing
-mod Filling
-mod Controlling
-mod Speaking
-mod Ruling
-mod Cutting
-mod Telling
-mod Starting
+mod Keeping
+mod Chaining
+mod Begins
+mod Naming
+mod Ending

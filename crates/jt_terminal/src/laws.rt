@@ -1,34 +1,16 @@
-//! Laws of the terminal's rule, which is defined in specs/Rule.
+//! Laws of steps one after another.
 
-ghost use Rattle.jt_terminal.specs.Law.{ControlKeepsTheLastPlace, FirstStartIsInOrder, FittingIsGreatest, NotedFixIsAStep, ResponsesNameTheUnit, RuleIsCutInSteps, RuleTakesSteps, RuleTellsTheUnit, StartIsARestart, UnitCarriesFirstFixes, WaitsGrow};
-ghost use Rattle.std.specs.Prelude.{ℕ, List};
-ghost use Rattle.jt_header.specs.declared.header.Header.{Header};
-ghost use Rattle.jt_terminal.specs.declared.settings.Settings.{Settings};
+ghost use Rattle.std.specs.Prelude.{◌≡◌, ◌++◌, List, Option, None, Some};
+ghost use Rattle.jt_store.specs.Vaults.{Held};
+ghost use Rattle.jt_terminal_rule.specs.Machines.{held_after};
+ghost use Rattle.jt_terminal_rule.specs.Rule.{Step, sends};
+ghost use Rattle.jt_terminal_rule.specs.declared.settings.Settings.{Settings};
+ghost use Rattle.jt_terminal.specs.Running.{holds_after};
 
-/// Units are formed of the first fixes that wait: as many as a body of at most 1,023 octets can carry.
-pub fn law_forming()
-    ensures greatest { FittingIsGreatest }
-    ensures carries { UnitCarriesFirstFixes }
-{
-    jt_position::law_fixes();
-}
-
-/// What the rule does at each event, to its end or cut short, is steps that any terminal may take; and control messages leave
-/// the last serial before the limit to a unit.
-pub fn law_rule()
-    ensures control { ControlKeepsTheLastPlace }
-    ensures steps { RuleTakesSteps }
-    ensures cut { RuleIsCutInSteps }
-    ensures told { RuleTellsTheUnit }
-    ensures noted { NotedFixIsAStep }
-    ensures start { StartIsARestart }
-    ensures first { FirstStartIsInOrder }
-{
-    jt_position::law_fixes();
-}
-
-/// The rule at work: the waits for the reply to a registration, and responses that name a unit.
-pub fn law_examples()
-    ensures waits { WaitsGrow }
-    ensures responses { (settings : Settings) (body : List ℕ) (h : Header) → ResponsesNameTheUnit settings body h }
+/// What steps one after another send, and what a vault holds after them: where it tells nothing, nothing is told later.
+pub fn law_steps()
+    ensures sends { (settings : Settings) (first more : List Step) → sends settings (first ++ more) ≡ sends settings first ++ sends settings more }
+    ensures holds { (first more : List Step) (held : Option Held) → holds_after (first ++ more) held ≡ holds_after more (holds_after first held) }
+    ensures told { (steps : List Step) (held : Held) → holds_after steps (Some held) ≡ Some (held_after steps held) }
+    ensures untold { (steps : List Step) → holds_after steps None ≡ None }
 {}

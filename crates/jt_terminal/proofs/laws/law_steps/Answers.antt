@@ -1,0 +1,14 @@
+use Rattle.jt_terminal.proofs.Chaining.{sends-append, holds_after-append, holds_after-told, holds_after-untold}
+use Rattle.jt_terminal.proofs.laws.law_steps.Goals as goal
+
+pub returns-clause-sends : goal.returns-clause-sends
+returns-clause-sends c = sends-append
+
+pub returns-clause-holds : goal.returns-clause-holds
+returns-clause-holds c = holds_after-append
+
+pub returns-clause-told : goal.returns-clause-told
+returns-clause-told c = holds_after-told
+
+pub returns-clause-untold : goal.returns-clause-untold
+returns-clause-untold c = holds_after-untold

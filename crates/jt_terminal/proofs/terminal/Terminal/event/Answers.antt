@@ -1,0 +1,4 @@
+use Rattle.jt_terminal.proofs.terminal.Terminal.event.Goals as goal
+
+pub returns-clause-told : goal.returns-clause-told
+returns-clause-told g c = rw (← c.self.view_is) c.act.ensures.told

@@ -1,0 +1,338 @@
+//! A terminal over a vault.
+
+ghost use Rattle.std.specs.Prelude.{◌≡◌, ◌≤◌, ◌<◌, ◌^◌, ◌↔◌, false, Bool, IfErr, IfOk, IsErrOf, IsOk, IsTrue, None, OnErr, OnOk, Some, length};
+ghost use Rattle.std.specs.Option.{option_to_list};
+ghost use Rattle.jt_store.specs.Tables.{HasCause, IsSteady, Rose, Told};
+ghost use Rattle.jt_store.specs.Vaults.{Held, Notes, Records, settled};
+ghost use Rattle.jt_terminal_rule.specs.Messages.{AreSettings};
+ghost use Rattle.jt_terminal_rule.specs.Rule as rule;
+ghost use Rattle.jt_terminal.specs.Running.{Counts, CutShort, IsDone, IsDown, IsEvent, IsRefused, IsSound, IsStarted, Outside, Ran, TerminalValue, holds_after, time_after};
+ghost use Rattle.jt_terminal.specs.declared.error.TerminalError.TheVariants.{Store};
+ghost use Rattle.jt_terminal_rule.specs.declared.state.Event.TheVariants.{Lost};
+
+use crate::actions::Actions;
+use crate::error::TerminalError;
+use crate::hearing::{is_acceptance, names, received};
+use crate::loading::{look_at_fixes, look_at_serials};
+use crate::ticking::{beaten, ticked};
+use jt_codec::Message;
+use jt_position::Fix;
+use jt_store::{Loaded, StoreError, Unit, Vault};
+use jt_terminal_rule::{
+    Acknowledgement, Event, GiveUp, Phase, Queue, Settings, State, Timing, Wait, lose, opened,
+};
+use jt_value::{Memory, Octets, Seq};
+use std::alloc::Global;
+use std::marker::Model;
+
+// The state of a terminal that starts with what its vault loaded.
+fn started(settings: Settings, loaded: Loaded) -> State
+    ensures state { result ≡ rule.started settings loaded }
+    ensures small { (result.mark < 65536) × (result.next < 65536) × (result.recorded < 2 ^ 64) × (result.accepted < 2 ^ 64) }
+{
+    let Loaded {
+        fixes,
+        units,
+        mark,
+        next,
+        code,
+        recorded,
+        accepted,
+    } = loaded;
+    let timing = Timing {
+        heartbeat: settings.heartbeat,
+        answer: settings.answer,
+        repeats: settings.repeats,
+    };
+    State {
+        settings,
+        phase: Phase::Down,
+        time: 0,
+        timing,
+        wait: Wait {
+            since: 0,
+            last: 0,
+            sendings: 0,
+            first: 0,
+            repeats: 0,
+        },
+        said: 0,
+        units: Queue::from_seq(units),
+        sent: 0,
+        waiting: Queue::from_seq(fixes),
+        mark,
+        next,
+        code,
+        recorded,
+        accepted,
+    }
+}
+
+// How many units stand before the first of those sent on this line that the response names.
+fn first_named(ack: Acknowledgement, sent: usize, units: &Queue<Unit>) -> Option<u64>
+    ensures { result ≡ rule.first_named ack sent units.now }
+{
+    for place in 0..sent {
+        let Some(unit) = units.get(place) else {
+            return None;
+        };
+        if names(ack, unit) {
+            return Some(place as u64);
+        }
+    }
+    None
+}
+
+// How many units stand before the one whose acceptance this event tells, if it tells one.
+fn told(state: &State, event: &Event) -> Option<u64>
+    ensures { result ≡ rule.told state.now (rule.response event.now) }
+{
+    match event {
+        Event::Received(
+            _,
+            Message::PlatformAck {
+                reply,
+                id,
+                result: answer,
+            },
+        ) => {
+            let ack = Acknowledgement {
+                reply: *reply,
+                id: *id,
+                result: *answer,
+            };
+            if is_acceptance(ack) {
+                first_named(ack, state.sent, &state.units)
+            } else {
+                None
+            }
+        }
+        _ => None,
+    }
+}
+
+// The same as a list. It takes memory where there is one.
+fn told_list(alloc: Global, state: &State, event: &Event) -> Result<Seq<u64>, Memory>
+    ensures list { IfOk result (λ list. list ≡ option_to_list (rule.told state.now (rule.response event.now))) }
+    ensures memory { OnErr result (time_after state.now event.now ≡ state.now.time) }
+    ensures lost { event.now ≡ Lost → IsOk result }
+{
+    match told(state, event) {
+        Some(older) => {
+            let mut list = Seq::new(alloc);
+            list.push(older)?;
+            Ok(list)
+        }
+        None => Ok(Seq::new(alloc)),
+    }
+}
+
+// The rule at an event.
+fn run_rule<V: Vault>(
+    alloc: Global,
+    vault: &mut V,
+    state: &mut State,
+    out: &mut Seq<Octets>,
+    event: &Event,
+) -> Result<Option<GiveUp>, TerminalError>
+    requires event { IsEvent state.old event.now }
+    requires sound { IsSound (V.holds vault.old) state.old }
+    ensures ok { IfOk result (λ end. Ran state.old.settings (rule.rule state.old event.now) state.new (V.holds vault.old) (V.holds vault.new) out.old out.new end) }
+    ensures err { OnErr result (CutShort (rule.rule state.old event.now).steps (V.holds vault.old) (V.holds vault.new)) }
+    ensures sound { IsSound (V.holds vault.new) state.new }
+    ensures settings { state.new.settings ≡ state.old.settings }
+    ensures timing { state.new.timing ≡ state.old.timing }
+    ensures time { state.new.time ≡ time_after state.old event.now }
+    ensures lost { event.now ≡ Lost → IsOk result }
+    ensures outside { Outside (V.faults vault.old) (V.faults vault.new) (V.limit vault.old) (V.limit vault.new) (V.may_fail vault.old) (V.may_fail vault.new) result }
+{
+    match event {
+        Event::Opened => {
+            opened(alloc, state, out)?;
+            Ok(None)
+        }
+        Event::Received(header, message) => { received(alloc, vault, state, out, header, message) }
+        Event::Tick(now) => {
+            state.time = *now;
+            ticked(alloc, vault, state, out)
+        }
+        Event::Lost => {
+            lose(state);
+            Ok(None)
+        }
+        Event::Beat => {
+            beaten(alloc, vault, state, out)?;
+            Ok(None)
+        }
+    }
+}
+
+// After an error no line is in use.
+fn down_after(state: &mut State, error: TerminalError) -> TerminalError
+    ensures state { state.new ≡ rule.down state.old }
+    ensures error { result ≡ error }
+{
+    lose(state);
+    error
+}
+
+// What a terminal does at an event: the rule, and after an error no line.
+fn act<V: Vault>(
+    alloc: Global,
+    vault: &mut V,
+    state: &mut State,
+    event: &Event,
+) -> Result<Actions, TerminalError>
+    requires event { IsEvent state.old event.now }
+    requires sound { IsSound (V.holds vault.old) state.old }
+    ensures state { OnOk result (state.new ≡ (rule.rule state.old event.now).state) }
+    ensures vault { OnOk result (V.holds vault.new ≡ holds_after (rule.rule state.old event.now).steps (V.holds vault.old)) }
+    ensures frames { IfOk result (λ actions. actions.frames ≡ rule.sends state.old.settings (rule.rule state.old event.now).steps) }
+    ensures end { IfOk result (λ actions. actions.end ≡ (rule.rule state.old event.now).end) }
+    ensures told { IfOk result (λ actions. actions.told ≡ option_to_list (rule.told state.old (rule.response event.now))) }
+    ensures cut { OnErr result (CutShort (rule.rule state.old event.now).steps (V.holds vault.old) (V.holds vault.new)) }
+    ensures down { OnErr result (IsDown state.new) }
+    ensures sound { IsSound (V.holds vault.new) state.new }
+    ensures settings { state.new.settings ≡ state.old.settings }
+    ensures timing { state.new.timing ≡ state.old.timing }
+    ensures time { state.new.time ≡ time_after state.old event.now }
+    ensures lost { event.now ≡ Lost → IsOk result }
+    ensures outside { Outside (V.faults vault.old) (V.faults vault.new) (V.limit vault.old) (V.limit vault.new) (V.may_fail vault.old) (V.may_fail vault.new) result }
+{
+    let list = match told_list(alloc, state, event) {
+        Ok(list) => list,
+        Err(Memory) => return Err(down_after(state, TerminalError::Memory)),
+    };
+    let mut frames = Seq::new(alloc);
+    match run_rule(alloc, vault, state, &mut frames, event) {
+        Ok(end) => Ok(Actions {
+            frames,
+            end,
+            told: list,
+        }),
+        Err(error) => Err(down_after(state, error)),
+    }
+}
+
+// Whether no unit and no fix is left.
+fn is_done(state: &State) -> bool
+    ensures { IsTrue result ↔ IsDone state.now }
+{
+    state.units.is_empty() && state.waiting.is_empty()
+}
+
+/// A terminal over a vault. Contracts see its vault and its state.
+#[derive(Drop)]
+pub struct Terminal<V: Vault> {
+    vault: V,
+    state: State,
+}
+
+impl<V: Vault> Model for Terminal<V> {
+    ghost use Rattle.jt_terminal.specs.Running.{IsSound, TerminalValue};
+
+    ghost Value = { TerminalValue V };
+
+    ghost view = { λ terminal. record { vault = terminal.vault; state = terminal.state } };
+
+    ghost invariant = { λ terminal. IsSound (V.holds terminal.vault) terminal.state };
+}
+
+impl<V: Vault> Terminal<V> {
+    /// A terminal without a line over what its vault loads. The settings are good: the phone has a digit in each half octet,
+    /// the registration has octets in the phone's edition and a plate of at most 255 octets, and there is a tail in 2019
+    /// alone. An Err has the vault, as before, and why it did not load; Full never comes.
+    pub fn start(
+        alloc: Global,
+        mut vault: V,
+        settings: Settings,
+    ) -> Result<Terminal<V>, (V, StoreError)>
+        requires { AreSettings settings }
+        ensures ok { IfOk result (λ terminal. IsStarted settings (V.holds vault) terminal.state × (V.holds terminal.vault ≡ V.holds vault) × (V.limit terminal.vault ≡ V.limit vault) × (V.faults vault ≤ V.faults terminal.vault) × (V.may_fail vault ≡ false → V.may_fail terminal.vault ≡ false)) }
+        ensures err { IfErr result (λ refused. (V.holds refused.0 ≡ V.holds vault) × (V.limit refused.0 ≡ V.limit vault) × IsRefused (V.faults vault) (V.faults refused.0) (V.may_fail vault) (V.may_fail refused.0) refused.1) }
+    {
+        match vault.load(alloc) {
+            Ok(loaded) => {
+                look_at_fixes(loaded.fixes.as_slice());
+                look_at_serials(loaded.units.as_slice());
+                let state = started(settings, loaded);
+                Ok(Terminal { vault, state })
+            }
+            Err(error) => Err((vault, error)),
+        }
+    }
+
+    /// Records a fix behind the others. Full comes exactly where as many fixes as the vault's limit are not accepted, and has
+    /// the limit. After each error the terminal is as before, and its vault holds what it held.
+    pub fn note_fix(&mut self, alloc: Global, fix: &Fix) -> Result<(), StoreError>
+        ensures ok { OnOk result (self.new.state ≡ rule.noted self.old.state fix.now) }
+        ensures err { OnErr result (self.new.state ≡ self.old.state) }
+        ensures vault { Records (V.limit self.old.vault) fix.now (V.holds self.old.vault) (V.holds self.new.vault) result }
+        ensures limit { V.limit self.new.vault ≡ V.limit self.old.vault }
+        ensures cause { HasCause (V.faults self.old.vault) (V.faults self.new.vault) result }
+        ensures steady { IsSteady (V.may_fail self.old.vault) (V.may_fail self.new.vault) result }
+    {
+        let copy = fix.clone()?;
+        let _octets = fix.as_slice();
+        self.state.waiting.push(copy)?;
+        match self.vault.note_fix(alloc, fix) {
+            Ok(()) => {
+                self.state.recorded = self.state.recorded.saturating_add(1);
+                Ok(())
+            }
+            Err(error) => {
+                let _fix = self.state.waiting.pop_back();
+                Err(error)
+            }
+        }
+    }
+
+    /// Does what the rule does at an event: the state, the vault and the actions are the rule's. A message fits its header's
+    /// edition and has its id, and a moment is not before an earlier one.
+    ///
+    /// Store comes only where the vault's count of faults rose in this call. After an error the vault holds what some first
+    /// changes of the event make of it, and the terminal has no line and agrees with its vault. At Lost there is no error.
+    pub fn event(&mut self, alloc: Global, event: Event) -> Result<Actions, TerminalError>
+        requires { IsEvent self.old.state event }
+        ensures state { OnOk result (self.new.state ≡ (rule.rule self.old.state event).state) }
+        ensures vault { OnOk result (V.holds self.new.vault ≡ holds_after (rule.rule self.old.state event).steps (V.holds self.old.vault)) }
+        ensures frames { IfOk result (λ actions. actions.frames ≡ rule.sends self.old.state.settings (rule.rule self.old.state event).steps) }
+        ensures end { IfOk result (λ actions. actions.end ≡ (rule.rule self.old.state event).end) }
+        ensures told { IfOk result (λ actions. actions.told ≡ option_to_list (rule.told self.old.state (rule.response event))) }
+        ensures cut { OnErr result (CutShort (rule.rule self.old.state event).steps (V.holds self.old.vault) (V.holds self.new.vault)) }
+        ensures down { OnErr result (IsDown self.new.state) }
+        ensures sound { IsSound (V.holds self.new.vault) self.new.state }
+        ensures settings { self.new.state.settings ≡ self.old.state.settings }
+        ensures timing { self.new.state.timing ≡ self.old.state.timing }
+        ensures time { self.new.state.time ≡ time_after self.old.state event }
+        ensures lost { event ≡ Lost → IsOk result }
+        ensures outside { Outside (V.faults self.old.vault) (V.faults self.new.vault) (V.limit self.old.vault) (V.limit self.new.vault) (V.may_fail self.old.vault) (V.may_fail self.new.vault) result }
+    {
+        act(alloc, &mut self.vault, &mut self.state, &event)
+    }
+
+    /// Whether every recorded fix is accepted.
+    pub fn done(&self) -> bool
+        ensures done { IsTrue result ↔ IsDone self.now.state }
+        ensures told { Told (V.holds self.now.vault) (λ held. IsTrue result ↔ (settled held ≡ length held.recorded)) }
+    {
+        is_done(&self.state)
+    }
+
+    /// How many fixes were recorded and how many of them are accepted. Each count stays at 2^64 - 1.
+    pub fn counts(&self) -> (u64, u64)
+        ensures counts { (result.0 ≡ self.now.state.recorded) × (result.1 ≡ self.now.state.accepted) }
+        ensures told { Told (V.holds self.now.vault) (λ held. Counts held self.now.state) }
+    {
+        let _state = &self.state;
+        (self.state.recorded, self.state.accepted)
+    }
+
+    /// The vault, with no memory taken.
+    pub fn into_vault(self) -> V
+        ensures { result ≡ self.vault }
+    {
+        let Terminal { vault, state: _ } = self;
+        vault
+    }
+}

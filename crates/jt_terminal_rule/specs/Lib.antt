@@ -1,0 +1,9 @@
+pub mod Forming
+pub mod Law
+pub mod Machines
+pub mod Messages
+pub mod Rule
+pub mod Steps
+pub mod Tails
+pub mod Waits
+pub mod Unsaid

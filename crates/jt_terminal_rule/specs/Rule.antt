@@ -1,0 +1,364 @@
+-- The terminal's rule: what it does at each event, as a function of its state (this project's own). To be believed.
+-- Registration, authentication, heartbeat and general response are the standard's. It answers no other message yet.
+use Rattle.std.specs.Prelude.{ℕ, zero, suc, ◌+◌, ◌-◌, ◌*◌, ◌^◌, min, List, [], ◌∷◌, ◌++◌, drop, length, slice_get, Option, None, Some, Bool, true, false, not, ◌==◌, ◌&&◌, nat_lt, nat_le, if◌then◌else◌}
+use Rattle.std.specs.Option.{option_map, unwrap_or}
+use Rattle.jt_value.specs.Serials.{gap_of, serial_of}
+use Rattle.jt_header.specs.declared.header.Header.{Header}
+use Rattle.jt_register.specs.declared.reply.RegisterReply.{RegisterReply}
+use Rattle.jt_codec.specs.Bodies.{body_octets}
+use Rattle.jt_codec.specs.declared.message.Message.{Message}
+use Rattle.jt_codec.specs.declared.message.Message.TheVariants as message
+use Rattle.jt_store.specs.declared.unit.Unit.{Unit as OneUnit}
+use Rattle.jt_store.specs.declared.unit.Loaded.{Loaded}
+use Rattle.jt_store.specs.Vaults.{Change, Forms, Accepts, Sets}
+use Rattle.jt_terminal_rule.specs.declared.settings.Settings.{Settings}
+use Rattle.jt_terminal_rule.specs.declared.state.State.{State}
+use Rattle.jt_terminal_rule.specs.declared.state.Timing.{Timing}
+use Rattle.jt_terminal_rule.specs.declared.state.Wait.{Wait}
+use Rattle.jt_terminal_rule.specs.declared.state.Event.{Event}
+use Rattle.jt_terminal_rule.specs.declared.state.Event.TheVariants.{Opened, Received, Tick, Lost, Beat}
+use Rattle.jt_terminal_rule.specs.declared.state.Phase.{Phase}
+use Rattle.jt_terminal_rule.specs.declared.state.Phase.TheVariants.{Down, Registering, Authenticating, Live}
+use Rattle.jt_terminal_rule.specs.declared.state.GiveUp.{GiveUp}
+use Rattle.jt_terminal_rule.specs.declared.state.GiveUp.TheVariants.{Denied, TimedOut}
+use Rattle.jt_terminal_rule.specs.Forming.{unit_of}
+use Rattle.jt_terminal_rule.specs.declared.state.Acknowledgement.{Acknowledgement}
+use Rattle.jt_terminal_rule.specs.Messages.{is_acceptance, header_of, frame_of, register_octets, auth_octets}
+
+-- ---- what a terminal keeps
+
+-- the parameters that a terminal begins with
+abbrev pub timing_of : Settings → Timing
+timing_of settings = record { heartbeat = settings.heartbeat; answer = settings.answer; repeats = settings.repeats }
+
+-- a terminal that starts over what its vault loads: the serial that is next is the one that was committed
+abbrev pub started : Settings → Loaded → State
+started settings loaded = record {
+  settings = settings;
+  phase = Down;
+  time = 0;
+  timing = timing_of settings;
+  wait = record { since = 0; last = 0; sendings = 0; first = 0; repeats = 0 };
+  said = 0;
+  units = loaded.units;
+  sent = 0;
+  waiting = loaded.fixes;
+  mark = loaded.mark;
+  next = loaded.next;
+  code = loaded.code;
+  recorded = loaded.recorded;
+  accepted = loaded.accepted;
+}
+
+-- a count that has risen by this much stays at 2^64 - 1
+abbrev pub risen : ℕ → ℕ → ℕ
+risen count by = min (count + by) (2 ^ 64 - 1)
+
+-- a fix is recorded, and waits
+abbrev pub noted : State → List ℕ → State
+noted s fix = record s { waiting = s.waiting ++ fix ∷ []; recorded = risen s.recorded 1 }
+
+-- the platform's response that was just read, if it was one
+abbrev pub response_in : Message → Option Acknowledgement
+response_in (message.PlatformAck reply id result) = Some (record { reply = reply; id = id; result = result })
+response_in _ = None
+
+abbrev pub response : Event → Option Acknowledgement
+response Opened = None
+response (Received h m) = response_in m
+response (Tick now) = None
+response Lost = None
+response Beat = None
+
+-- ---- what it does
+
+pub data Step : Type 0 where
+  -- a unit that is not accepted is sent; so many older ones are not accepted either
+  Sends : ℕ → OneUnit → Step
+  -- another message is sent
+  Says : Header → List ℕ → Step
+  -- the vault commits a change
+  Changes : Change → Step
+  -- a line is in use; none is in use any more
+  Opens : Step
+  Loses : Step
+
+-- what an event leads to: the new state, the steps in order, and why the line was given up, if it was
+pub record Ruled : Type 0 where
+  pub state : State
+  pub steps : List Step
+  pub end : Option GiveUp
+
+abbrev pub stays : State → Ruled
+stays s = record { state = s; steps = []; end = None }
+
+-- one rule, and then another
+abbrev pub and_then : Ruled → (State → Ruled) → Ruled
+and_then r more = record { state = (more r.state).state; steps = r.steps ++ (more r.state).steps; end = (more r.state).end }
+
+-- the frames of the messages that are sent, in order
+abbrev pub sends : Settings → List Step → List (List ℕ)
+sends settings [] = []
+sends settings (Sends older unit ∷ steps) = frame_of (header_of settings.phone unit.id unit.serial) unit.body ∷ sends settings steps
+sends settings (Says h body ∷ steps) = frame_of h body ∷ sends settings steps
+sends settings (Changes change ∷ steps) = sends settings steps
+sends settings (Opens ∷ steps) = sends settings steps
+sends settings (Loses ∷ steps) = sends settings steps
+
+-- ---- serials
+
+-- A control message takes the next serial, and moves it on unless the gap from the mark is 32,766 or more: the last place before a gap
+-- of 32,767 is kept for a unit.
+abbrev pub after_control : State → ℕ
+after_control s = if nat_lt (gap_of s.mark s.next) 32766 then serial_of (s.next + 1) else s.next
+
+-- ---- waits
+
+-- how long the wait behind so many sendings is: the first one, and each further one the wait before it times the number of sendings
+abbrev pub wait_behind : ℕ → ℕ → ℕ
+wait_behind first zero = 0
+wait_behind first (suc zero) = first
+wait_behind first (suc (suc k)) = min (wait_behind first (suc k) * (k + 2)) (2 ^ 62)
+
+-- a first sending now
+abbrev pub begun : State → Wait
+begun s = record { since = s.time; last = s.time; sendings = 1; first = 1000 * s.timing.answer; repeats = s.timing.repeats }
+
+abbrev pub sent_again : State → Wait
+sent_again s = record s.wait { last = s.time; sendings = s.wait.sendings + 1 }
+
+-- an answer is waited for
+abbrev pub is_waiting : Phase → ℕ → Bool
+is_waiting Down sent = false
+is_waiting (Registering serial) sent = true
+is_waiting (Authenticating serial) sent = true
+is_waiting (Live serial) sent = nat_lt 0 sent
+
+-- the wait behind the last sending has passed
+abbrev pub has_passed : State → Bool
+has_passed s = is_waiting s.phase s.sent && nat_le (s.wait.last + wait_behind s.wait.first s.wait.sendings) s.time
+
+-- ---- the end of a line
+
+abbrev pub down : State → State
+down s = record s { phase = Down; sent = 0 }
+
+abbrev pub gives_up : State → List Step → GiveUp → Ruled
+gives_up s steps cause = record { state = down s; steps = steps ++ Loses ∷ []; end = Some cause }
+
+abbrev pub lost : State → Ruled
+lost s = record { state = down s; steps = Loses ∷ []; end = None }
+
+-- ---- registration and authentication
+
+-- a control message was sent: the state waits so in this phase
+abbrev pub spoken : State → Phase → Wait → State
+spoken s p w = record s { phase = p; wait = w; said = s.time; next = after_control s }
+
+abbrev pub registers : State → Ruled
+registers s = record {
+  state = record s { phase = Registering s.next; wait = begun s; said = s.time; next = after_control s };
+  steps = Says (header_of s.settings.phone 0x0100 s.next) (register_octets s.settings) ∷ [];
+  end = None;
+}
+
+abbrev pub authenticates : State → List ℕ → Ruled
+authenticates s code = record {
+  state = record s { phase = Authenticating s.next; wait = begun s; said = s.time; next = after_control s };
+  steps = Says (header_of s.settings.phone 0x0102 s.next) (auth_octets s.settings code) ∷ [];
+  end = None;
+}
+
+-- with a stored code the terminal authenticates itself, and without one it registers
+abbrev pub introduces : State → Option (List ℕ) → Ruled
+introduces s None = registers s
+introduces s (Some code) = authenticates s code
+
+-- nothing was sent on a line that was just opened
+abbrev pub opened : State → Ruled
+opened s = and_then (record { state = record s { sent = 0 }; steps = Opens ∷ []; end = None }) (λ t. introduces t s.code)
+
+-- ---- the window
+
+abbrev pub window : ℕ
+window = 16
+
+-- a unit that is sent where none was sent begins the wait
+abbrev pub one_sent : State → State
+one_sent s = record s { sent = s.sent + 1; wait = if s.sent == 0 then begun s else s.wait; said = s.time }
+
+-- the unit of the fixes that wait is formed and sent, if there are fixes and the gap leaves it a serial
+abbrev pub forms_one : State → List (List ℕ) → Option Ruled
+forms_one s [] = None
+forms_one s (fix ∷ more) =
+    if nat_lt (gap_of s.mark s.next) 32767
+    then (let unit = unit_of s.next fix (fix ∷ more) in Some (record {
+      state = one_sent (record s { units = s.units ++ unit ∷ []; waiting = drop unit.count (fix ∷ more); next = serial_of (s.next + 1) });
+      steps = Changes (Forms unit) ∷ Sends s.sent unit ∷ [];
+      end = None;
+    }))
+    else None
+
+-- the next unit that was not sent on this line is sent; where there is none, one is formed
+abbrev pub sends_one : State → Option OneUnit → Option Ruled
+sends_one s (Some unit) = Some (record { state = one_sent s; steps = Sends s.sent unit ∷ []; end = None })
+sends_one s None = forms_one s s.waiting
+
+abbrev pub next_one : State → Option Ruled
+next_one s = if nat_lt s.sent window then sends_one s (slice_get s.units s.sent) else None
+
+abbrev pub or_stays : State → Option Ruled → (State → Ruled) → Ruled
+or_stays s None more = stays s
+or_stays s (Some r) more = and_then r more
+
+-- so many units are sent at most
+abbrev pub fill : ℕ → State → Ruled
+fill zero s = stays s
+fill (suc n) s = or_stays s (next_one s) (fill n)
+
+abbrev pub fills : State → Ruled
+fills s = fill window s
+
+-- a terminal that is Live fills its window after each event
+abbrev pub fills_if_live : Phase → State → Ruled
+fills_if_live Down s = stays s
+fills_if_live (Registering serial) s = stays s
+fills_if_live (Authenticating serial) s = stays s
+fills_if_live (Live serial) s = fills s
+
+-- ---- the platform's answers
+
+-- the reply gives a code, which may have at most 255 octets (this project's own limit)
+abbrev pub is_registered : RegisterReply → Bool
+is_registered reply = (reply.result == 0) && nat_le (length reply.code) 255
+
+-- the code is stored, and the terminal authenticates itself with it
+abbrev pub coded : State → List ℕ → Ruled
+coded s code = and_then (record { state = record s { code = Some code }; steps = Changes (Sets (Some code)) ∷ []; end = None }) (λ t. authenticates t code)
+
+-- the reply to a registration
+abbrev pub replied : State → RegisterReply → List ℕ → Ruled
+replied s reply octets = if is_registered reply then coded s reply.code else gives_up s [] (Denied octets)
+
+-- the code is removed, and the line given up
+abbrev pub forgets : State → List ℕ → Ruled
+forgets s octets = gives_up (record s { code = None }) (Changes (Sets None) ∷ []) (Denied octets)
+
+-- the response to an authentication of this serial
+abbrev pub authenticated : State → ℕ → ℕ → List ℕ → Ruled
+authenticated s serial result octets =
+    if result == 0
+    then fills (record s { phase = Live serial })
+    else forgets s octets
+
+abbrev pub names : Acknowledgement → OneUnit → Bool
+names ack unit = (ack.reply == unit.serial) && (ack.id == unit.id)
+
+-- the oldest unit is accepted, and a wait for the next one begins
+abbrev pub accepted : State → OneUnit → List OneUnit → State
+accepted s unit more = record s { units = more; sent = s.sent - 1; mark = unit.serial; wait = begun s; accepted = risen s.accepted unit.count }
+
+abbrev pub accepts : State → OneUnit → List OneUnit → Ruled
+accepts s unit more = and_then (record { state = accepted s unit more; steps = Changes Accepts ∷ []; end = None }) fills
+
+-- a response while the terminal is Live
+abbrev pub answered : State → List OneUnit → Acknowledgement → List ℕ → Ruled
+answered s [] ack octets = fills s
+answered s (unit ∷ more) ack octets =
+    if nat_lt 0 s.sent && names ack unit
+    then (if is_acceptance ack then accepts s unit more else gives_up s [] (Denied octets))
+    else fills s
+
+-- a response, by the phase
+abbrev pub responded : Phase → State → Acknowledgement → List ℕ → Ruled
+responded Down s ack octets = stays s
+responded (Registering serial) s ack octets = stays s
+responded (Authenticating serial) s ack octets = if (ack.id == 0x0102) && (ack.reply == serial) then authenticated s serial ack.result octets else stays s
+responded (Live serial) s ack octets = answered s s.units ack octets
+
+-- a reply to a registration, by the phase
+abbrev pub registered : Phase → State → RegisterReply → List ℕ → Ruled
+registered (Registering serial) s reply octets = if reply.reply == serial then replied s reply octets else stays s
+registered Down s reply octets = stays s
+registered (Authenticating serial) s reply octets = stays s
+registered (Live serial) s reply octets = fills s
+
+-- a message of the platform; every other one is passed over
+abbrev pub received : State → Header → Message → Ruled
+received s h (message.PlatformAck reply id result) =
+    responded s.phase s (record { reply = reply; id = id; result = result }) (body_octets h.edition (message.PlatformAck reply id result))
+received s h (message.RegisterReply reply) = registered s.phase s reply (body_octets h.edition (message.RegisterReply reply))
+received s h _ = fills_if_live s.phase s
+
+-- ---- heartbeats and moments
+
+abbrev pub beats : State → Ruled
+beats s = record {
+  state = record s { said = s.time; next = after_control s };
+  steps = Says (header_of s.settings.phone 0x0002 s.next) [] ∷ [];
+  end = None;
+}
+
+-- nothing was sent for as long as parameter 0x0001 says, which is not 0
+abbrev pub is_silent : State → Bool
+is_silent s = not (s.timing.heartbeat == 0) && nat_le (s.said + 1000 * s.timing.heartbeat) s.time
+
+abbrev pub beats_if_silent : State → Ruled
+beats_if_silent s = if is_silent s then beats s else stays s
+
+-- a heartbeat that is asked for
+abbrev pub beaten : Phase → State → Ruled
+beaten Down s = stays s
+beaten (Registering serial) s = stays s
+beaten (Authenticating serial) s = stays s
+beaten (Live serial) s = and_then (beats s) fills
+
+-- what is waited for, sent again with the same octets under the same serial
+abbrev pub oldest_again : List OneUnit → List Step
+oldest_again [] = []
+oldest_again (unit ∷ more) = Sends 0 unit ∷ []
+
+abbrev pub again : State → Phase → List Step
+again s Down = []
+again s (Registering serial) = Says (header_of s.settings.phone 0x0100 serial) (register_octets s.settings) ∷ []
+again s (Authenticating serial) = Says (header_of s.settings.phone 0x0102 serial) (auth_octets s.settings (unwrap_or s.code [])) ∷ []
+again s (Live serial) = oldest_again s.units
+
+abbrev pub repeats : State → Ruled
+repeats s = record { state = record s { wait = sent_again s; said = s.time }; steps = again s s.phase; end = None }
+
+-- a Live terminal looks at its heartbeat, and then fills its window
+abbrev pub goes_on : Phase → State → Ruled
+goes_on Down s = stays s
+goes_on (Registering serial) s = stays s
+goes_on (Authenticating serial) s = stays s
+goes_on (Live serial) s = and_then (beats_if_silent s) fills
+
+-- waits come first: one repeat at most, or the line is given up
+abbrev pub ticked : State → Ruled
+ticked s =
+    if has_passed s
+    then (if nat_le s.wait.sendings s.wait.repeats then and_then (repeats s) (goes_on s.phase) else gives_up s [] (TimedOut s.wait.since s.time))
+    else goes_on s.phase s
+
+-- the rule
+abbrev pub rule : State → Event → Ruled
+rule s Opened = opened s
+rule s (Received h m) = received s h m
+rule s (Tick now) = ticked (record s { time = now })
+rule s Lost = lost s
+rule s Beat = beaten s.phase s
+
+-- ---- what the terminal is told
+
+-- how many units stand before the first of so many that the response names
+abbrev pub first_named : Acknowledgement → ℕ → List OneUnit → Option ℕ
+first_named ack zero units = None
+first_named ack (suc n) [] = None
+first_named ack (suc n) (unit ∷ units) = if names ack unit then Some 0 else option_map suc (first_named ack n units)
+
+-- how many units that are not accepted stand before the one whose acceptance this response tells, if it tells one: that unit was sent on
+-- this line. The rule accepts it where none stands before it.
+abbrev pub told : State → Option Acknowledgement → Option ℕ
+told s None = None
+told s (Some ack) = if is_acceptance ack then first_named ack s.sent s.units else None

@@ -1,0 +1,181 @@
+-- What any terminal may do, whoever built it: its steps, with numbers that do not wrap. To be believed.
+use Rattle.std.specs.Prelude.{◌≡◌, ◌≢◌, ◌⊎◌, not, ℕ, zero, suc, ◌+◌, ◌-◌, ◌<◌, ◌≤◌, ◌^◌, max, ◌==◌, ◌&&◌, ◌||◌, Bool, true, false, if◌then◌else◌, List, [], ◌∷◌, ◌++◌, length, map, slice_get, Option, None, Some, IsTrue, All}
+use Rattle.std.specs.List.{list_any}
+use Rattle.jt_value.specs.Serials.{serial_of}
+use Rattle.jt_value.specs.declared.phone.Phone.{Phone}
+use Rattle.jt_value.specs.Sameness.{key_of}
+use Rattle.jt_header.specs.Content.{IsHeader, IsPhone}
+use Rattle.jt_header.specs.declared.header.Header.{Header}
+use Rattle.jt_position.specs.Fixes.{IsFix, fixes, fixes_of}
+use Rattle.jt_store.specs.declared.row.Row.{Row}
+use Rattle.jt_terminal_rule.specs.Forming.{body_limit}
+use Rattle.jt_terminal_rule.specs.declared.state.Acknowledgement.{Acknowledgement}
+use Rattle.jt_terminal_rule.specs.Messages.{is_acceptance, header_of, frame_of}
+
+pub record Machine : Type 0 where
+  pub phone : Phone
+  -- all fixes that were recorded, each as its octets
+  pub recorded : List (List ℕ)
+  -- all units that were formed, with their numbers; a unit carries as many fixes as its body has
+  pub units : List Row
+  -- how many units are accepted
+  pub accepted : ℕ
+  pub code : Option (List ℕ)
+  -- whether a line is in use
+  pub using : Bool
+  -- the serials of the authentications that were sent on the line in use, and whether an accepted response to one was read
+  pub auths : List ℕ
+  pub ready : Bool
+  -- of the units that are not accepted, those before this place were sent on the line in use
+  pub reach : ℕ
+
+pub data TerminalStep : Type 0 where
+  -- a fix is put at the end of those recorded
+  Records : List ℕ → TerminalStep
+  -- the next fixes that are in no unit make one
+  Forms : Row → TerminalStep
+  -- a new line is in use
+  Opens : TerminalStep
+  -- the unit of a place is sent
+  Sends : ℕ → TerminalStep
+  -- another message is sent
+  Says : Header → List ℕ → TerminalStep
+  -- the acceptance of the oldest unit that is not accepted is taken
+  Accepts : TerminalStep
+  -- no line is in use any more
+  Loses : TerminalStep
+  -- the terminal starts again with this phone: all but fixes, units, acceptances and code is forgotten
+  Restarts : Phone → TerminalStep
+  -- the code is set or removed
+  Codes : Option (List ℕ) → TerminalStep
+
+-- a list begins with another
+abbrev pub IsPrefixOf : {A : Type 0} → List A → List A → Type 0
+IsPrefixOf {A} xs ys = (rest : List A) × (ys ≡ xs ++ rest)
+
+abbrev pub carried : Row → ℕ × List ℕ
+carried row = (row.id, row.body)
+
+-- the fixes in these units, in order
+abbrev pub fixes_in : List Row → List (List ℕ)
+fixes_in rows = fixes (map carried rows)
+
+abbrev pub past : Option Row → ℕ
+past None = 0
+past (Some unit) = unit.number + 1
+
+-- one past the number of the last accepted unit, 0 without one
+abbrev pub past_accepted : List Row → ℕ → ℕ
+past_accepted units zero = 0
+past_accepted units (suc last) = past (slice_get units last)
+
+-- The unit's number is above those of all units and of the last accepted one, and at most 32,766 above the latter. Its body fits one
+-- packet and has the next fixes, one or more.
+pub record MayForm (m : Machine) (unit : Row) : Type 0 where
+  pub above : All (λ (older : Row). older.number < unit.number) m.units
+  pub after_accepted : past_accepted m.units m.accepted ≤ unit.number
+  pub near : unit.number < past_accepted m.units m.accepted + 32766
+  pub short : length unit.body ≤ body_limit
+  pub some : fixes_of (carried unit) ≢ []
+  pub next : IsPrefixOf (fixes_in m.units ++ fixes_of (carried unit)) m.recorded
+
+-- The message has the terminal's phone, and is no unit and no deregistration. Before the terminal is ready it is a registration or an
+-- authentication, and later it is no authentication.
+pub record MaySay (m : Machine) (h : Header) (body : List ℕ) : Type 0 where
+  pub header : IsHeader h
+  pub short : length body < 2 ^ 10
+  pub own : h.phone ≡ m.phone
+  pub no_unit : (h.id ≢ 0x0200) × (h.id ≢ 0x0704)
+  pub no_deregistration : h.id ≢ 0x0003
+  pub before : m.ready ≡ false → (h.id ≡ 0x0100) ⊎ (h.id ≡ 0x0102)
+  pub after : h.id ≡ 0x0102 → m.ready ≡ false
+
+-- the response names the unit
+abbrev pub is_named : Acknowledgement → Option Row → Bool
+is_named ack None = false
+is_named ack (Some unit) = (ack.reply == serial_of unit.number) && (ack.id == unit.id)
+
+abbrev pub names_oldest : Machine → Option Acknowledgement → Type 0
+names_oldest m None = ⊥
+names_oldest m (Some ack) = IsTrue (is_acceptance ack && is_named ack (slice_get m.units m.accepted))
+
+-- A unit is sent once the terminal is ready, and after each older one that is not accepted. `just` is the response that was read directly
+-- before, if there was one: an acceptance is taken directly after it was read, for a unit that was sent on this line. A terminal that
+-- starts again has the same twenty digits, in either edition.
+abbrev pub MayStep : Machine → Option Acknowledgement → TerminalStep → Type 0
+MayStep m just (Records fix) = IsFix fix
+MayStep m just (Forms unit) = MayForm m unit
+MayStep m just (Sends place) = (m.using ≡ true) × (m.ready ≡ true) × (m.accepted ≤ place) × (place ≤ m.reach) × (place < length m.units)
+MayStep m just (Says h body) = (m.using ≡ true) × MaySay m h body
+MayStep m just Accepts = (m.using ≡ true) × (m.accepted < m.reach) × names_oldest m just
+MayStep m just Opens = Unit {0}
+MayStep m just Loses = Unit {0}
+MayStep m just (Restarts phone) = IsPhone phone × (key_of phone ≡ key_of m.phone)
+MayStep m just (Codes code) = Unit {0}
+
+abbrev pub is_in : List ℕ → ℕ → Bool
+is_in serials serial = list_any (λ other. serial == other) serials
+
+-- the serials of authentications, each once
+abbrev pub auths_by : List ℕ → Header → List ℕ
+auths_by auths h = if (h.id == 0x0102) && not (is_in auths h.serial) then auths ++ h.serial ∷ [] else auths
+
+abbrev pub without_line : Machine → Machine
+without_line m = record m { using = false; auths = []; ready = false; reach = m.accepted }
+
+-- the terminal after a step
+abbrev pub stepped : Machine → TerminalStep → Machine
+stepped m (Records fix) = record m { recorded = m.recorded ++ fix ∷ [] }
+stepped m (Forms unit) = record m { units = m.units ++ unit ∷ [] }
+stepped m Opens = record m { using = true; auths = []; ready = false; reach = m.accepted }
+stepped m (Sends place) = record m { reach = max m.reach (place + 1) }
+stepped m (Says h body) = record m { auths = auths_by m.auths h }
+stepped m Accepts = record m { accepted = m.accepted + 1 }
+stepped m Loses = without_line m
+stepped m (Restarts phone) = record (without_line m) { phone = phone }
+stepped m (Codes code) = record m { code = code }
+
+-- the response accepts an authentication of this line
+abbrev pub lets_in : List ℕ → Acknowledgement → Bool
+lets_in auths ack = (ack.result == 0) && ((ack.id == 0x0102) && is_in auths ack.reply)
+
+-- the terminal once it read this response, if it read one
+abbrev pub hears : Machine → Option Acknowledgement → Machine
+hears m None = m
+hears m (Some ack) = record m { ready = m.ready || lets_in m.auths ack }
+
+abbrev pub unit_octets : Phone → Option Row → List ℕ
+unit_octets phone None = []
+unit_octets phone (Some unit) = frame_of (header_of phone unit.id (serial_of unit.number)) unit.body
+
+-- the octets that a step writes
+abbrev pub writes : Machine → TerminalStep → List ℕ
+writes m (Sends place) = unit_octets m.phone (slice_get m.units place)
+writes m (Says h body) = frame_of h body
+writes m (Records fix) = []
+writes m (Forms unit) = []
+writes m Opens = []
+writes m Accepts = []
+writes m Loses = []
+writes m (Restarts phone) = []
+writes m (Codes code) = []
+
+-- steps one after another, the first of them directly after `just`
+abbrev pub MayRun : Machine → Option Acknowledgement → List TerminalStep → Type 0
+MayRun m just [] = Unit {0}
+MayRun m just (step ∷ steps) = MayStep m just step × MayRun (stepped m step) None steps
+
+-- the terminal after these steps
+abbrev pub run : Machine → List TerminalStep → Machine
+run m [] = m
+run m (step ∷ steps) = run (stepped m step) steps
+
+-- the first place, from this one on, of so many, whose unit the response names
+abbrev pub named_from : List Row → Acknowledgement → ℕ → ℕ → Option ℕ
+named_from units ack place zero = None
+named_from units ack place (suc n) = if is_named ack (slice_get units place) then Some place else named_from units ack (place + 1) n
+
+-- the place of the unit whose acceptance the terminal is told: it was sent on this line, is not accepted, and the response names it
+abbrev pub told_by : Machine → Option Acknowledgement → Option ℕ
+told_by m None = None
+told_by m (Some ack) = if is_acceptance ack then named_from m.units ack m.accepted (m.reach - m.accepted) else None

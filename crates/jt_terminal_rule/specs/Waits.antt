@@ -1,0 +1,29 @@
+-- How long a terminal waits for an answer before it gives a line up (this project's own). To be believed.
+use Rattle.std.specs.Prelude.{ℕ, zero, suc, ◌≡◌, ◌<◌, ◌≤◌, ◌+◌, ◌-◌, List, Some, true}
+use Rattle.jt_store.specs.declared.unit.Loaded.{Loaded}
+use Rattle.jt_terminal_rule.specs.declared.settings.Settings.{Settings}
+use Rattle.jt_terminal_rule.specs.declared.state.State.{State}
+use Rattle.jt_terminal_rule.specs.declared.state.Event.{Event}
+use Rattle.jt_terminal_rule.specs.declared.state.Event.TheVariants.{Tick}
+use Rattle.jt_terminal_rule.specs.declared.state.GiveUp.TheVariants.{TimedOut}
+use Rattle.jt_terminal_rule.specs.Rule.{down, is_waiting, noted, rule, started, wait_behind}
+
+-- the sum of the waits behind so many sendings
+abbrev pub waited : ℕ → ℕ → ℕ
+waited first zero = 0
+waited first (suc n) = waited first n + wait_behind first (suc n)
+
+-- where an answer is waited for, the waits behind all sendings but the last one lie between the first sending and the last one
+pub record IsTimed (s : State) : Type 0 where
+  pub some : is_waiting s.phase s.sent ≡ true → 1 ≤ s.wait.sendings
+  pub passed : is_waiting s.phase s.sent ≡ true → s.wait.since + waited s.wait.first (s.wait.sendings - 1) ≤ s.wait.last
+
+-- A line is given up for want of an answer only once there were more sendings than repeats, and all the waits behind them have passed
+-- since the first one.
+pub record PassesAllWaits : Type 0 where
+  pub first : (settings : Settings) (loaded : Loaded) → IsTimed (started settings loaded)
+  pub noted : (s : State) (fix : List ℕ) → IsTimed s → IsTimed (noted s fix)
+  pub lost : (s : State) → IsTimed (down s)
+  pub kept : (s : State) (event : Event) → IsTimed s → IsTimed (rule s event).state
+  pub late : (s : State) (now since at : ℕ) → IsTimed s → (rule s (Tick now)).end ≡ Some (TimedOut since at)
+      → (at ≡ now) × (since ≡ s.wait.since) × (s.wait.repeats < s.wait.sendings) × (since + waited s.wait.first s.wait.sendings ≤ now)

@@ -1,0 +1,19 @@
+//! The terminal's rule: what a terminal keeps, what it does at each event, and the units, waits and messages of which that is
+//! made, over no vault.
+#![tactic(auto)]
+
+mod laws;
+mod queue;
+mod saying;
+mod settings;
+mod state;
+mod units;
+mod waits;
+
+pub use laws::{law_examples, law_forming, law_rule, law_unsaid, law_waits};
+pub use queue::Queue;
+pub use saying::{AUTH, beats, beats_if_silent, lose, now_in, opened, repeats, say_auth, say_unit};
+pub use settings::Settings;
+pub use state::{Acknowledgement, Event, GiveUp, Phase, State, Timing, Wait};
+pub use units::unit_of;
+pub use waits::{begun, has_passed, has_serial};
