@@ -1,0 +1,10 @@
+pub mod Lists
+pub mod Forming
+pub mod Sending
+pub mod Hearing
+pub mod Turning
+pub mod Storing
+pub mod Answering
+pub mod Kept
+pub mod Parts
+pub mod Happening
