@@ -1,7 +1,7 @@
 ghost use Rattle.std.specs.Prelude.{◌<◌, ◌≤◌, length};
 
 use jt_cli::{Outside, Status, run};
-use jt_outside::{MemSink, MemSource};
+use jt_io::{MemSink, MemSource};
 use jt_value::{Memory, Octets, Seq};
 use std::alloc::Global;
 

@@ -2,7 +2,7 @@
 #![tactic(auto)]
 
 use jt_cli::{Outside, Status, run};
-use jt_outside::{StdSink, StdSource};
+use jt_io::{StdSink, StdSource};
 use std::env::Env;
 use std::process::ExitCode;
 use std::{env, io};

@@ -2,14 +2,14 @@
 
 ghost use Rattle.std.specs.Prelude.{◌≡◌, ◌≢◌, ◌⊎◌, ◌^◌, IfSome};
 ghost use Rattle.std.specs.Io.KnownBytes.{IsAtEnd, Appends};
-ghost use Rattle.jt_outside.specs.Count.{Rose};
+ghost use Rattle.jt_io.specs.Count.{Rose};
 ghost use Rattle.jt_world.specs.Claim.{Kept};
 ghost use Rattle.jt_world.specs.Rehearsal.{world_of};
 ghost use Rattle.jt_world.specs.Rehearsing.{PrintsTaken, ReadsNoFurther};
 ghost use Rattle.jt_view.specs.Answer.{IsFault};
 ghost use Rattle.jt_cli.specs.Script.{script_reply, RunsScript};
 
-use jt_outside::{Sink, Source};
+use jt_io::{Sink, Source};
 use jt_view::Status;
 use jt_world::{Rehearsed, rehearse};
 use std::alloc::Global;

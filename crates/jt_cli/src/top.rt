@@ -2,7 +2,7 @@
 
 ghost use Rattle.std.specs.Prelude.{◌≡◌, ◌≢◌, ◌⊎◌, ◌^◌, ℕ, List, None, map, string_bytes, IfSome};
 ghost use Rattle.std.specs.Io.KnownBytes.{IsAtEnd, Appends};
-ghost use Rattle.jt_outside.specs.Count.{Rose};
+ghost use Rattle.jt_io.specs.Count.{Rose};
 ghost use Rattle.jt_view.specs.Answer.{Answers, IsFault, Runs, ReadsNoFurther, PrintsTaken};
 ghost use Rattle.jt_cli.specs.Usage.{usage};
 ghost use Rattle.jt_view.specs.Report.{answer_of};
@@ -18,7 +18,7 @@ ghost use Rattle.jt_view.specs.declared.command.Command.{Command};
 use crate::playing::play;
 use crate::task::Task;
 use crate::usage::push_usage_line;
-use jt_outside::{Sink, Source, write_all};
+use jt_io::{Sink, Source, write_all};
 use jt_view::{Status, report};
 use std::alloc::Global;
 

@@ -1,7 +1,7 @@
 -- What a step of a run wrote.
 use Rattle.std.proofs.Common.{◌≡◌, ◌≤◌, ℕ, ◌+◌, List, [], ◌++◌, Option, Some, None, length, refl, sym, ap, subst, ◌∙◌, arith, inl, inr, append_assoc, append-nil, length-append}
 use Rattle.std.proofs.KnownBytes.{Appends-nil}
-use Rattle.jt_outside.specs.Sink.{AppendsPrefix}
+use Rattle.jt_io.specs.Sink.{AppendsPrefix}
 use Rattle.jt_view.specs.Reply.{Reply}
 use Rattle.jt_view.specs.declared.reporter.Reporter.{Reporter}
 use Rattle.jt_view.specs.declared.status.Status.{Status}

@@ -1,7 +1,7 @@
 -- What a run does with its source and its sink. To be believed.
 use Rattle.std.specs.Prelude.{◌≡◌, ℕ, ◌≤◌, ◌⊎◌, List, ◌++◌, length, Option, None}
 use Rattle.std.specs.Io.KnownBytes.{Appends, Consumes, IsAtEnd}
-use Rattle.jt_outside.specs.Sink.{AppendsPrefix}
+use Rattle.jt_io.specs.Sink.{AppendsPrefix}
 use Rattle.jt_view.specs.Entry.{entries_of, first_refusal}
 use Rattle.jt_view.specs.Report.{decoded, wrong_place, printed}
 use Rattle.jt_view.specs.declared.command.Command.{Command}

@@ -1,7 +1,7 @@
 -- How far a run over a source and a sink has come. A step function for the proofs.
 use Rattle.std.specs.Prelude.{◌≡◌, ℕ, ◌≤◌, ◌⊎◌, List, [], ◌++◌, length, Option, Some, None}
 use Rattle.std.specs.Io.KnownBytes.{Appends}
-use Rattle.jt_outside.specs.Sink.{AppendsPrefix}
+use Rattle.jt_io.specs.Sink.{AppendsPrefix}
 use Rattle.jt_view.specs.Answer.{IsFault}
 use Rattle.jt_view.specs.Report.{answer_of}
 use Rattle.jt_view.specs.Taking.{Stands, printed_of, TakesOn}

@@ -2,7 +2,7 @@
 
 ghost use Rattle.std.specs.Prelude.{◌≡◌, ℕ, Some, ◌≢◌, ◌≤◌, ◌<◌, ◌+◌, ◌^◌, [], None, length, string_bytes, IfOk, IfSome};
 ghost use Rattle.std.specs.Io.KnownBytes.{IsAtEnd};
-ghost use Rattle.jt_outside.specs.Count.{Rose};
+ghost use Rattle.jt_io.specs.Count.{Rose};
 ghost use Rattle.jt_view.specs.Answer.{Runs, ReadsNoFurther, PrintsTaken};
 ghost use Rattle.jt_view.specs.Report.{answer_of};
 ghost use Rattle.jt_view.specs.Running.{Advances, Writes, Steps, Finishes, EndsEarly};
@@ -11,7 +11,7 @@ use crate::command::Command;
 use crate::hex_laws::law_octets_of_front;
 use crate::reporter::Reporter;
 use crate::status::Status;
-use jt_outside::{Got, Sink, Source, write_all};
+use jt_io::{Got, Sink, Source, write_all};
 use jt_stream::law_all_items;
 use jt_value::Memory;
 use std::alloc::Global;

@@ -2,7 +2,7 @@
 use Rattle.std.proofs.Common.{◌≡◌, ◌≤◌, ◌⊎◌, ℕ, List, [], ◌++◌, Option, Some, None, IfSome, length, refl, sym, ap, subst, ◌∙◌, arith, inl, inr, append_assoc, append-nil}
 use Rattle.std.proofs.KnownBytes.{Appends-nil, Appends-trans, Consumes-nil, Consumes-trans, Consumes-kept}
 use Rattle.std.specs.Io.KnownBytes.{Appends, Consumes, Keeps, IsAtEnd}
-use Rattle.jt_outside.specs.Sink.{AppendsPrefix}
+use Rattle.jt_io.specs.Sink.{AppendsPrefix}
 use Rattle.jt_script.specs.Cutter.{begun_of}
 use Rattle.jt_world.specs.declared.rehearsing.Rehearsed.{Rehearsed}
 use Rattle.jt_world.specs.declared.rehearsing.Rehearsed.TheVariants.{ReadFault, BadLine, Memory}

@@ -1,7 +1,7 @@
 -- What a rehearsal over a source and a sink does. To be believed.
 use Rattle.std.specs.Prelude.{◌≡◌, ◌⊎◌, ℕ, ◌+◌, ◌≤◌, List, ◌++◌, length, Option, Some, None}
 use Rattle.std.specs.Io.KnownBytes.{Appends, Consumes, IsAtEnd}
-use Rattle.jt_outside.specs.Sink.{AppendsPrefix}
+use Rattle.jt_io.specs.Sink.{AppendsPrefix}
 use Rattle.jt_world.specs.Claim.{Kept}
 use Rattle.jt_script.specs.Text.{Cuts}
 use Rattle.jt_world.specs.Rehearsal.{Rehearsal, printing, rehearsed, rehearsal, world_of}

@@ -2,7 +2,7 @@
 
 ghost use Rattle.std.specs.Prelude.{◌≡◌, ◌≢◌, ◌≤◌, ◌^◌, ◌⊎◌, ℕ, List, Some, None, string_bytes, IfSome};
 ghost use Rattle.std.specs.Io.KnownBytes.{IsAtEnd, Appends};
-ghost use Rattle.jt_outside.specs.Count.{Rose};
+ghost use Rattle.jt_io.specs.Count.{Rose};
 ghost use Rattle.jt_world.specs.Claim.{Kept};
 ghost use Rattle.jt_world.specs.Rehearsal.{rehearsal, rehearsal_text, world_of};
 ghost use Rattle.jt_world.specs.Rehearsing.{IsFault, PrintsTaken, ReadsNoFurther, Rehearses, ending};
@@ -10,7 +10,7 @@ ghost use Rattle.jt_world.specs.Hearing.{Advances, Finishes};
 
 use crate::laws::law_world;
 use crate::script_run::ScriptRun;
-use jt_outside::{Got, Sink, Source, write_all};
+use jt_io::{Got, Sink, Source, write_all};
 use jt_script::law_lines;
 use jt_value::Memory;
 use std::alloc::Global;

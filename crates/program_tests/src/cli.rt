@@ -1,7 +1,7 @@
 use jt_cli::{Command, Encoding, Outside, Report, Status, Task, refusal_line, run, view_line};
 use jt_codec::read_message;
 use jt_header::read_header;
-use jt_outside::{MemSink, MemSource};
+use jt_io::{MemSink, MemSource};
 use jt_value::{Memory, Octets, Refusal, Seq, Why};
 use std::alloc::{AllocError, Global};
 use std::process::Abort;

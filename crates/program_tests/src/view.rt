@@ -1,4 +1,4 @@
-use jt_outside::{MemSink, MemSource, StdSource};
+use jt_io::{MemSink, MemSource, StdSource};
 use jt_value::{Memory, Octets, Seq};
 use jt_view::{Command, Encoding, Report, Status, report};
 use std::alloc::Global;

@@ -1,4 +1,4 @@
-use jt_outside::{Got, MemSink, MemSource, Put, Sink, Source, StdSink, StdSource, write_all};
+use jt_io::{Got, MemSink, MemSource, Put, Sink, Source, StdSink, StdSource, write_all};
 use jt_value::{Memory, Octets, Seq};
 use std::io;
 use std::io::{ErrorKind, Read};

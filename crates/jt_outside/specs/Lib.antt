@@ -1,6 +1,0 @@
-pub mod Count
-pub mod Source
-pub mod Sink
-pub mod MemSource
-pub mod MemSink
-pub mod Standard
