@@ -9,4 +9,4 @@ mod script;
 pub use event::WorldEvent;
 pub use laws::law_lines;
 pub use line_cutter::{Cut, LineCutter};
-pub use script::{ScriptLine, script_line};
+pub use script::{ScriptLine, number, script_line};

@@ -151,6 +151,7 @@ impl LineCutter {
         ensures lines { (text : List ℕ) (lines : List (List ℕ)) → Cuts text lines (begun_of self.now) →
             lines_of text ≡ lines ++ option_to_list (option_copied result) }
         ensures within { IfSome result (λ line. IsTrue (is_within (self.now.number + 1) line.now)) }
+        ensures line { IfSome result (λ line. line.now ≡ self.now.line) }
     {
         if self.is_whole {
             return None;

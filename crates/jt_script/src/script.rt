@@ -35,7 +35,8 @@ fn is_plain(digits: &[u8]) -> bool
     }
 }
 
-fn number(octets: &[u8], most: u32) -> Option<u32>
+/// The number up to `most` that these octets write in decimal digits, without a sign and without a leading zero.
+pub fn number(octets: &[u8], most: u32) -> Option<u32>
     ensures { Reads decimal (λ number. number ≤ most) octets.now result }
 {
     let Ok(text) = str::from_utf8(octets) else {

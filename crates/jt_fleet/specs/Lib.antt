@@ -1,0 +1,4 @@
+pub mod FleetLines
+pub mod FleetText
+pub mod Naming
+pub mod Reading
