@@ -11,3 +11,4 @@ pub mod Requests
 pub mod Saying
 pub mod Hubs
 pub mod Stepping
+pub mod Hearings
