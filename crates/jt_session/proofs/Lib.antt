@@ -12,3 +12,6 @@ pub mod Saying
 pub mod Hubs
 pub mod Stepping
 pub mod Hearings
+pub mod Givings
+pub mod Servings
+pub mod Closing

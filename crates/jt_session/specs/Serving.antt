@@ -1,5 +1,6 @@
 -- What serving a link is: what was read, asked, answered and written, and why it ended (this project's own). To be believed.
-use Rattle.std.specs.Prelude.{◌≡◌, ◌≢◌, ◌≤◌, ◌⊎◌, ℕ, List, [], ◌∷◌, ◌++◌, length, take, Option, None, Some, IfSome}
+use Rattle.std.specs.Prelude.{◌≡◌, ◌≢◌, ◌≤◌, ◌*◌, ◌⊎◌, ℕ, List, [], ◌∷◌, ◌++◌, length, take, false, Option, None, Some, IfSome}
+use Rattle.jt_value.specs.Octets.{AreOctets}
 use Rattle.std.specs.Io.KnownBytes.{Appends, IsAtEnd}
 use mathlib.Core.List.{IsPrefix}
 use Rattle.jt_io.specs.Count.{Counts, Rose, RoseBy}
@@ -7,6 +8,7 @@ use Rattle.jt_link.specs.Link.{Wire, Gives}
 use Rattle.jt_turn.specs.declared.entry.Entry.{Entry as Turned}
 use Rattle.jt_turn.specs.Passes.{PassState}
 use Rattle.jt_platform.specs.Allowed.{Opening}
+use Rattle.jt_platform.specs.History.{is_close}
 use Rattle.jt_platform.specs.declared.request.Request.{Request}
 use Rattle.jt_platform.specs.declared.request.Request.TheVariants as ask
 use Rattle.jt_platform.specs.declared.request.Reply.{Reply}
@@ -17,8 +19,9 @@ use Rattle.jt_session.specs.declared.end.Fed.{Fed}
 use Rattle.jt_session.specs.declared.end.Fed.TheVariants.{On, Stop}
 use Rattle.jt_session.specs.declared.report.Report.{Report}
 use Rattle.jt_session.specs.Talk.{Talk, at_state, start, talk_from}
-use Rattle.jt_session.specs.Sessions.{Seen, counts, end_of}
-use Rattle.jt_session.specs.Hearing.{Hears, FailedMore, IsFilled, acts_on, last_asked}
+use Rattle.jt_session.specs.Sessions.{Seen, end_of}
+use Rattle.jt_session.specs.Sessions as sessions
+use Rattle.jt_session.specs.Hearing.{Hears, FailedMore, IsFilled, IsSamePass, acts_on, last_asked}
 
 -- Which end is named by how the talk ended, by an answer or not at all. A link's fault may come behind any answer. Where memory was
 -- wanted outside the talk, that goes on still.
@@ -61,6 +64,26 @@ pub record Answers {O : Type 0} (o : Option Opening) (s now : Seen) (octets : Li
   pub faults : Counts link.faults link_now.faults
   pub ended : AnswersEnd count said fed link.faults link_now.faults end
 
+-- How far a link is served, where it is served on. For the proofs.
+pub record Course {O : Type 0} (o : Option Opening) (s now : Seen) (pass pass_now : PassState Request Reply O) (link link_now : Wire) (so_far answered quiets : ℕ) : Type 0 where
+  pub taken : List ℕ
+  pub said : List ℕ
+  pub hears : Hears o s now taken pass pass_now [] said On
+  pub are : AreOctets taken
+  pub gives : Gives link.inbound link_now.inbound taken
+  pub read : so_far ≡ length taken
+  pub writes : Appends link.written link_now.written said
+  pub written : answered ≡ length said
+  pub short : answered ≤ 4184 * so_far
+  pub place : now.stream.place ≤ so_far
+  pub waits : now.waiting ≡ None
+  pub on : now.over ≡ false
+  pub same : IsSamePass pass pass_now
+  pub faults : Counts link.faults link_now.faults
+  pub counts : Counts link.inbound.quiets link_now.inbound.quiets
+  pub rose : RoseBy quiets link.inbound.quiets link_now.inbound.quiets
+  pub run : quiets ≤ link_now.inbound.run
+
 -- the session served the link up to its Close
 pub record Converses {O : Type 0} (o : Option Opening) (octets : ℕ) (s now : Seen) (pass pass_now : PassState Request Reply O) (link link_now : Wire) (read written : ℕ) (end : End) : Type 0 where
   pub taken : List ℕ
@@ -86,6 +109,35 @@ newest_reply (pair ∷ older) = Some pair.1
 abbrev pub close_of : ℕ → Turned Request Reply
 close_of number = record { number = number; ask = ask.Close; answer = say.Accepted }
 
+-- no request is a Close
+abbrev pub AreNoCloses : List (Request × Reply) → Type 0
+AreNoCloses [] = Unit {0}
+AreNoCloses (pair ∷ older) = (is_close pair.0 ≡ false) × AreNoCloses older
+
+-- A link was served up to the Close, whose entry is still to be made. For the proofs.
+pub record ServesUpTo {O : Type 0} (o : Option Opening) (octets : ℕ) (pass pass_now : PassState Request Reply O) (link link_now : Wire) (report : Report) : Type 0 where
+  pub taken : List ℕ
+  pub asked : List (Request × Reply)
+  pub said : List ℕ
+  pub talk : Talk taken asked said
+  pub gives : Gives link.inbound link_now.inbound taken
+  pub read : report.read ≡ length taken
+  pub within : length taken ≤ octets
+  pub wrote : List ℕ
+  pub writes : Appends link.written link_now.written wrote
+  pub written : report.written ≡ length wrote
+  pub front : IsPrefix wrote said
+  pub whole : report.end ≢ ends.LinkFault → wrote ≡ said
+  pub entries : pass_now.mine ≡ pass.mine ++ acts_on pass.number asked
+  pub closes : AreNoCloses asked
+  pub session : report.session ≡ pass.number
+  pub counted : (report.frames, report.refused, report.dropped) ≡ sessions.counts (talk_from (at_state start) talk.turns).state
+  pub cause : HasCause report.end octets report.read link link_now pass pass_now
+  pub named : Names report.end (end_of talk.turns)
+  pub fenced : (other : ℕ) → (report.end ≡ ends.Fenced other → newest_reply asked ≡ Some (say.Fenced other))
+      × (newest_reply asked ≡ Some (say.Fenced other) → (report.end ≡ ends.Fenced other) ⊎ (report.end ≡ ends.LinkFault))
+  pub full : (l : ℕ) → report.end ≡ ends.ListFull l → IfSome o (λ o. IsFilled o pass_now.seen (last_asked (at_state start) talk.turns) l)
+
 -- A link was served by a pass: the octets taken from it, the pass's new entries and what was to be written are a talk and its Close, which
 -- was written, or its front where the link failed; the report's numbers are those of the talk; and its end has its cause.
 pub record Serves {O : Type 0} (o : Option Opening) (octets : ℕ) (pass pass_now : PassState Request Reply O) (link link_now : Wire) (report : Report) : Type 0 where
@@ -105,7 +157,7 @@ pub record Serves {O : Type 0} (o : Option Opening) (octets : ℕ) (pass pass_no
   pub whole : report.end ≢ ends.LinkFault → wrote ≡ said
   pub entries : pass_now.mine ≡ acts_on pass.number asked ++ close_of pass.number ∷ []
   pub session : report.session ≡ pass.number
-  pub counted : (report.frames, report.refused, report.dropped) ≡ counts (talk_from (at_state start) talk.turns).state
+  pub counted : (report.frames, report.refused, report.dropped) ≡ sessions.counts (talk_from (at_state start) talk.turns).state
   pub cause : HasCause report.end octets report.read link link_now pass pass_now
   pub named : Names report.end (end_of talk.turns)
   -- Fenced exactly where the last entry before the Close is so answered, but for a fault of the link

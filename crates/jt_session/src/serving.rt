@@ -5,7 +5,7 @@ ghost use Rattle.jt_link.specs.Link.{wire_of};
 ghost use Rattle.jt_platform.specs.Hub.{opening_of};
 ghost use Rattle.jt_session.specs.TurnLaw.{IsNew};
 ghost use Rattle.jt_session.specs.Hearing.{IsSamePass};
-ghost use Rattle.jt_session.specs.Serving.{Answers, Converses, Serves};
+ghost use Rattle.jt_session.specs.Serving.{Answers, Converses, Serves, ServesUpTo};
 
 use crate::counts::Counts;
 use crate::end::{End, Fed};
@@ -146,7 +146,10 @@ fn serve_open<R: Wait, K: Link, P: Keeper>(
     requires turn { pass.old.turn ≡ turn.now }
     requires opening { IsSome pass.old.opening }
     requires octets { (1 ≤ octets) × (octets ≤ 2 ^ 40) }
+    ensures serves { ServesUpTo (option_map (λ o. opening_of (P.tables o.start) (P.limit o.start) o.fleet o.secret) pass.old.opening) octets pass.old pass.new (wire_of K.inbound K.written K.faults link.old) (wire_of K.inbound K.written K.faults link.new) result }
+    ensures same { IsSamePass pass.old pass.new }
 {
+    law_frames();
     let number = pass.number();
     let Ok(mut session) = Session::new(alloc, number) else {
         return Report {
