@@ -64,7 +64,7 @@ way_on k item asked (Goes (Some r)) e on = absurd (false≢true e)
 way_on k item asked (Stops None) e on = absurd (false≢true (sym on ∙ stops_over k item asked))
 way_on k item asked (Stops (Some r)) e on = absurd (false≢true e)
 
-on_end : (k : Talked) (turns : List Turn) → AreUnasked turns → (talk_from k turns).over ≡ false → On ≡ end_of turns
+pub on_end : (k : Talked) (turns : List Turn) → AreUnasked turns → (talk_from k turns).over ≡ false → On ≡ end_of turns
 on_end k [] are on = refl
 on_end k (t ∷ older) are on = way_on (talk_from k older) t.item (asks (talk_from k older).state t.item) t.way are.0 on
 
@@ -74,7 +74,7 @@ way_short k item asked (Goes (Some r)) e on over = absurd (false≢true e)
 way_short k item asked (Stops None) e on over = refl
 way_short k item asked (Stops (Some r)) e on over = absurd (false≢true e)
 
-short_end : (k : Talked) (turns : List Turn) → FitsFrom k turns → AreUnasked turns → k.over ≡ false → (talk_from k turns).over ≡ true → Stop ends.Memory ≡ end_of turns
+pub short_end : (k : Talked) (turns : List Turn) → FitsFrom k turns → AreUnasked turns → k.over ≡ false → (talk_from k turns).over ≡ true → Stop ends.Memory ≡ end_of turns
 short_end k [] fits are on over = absurd (false≢true (sym on ∙ over))
 short_end k (t ∷ older) fits are on over = way_short (talk_from k older) t.item (asks (talk_from k older).state t.item) t.way are.0 fits.0 over
 
@@ -117,7 +117,7 @@ may_by : (b : Bool) (o : Opening) (h : List Entry) (n : ℕ) (q : Request) (r : 
 may_by true o h n q r e allowed = allowed (not_trouble r e)
 may_by false o h n q r e allowed = allowed
 
-end_way : (b : Bool) (r : Reply) → fed_by r ≡ end_by (if b then Goes (Some r) else Stops (Some r))
+pub end_way : (b : Bool) (r : Reply) → fed_by r ≡ end_by (if b then Goes (Some r) else Stops (Some r))
 end_way true r = refl
 end_way false r = refl
 
@@ -231,7 +231,7 @@ reply_room o h session q say.Memory allowed = tt
 
 -- ---- the request that waits
 
-waits_for : (w : Option Unplaced) (P : Unplaced → Type 0) → IsSomeAnd w P → (item : Unplaced) × (w ≡ Some item) × P item
+pub waits_for : (w : Option Unplaced) (P : Unplaced → Type 0) → IsSomeAnd w P → (item : Unplaced) × (w ≡ Some item) × P item
 waits_for None P waits = absurd waits
 waits_for (Some item) P waits = (item, refl, waits)
 

@@ -103,11 +103,15 @@ module _ (s mid now : Seen) (a b : List ℕ) (older newer : List Turn) (first : 
   abbrev j : Talked
   j = talk_from (before mid) newer
 
-  at_mid : onto k (before mid) ≡ k
+  pub at_mid : onto k (before mid) ≡ k
   at_mid =
       ap (λ w. record { state = mid.state; entries = k.entries; written = w; over = mid.over }) (append-nil k.written)
       ∙ (ap (λ state. record { state = state; entries = k.entries; written = k.written; over = mid.over }) (first.state (not_short (before s) older (sym first.over ∙ on)))
       ∙ ap (λ over. record { state = k.state; entries = k.entries; written = k.written; over = over }) first.over)
+
+  -- turns behind the older ones see the state that they see alone
+  pub state_behind : (rest : List Turn) → (talk_from (before s) (rest ++ older)).state ≡ (talk_from (before mid) rest).state
+  state_behind rest = ap (λ (x : Talked). x.state) (talk_append (before s) rest older ∙ (ap (λ x. talk_from x rest) (sym at_mid) ∙ talk_onto k (before mid) rest))
 
   pub both_talk : talk_from (before s) (newer ++ older) ≡ onto k j
   both_talk = talk_append (before s) newer older ∙ (ap (λ x. talk_from x newer) (sym at_mid) ∙ talk_onto k (before mid) newer)
@@ -135,7 +139,7 @@ module _ (s mid now : Seen) (a b : List ℕ) (older newer : List Turn) (first : 
 
 -- ---- over a hub
 
-end_append : (newer older : List Turn) → end_of older ≡ On → end_of (newer ++ older) ≡ end_of newer
+pub end_append : (newer older : List Turn) → end_of older ≡ On → end_of (newer ++ older) ≡ end_of newer
 end_append [] older on = on
 end_append (t ∷ newer) older on = refl
 

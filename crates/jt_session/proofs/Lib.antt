@@ -11,3 +11,7 @@ pub mod Requests
 pub mod Saying
 pub mod Hubs
 pub mod Stepping
+pub mod Hearings
+pub mod Givings
+pub mod Servings
+pub mod Closing

@@ -31,14 +31,14 @@ turns_beyond front s now a b turns over went = record {
 }
 
 -- all items, or the session is over
-all_or_over : (over : Bool) (rest : List Unplaced) (k : Talked) → (over ≡ false → rest ≡ []) → over ≡ k.over → (rest ≡ []) ⊎ (k.over ≡ true)
+pub all_or_over : (over : Bool) (rest : List Unplaced) (k : Talked) → (over ≡ false → rest ≡ []) → over ≡ k.over → (rest ≡ []) ⊎ (k.over ≡ true)
 all_or_over true rest k all is = inr (sym is)
 all_or_over false rest k all is = inl (all refl)
 
-begun : (s : Seen) → IsNew s → before s ≡ at_state start
+pub begun : (s : Seen) → IsNew s → before s ≡ at_state start
 begun s new = ap (λ state. record { state = state; entries = []; written = []; over = s.over }) new.state ∙ ap (λ over. record { state = start; entries = []; written = []; over = over }) new.over
 
-no_octets : AreOctets []
+pub no_octets : AreOctets []
 no_octets place = omega arith
 
 pub is_talk : items [] ≡ [] → (s now : Seen) (read : List ℕ) (turns : List Turn) → IsNew s → now.waiting ≡ None → Turns s now read turns → Talk read (talk_from (before s) turns).entries (talk_from (before s) turns).written

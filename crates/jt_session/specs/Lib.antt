@@ -7,3 +7,5 @@ pub mod Law
 pub mod Reading
 pub mod TurnLaw
 pub mod AnswerLaw
+pub mod Hearing
+pub mod Serving

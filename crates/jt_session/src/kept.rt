@@ -155,6 +155,7 @@ impl Kept {
         requires room { 2092 ≤ out.old.spare }
         ensures state { self.new ≡ record self.old { serial = (self.old.serial + 1) % 65536 } }
         ensures out { out.new.items ≡ out.old.items ++ framed (content_of (header_to self.old header.now id) body.now) }
+        ensures bound { length out.new.items ≤ length out.old.items + 2092 }
     {
         let answer = Header {
             edition: header.edition,
@@ -177,6 +178,7 @@ impl Kept {
         requires room { 2092 ≤ out.old.spare }
         ensures state { self.new ≡ (saying self.old header.now (Some (ack header.now outcome))).state }
         ensures out { out.new.items ≡ out.old.items ++ frame_said (saying self.old header.now (Some (ack header.now outcome))).says }
+        ensures bound { length out.new.items ≤ length out.old.items + 2092 }
     {
         let body = ack_body(header, outcome);
         self.say(header, PLATFORM_ACK, body.as_slice(), out);
@@ -196,6 +198,7 @@ impl Kept {
         requires outcome { (outcome ≡ 0) ⊎ (code.now ≡ []) }
         ensures state { self.new ≡ (saying self.old header.now (Some (register_reply header.now outcome code.now))).state }
         ensures out { out.new.items ≡ out.old.items ++ frame_said (saying self.old header.now (Some (register_reply header.now outcome code.now))).says }
+        ensures bound { length out.new.items ≤ length out.old.items + 2092 }
     {
         let body = register_body(header, outcome, code);
         self.say(header, REGISTER_REPLY, body.as_slice(), out);
@@ -208,6 +211,7 @@ impl Kept {
         requires code { HasRoomFor reply.now }
         ensures state { self.new ≡ (saying self.old header.now (answer_to header.now reply.now)).state }
         ensures out { out.new.items ≡ out.old.items ++ frame_said (saying self.old header.now (answer_to header.now reply.now)).says }
+        ensures bound { length out.new.items ≤ length out.old.items + 2092 }
     {
         match reply {
             Reply::Registered(code) => {

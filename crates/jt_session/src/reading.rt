@@ -110,6 +110,7 @@ impl Kept {
         requires room { 2092 ≤ out.old.spare }
         ensures state { self.new ≡ (refuses self.old header.now).state }
         ensures out { out.new.items ≡ out.old.items ++ frame_said (refuses self.old header.now).says }
+        ensures bound { length out.new.items ≤ length out.old.items + 2092 }
     {
         self.refused += 1;
         self.acknowledge(header, MESSAGE_ERROR, out);
@@ -131,6 +132,7 @@ impl Kept {
         ensures came { CameTo (asked_by (Some (header.now, body.now))) (Some (header.now, body.now)) (record self.old { dropped = self.old.dropped + one_if dropped }) (refuses (record self.old { dropped = self.old.dropped + one_if dropped }) header.now) self.old self.new out.old.items out.new.items out.new.spare result }
         ensures few { IsOneMore (record self.old { frames = self.new.frames }) self.new }
         ensures frames { self.new.frames ≡ self.old.frames }
+        ensures bound { length out.new.items ≤ length out.old.items + 2092 }
     {
         match request_of(alloc, header, body) {
             Ok(Some(request)) => {
@@ -162,6 +164,7 @@ impl Kept {
         ensures came { CameTo (asked_by (joined self.old header.now body.now)) (joined self.old header.now body.now) (takes_in self.old header.now body.now) (answers_packet (takes_in self.old header.now body.now) header.now (taken_by self.old.partial header.now body.now).fate) self.old self.new out.old.items out.new.items out.new.spare result }
         ensures few { IsOneMore (record self.old { frames = self.new.frames }) self.new }
         ensures frames { self.new.frames ≡ self.old.frames }
+        ensures bound { length out.new.items ≤ length out.old.items + 2092 }
     {
         let Ok(taken) = self.assembler.take(header, body) else {
             return Came::Memory;
@@ -209,6 +212,7 @@ impl Kept {
         requires room { 2092 ≤ out.old.spare }
         ensures came { CameTo (asked_by (message_of self.old header.now body.now header.now.packet)) (message_of self.old header.now body.now header.now.packet) (reads_on self.old header.now body.now header.now.packet) (quiet_own self.old header.now body.now header.now.packet) (stopped self.old (Frame header.now body.now)) self.new out.old.items out.new.items out.new.spare result }
         ensures few { IsOneMore self.old self.new }
+        ensures bound { length out.new.items ≤ length out.old.items + 2092 }
     {
         self.note(header);
         match header.packet {
@@ -231,6 +235,7 @@ impl Kept {
         requires room { 2092 ≤ out.old.spare }
         ensures came { FrameCame self.old self.new header.now body.now out.old.items out.new.items out.new.spare result }
         ensures few { IsOneMore self.old self.new }
+        ensures bound { length out.new.items ≤ length out.old.items + 2092 }
     {
         if self.is_own(&header.phone) {
             return self.take_own(alloc, header, body, out);
@@ -247,6 +252,7 @@ fn read_frame(alloc: Global, stream: &Stream, kept: &mut Kept, out: &mut Buffer<
     requires found { IsTrue stream.now.found }
     ensures came { FrameCame kept.old kept.new (header_at stream.now.splitter.content) (body_at stream.now.splitter.content) out.old.items out.new.items out.new.spare result }
     ensures few { IsOneMore kept.old kept.new }
+    ensures bound { length out.new.items ≤ length out.old.items + 2092 }
 {
     let Some((_, header, body)) = stream.frame() else {
         unreachable!();
@@ -274,6 +280,7 @@ pub(crate) fn read_item(
     ensures place { stream.new.splitter.place ≡ stream.old.splitter.place + result.0 }
     ensures came { OctetsCame stream.old.splitter stream.new.splitter (take result.0 octets.now) kept.old kept.new out.old.items out.new.items out.new.spare result.1 }
     ensures few { IsOneMore kept.old kept.new }
+    ensures bound { length out.new.items ≤ length out.old.items + 2092 }
 {
     law_one_list();
     law_items();

@@ -1,6 +1,6 @@
 //! A session: items in, requests and answers out.
 
-ghost use Rattle.std.specs.Prelude.{◌≡◌, ◌≤◌, ◌<◌, ◌+◌, ◌^◌, ◌↔◌, [], false, Some, None, IfOk, IfSome, IsSome, length, take};
+ghost use Rattle.std.specs.Prelude.{◌≡◌, ◌≤◌, ◌<◌, ◌+◌, ◌*◌, ◌^◌, ◌↔◌, [], false, Some, None, IfOk, IfSome, IsSome, length, take};
 ghost use Rattle.jt_escape.specs.Splitter.{StandsFor};
 ghost use Rattle.jt_session.specs.Talk.{start};
 ghost use Rattle.jt_session.specs.Replies.{HasRoomFor};
@@ -132,6 +132,7 @@ impl Session {
         ensures goes { GoesOn self.old self.new (take result.0 octets.now) out.old.items out.new.items }
         ensures led { LedTo self.new result.1 }
         ensures room { HasRoom out.new.spare result.1 }
+        ensures bound { length out.new.items ≤ length out.old.items + 2092 }
     {
         self.before = Snapshot::of(&self.kept);
         let (count, came) = read_item(self.alloc, &mut self.stream, &mut self.kept, octets, out);
@@ -164,6 +165,7 @@ impl Session {
         ensures turns { Takes self.old self.new (take result.0 octets.now) out.old.items out.new.items }
         ensures led { LedTo self.new result.1 }
         ensures room { HasRoom out.new.spare result.1 }
+        ensures bound { length out.new.items ≤ length out.old.items + 2092 * result.0 }
     {
         let mut taken = 0;
         while taken < octets.len() {
@@ -191,6 +193,7 @@ impl Session {
         ensures on { (result ≡ Fed.On) ↔ (self.new.over ≡ false) }
         ensures waiting { self.new.waiting ≡ None }
         ensures place { self.new.stream.place ≡ self.old.stream.place }
+        ensures bound { length out.new.items ≤ length out.old.items + 2092 }
     {
         let Some(header) = self.waiting else {
             unreachable!();

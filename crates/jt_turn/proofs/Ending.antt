@@ -137,5 +137,6 @@ module _ {D A B O : Type 0} (history_of : D → List (Entry A B)) (faults_of : D
               (λ i l at' e. ne (sym (ap (λ (z : Known A B O). z.number) (same i l at') ∙ e)))
               (λ m e at'. unended m e (subst (λ l. get_elem? l m ≡ some e) (sym root.0) at'));
           faults = omega arith;
+          count = omega (arith, f.faults);
         },
       )

@@ -74,7 +74,7 @@ module _ {D A B O : Type 0} (history_of : D → List (Entry A B)) (faults_of : D
               seen = f.seen;
               heard = fl.seen;
               mine = f.mine;
-              faults = f.faults;
+              faults = omega (arith, f.faults, fl.faults);
               ticket = f.ticket;
               turn = f.turn;
               below = f.below;

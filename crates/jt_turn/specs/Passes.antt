@@ -10,7 +10,7 @@ TurnId = TableId
 
 -- turn: which turn it is a pass of. number: whose entries its acts make. opening, base: what no act changes of the desk, and
 -- its count of faults, when the turn began. seen: what it has seen, a front of the history. mine: the history's entries of
--- its number. faults: the count when it last acted. found, found_faults: the history and the count that its last act found.
+-- its number. faults: the count when it last acted, or a pass that was joined into it. found, found_faults: the history and the count that its last act found.
 -- failed: how many acts raised the count, its own and those of passes that were joined into it. ended: number and entries of
 -- each pass that was joined into it, in that order. lent: how many passes it gave that were not joined. given: the greatest
 -- number that it gave, at first 0.

@@ -1,7 +1,7 @@
 -- The rule of the table that carries a turn, and what its steps tell. For the proofs; no public clause cites it.
 -- The first word is the next ticket to be drawn, the second the ticket that is served, both modulo 2^64. The words behind them,
 -- at which callers sleep, never change. The slot holds the desk. A view is `None` once its pass was joined, and no fact speaks of it.
-use Rattle.std.specs.Prelude.{◌≡◌, ◌≢◌, ◌++◌, ◌-◌, ℕ, ◌+◌, ◌%◌, ◌^◌, ◌≤◌, ◌<◌, ◌==◌, true, false, if◌then◌else◌, List, [], ◌∷◌, length, sum_by, MatchBool, Option, Some, None, IfSome}
+use Rattle.std.specs.Prelude.{◌≡◌, ◌≢◌, ◌++◌, ◌-◌, ℕ, ◌+◌, ◌%◌, ◌^◌, ◌≤◌, ◌<◌, ◌==◌, true, false, if◌then◌else◌, List, [], ◌∷◌, length, sum_by, max, MatchBool, Option, Some, None, IfSome}
 use Rattle.atomic_table.specs.Table.{State, Me, Step}
 use Rattle.jt_turn.specs.declared.entry.Entry.{Entry}
 use Rattle.jt_turn.specs.declared.entry.Ended.{Ended}
@@ -62,7 +62,7 @@ module _ {A B O : Type 0} where
 
   -- what a pass knows after it took in another
   abbrev pub takes_in : Known A B O → Known A B O → Known A B O
-  takes_in k l = record k { heard = l.seen; failed = k.failed + l.failed; ended = k.ended ++ record { number = l.number; mine = l.mine } ∷ []; lent = k.lent - 1; lent_before = k.lent }
+  takes_in k l = record k { heard = l.seen; faults = max k.faults l.faults; failed = k.failed + l.failed; ended = k.ended ++ record { number = l.number; mine = l.mine } ∷ []; lent = k.lent - 1; lent_before = k.lent }
 
   abbrev pub hears : Known A B O → Known A B O
   hears k = record k { seen = longer k.seen k.heard }
@@ -183,3 +183,4 @@ module _ {D A B O : Type 0} (history_of : D → List (Entry A B)) (faults_of : D
     pub ended : HasEach (history_of d) k.ended
     pub others : (n : ℕ) → n ≢ k.number → IsNoneOf n k.ended → entries_of n (history_of d) ≡ []
     pub faults : k.base + k.failed ≤ faults_of d
+    pub count : k.faults ≤ faults_of d

@@ -1,5 +1,7 @@
 //! What a caller shows to act.
 
+ghost use Rattle.std.specs.Prelude.{◌≡◌};
+
 use crate::desk::Desk;
 use crate::known::Known;
 use atomic_table::Seat;
@@ -22,4 +24,13 @@ impl<D: Desk> Model for Pass<D> {
     ghost view = { λ pass. told D.blank pass.seat.table_id pass.seat.me.0 };
 
     ghost invariant = { λ pass. PassOk pass.number pass.seat.me };
+}
+
+impl<D: Desk> Pass<D> {
+    /// The number under which it acts.
+    pub fn number(&self) -> u32
+        ensures { result ≡ self.now.number }
+    {
+        self.number
+    }
 }

@@ -1,6 +1,6 @@
 //! The turn: who comes to the desk, and what each caller then knows.
 
-ghost use Rattle.std.specs.Prelude.{◌≡◌, ◌≢◌, ◌≤◌, ◌<◌, ◌+◌, ◌++◌, ◌%◌, ◌^◌, ◌==◌, if◌then◌else◌, ℕ, [], ◌∷◌, Some, IfOk, IfErr, OnOk, OnErr, IfSome, true, false};
+ghost use Rattle.std.specs.Prelude.{◌≡◌, ◌≢◌, ◌≤◌, ◌<◌, ◌+◌, ◌++◌, ◌%◌, ◌^◌, ◌==◌, if◌then◌else◌, ℕ, [], ◌∷◌, max, Some, IfOk, IfErr, OnOk, OnErr, IfSome, true, false};
 ghost use Rattle.jt_turn.specs.Histories.{entries_of, entry_if, longer, HasEach, IsNoneOf};
 ghost use Rattle.jt_turn.specs.Seats.{Waits, Took, Acts};
 ghost use Rattle.jt_turn.specs.Rules.{taking, Meets};
@@ -157,8 +157,9 @@ impl<D: Desk> Turn<D> {
         ensures begins { IsPrefix pass.old.seen pass.new.seen × IsPrefix other.seen pass.new.seen }
         ensures ended { pass.new.ended ≡ pass.old.ended ++ record { number = other.number; mine = other.mine } ∷ [] }
         ensures failed { pass.new.failed ≡ pass.old.failed + other.failed }
+        ensures faults { pass.new.faults ≡ max pass.old.faults other.faults }
         ensures lent { pass.old.lent ≡ pass.new.lent + 1 }
-        ensures stays { (pass.new.turn ≡ pass.old.turn) × (pass.new.number ≡ pass.old.number) × (pass.new.mine ≡ pass.old.mine) × (pass.new.opening ≡ pass.old.opening) × (pass.new.base ≡ pass.old.base) × (pass.new.faults ≡ pass.old.faults) × (pass.new.given ≡ pass.old.given) }
+        ensures stays { (pass.new.turn ≡ pass.old.turn) × (pass.new.number ≡ pass.old.number) × (pass.new.mine ≡ pass.old.mine) × (pass.new.opening ≡ pass.old.opening) × (pass.new.base ≡ pass.old.base) × (pass.new.given ≡ pass.old.given) }
     {
         let Pass { seat, number: _ } = other;
         self.table.shared.join_seat::<TakesIn>(&mut pass.seat, seat);
@@ -176,6 +177,7 @@ impl<D: Desk> Turn<D> {
         ensures ended { HasEach (D.history result) pass.ended }
         ensures others { (n : ℕ) → n ≢ pass.number → IsNoneOf n pass.ended → entries_of n (D.history result) ≡ [] }
         ensures faults { pass.base + pass.failed ≤ D.faults result }
+        ensures count { pass.faults ≤ D.faults result }
     {
         let Turn { table } = self;
         let Pass { seat, number: _ } = pass;

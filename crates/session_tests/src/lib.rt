@@ -9,3 +9,5 @@ mod ends;
 mod rows;
 #[cfg(test)]
 mod running;
+#[cfg(test)]
+mod serving;

@@ -11,6 +11,7 @@ loop-taken-preserved c =
       on = led.1;
       place = omega (arith, c.next-count.ensures.place, c.loop-taken.invariant.place);
       turns = takes_more c.args.self.now c.loop-taken.self c.next-count.new.self c.args.octets.now c.loop-taken.taken c.next-count.result.0 c.args.out.now.items c.loop-taken.out.items c.next-count.new.out.items (λ i. omega (arith, c.type_inv.octets i)) c.loop-taken.invariant.turns c.next-count.ensures.goes;
+      bound = omega (arith, c.next-count.ensures.bound, c.next-count.ensures.some, c.loop-taken.invariant.bound);
     }
 
 pub returns-in-Ask-clause-turns : goal.returns-in-Ask-clause-turns

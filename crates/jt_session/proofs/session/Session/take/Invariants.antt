@@ -1,4 +1,4 @@
-use Rattle.std.proofs.Common.{◌≡◌, ◌≤◌, ◌+◌, ◌-◌, None, false, length, take}
+use Rattle.std.proofs.Common.{◌≡◌, ◌≤◌, ◌+◌, ◌-◌, ◌*◌, None, false, length, take}
 use Rattle.jt_session.specs.Sessions.{Takes}
 use Rattle.jt_session.proofs.session.Session.take.Given as goal
 
@@ -9,6 +9,7 @@ invariant-loop-taken l = record {
   on : l.self.over ≡ false;
   place : l.self.stream.place ≡ l.fn.self.stream.place + l.taken;
   turns : Takes l.fn.self l.self (take l.taken l.octets) l.fn.out.items l.out.items;
+  bound : length l.out.items ≤ length l.fn.out.items + 2092 * l.taken;
 }
 
 abbrev pub decreases-loop-taken : goal.decreases-loop-taken

@@ -61,3 +61,11 @@ returns-clause-faults g c =
     let done = closes g.D.Desk.history g.D.Desk.faults g.D.Desk.opening c.pass.inside.seat.id i.0 _ _ (rw i.1 at c.close_with-closed.ensures.values.2) (sym (ap (λ k. k.number) before) ∙ c.requires.root) (sym (ap (λ k. k.lent) before) ∙ c.requires.joined) i.4 in
     let same : done.0 ≡ c.in-Some.desk = same_some (sym (some-injective _ _ (sym c.take-slot.ensures.value ∙ done.1)) ∙ c.in-Some.is) in
     rw before (subst (λ d. Closes g.D.Desk.history g.D.Desk.faults g.D.Desk.opening i.0 d) same done.2).faults
+
+pub returns-clause-count : goal.returns-clause-count
+returns-clause-count g c =
+    let i = c.pass.invariant.known in
+    let before = sym c.pass.view_is ∙ ap (λ m. told g.D.Desk.blank c.pass.inside.seat.table_id m.0) i.1 in
+    let done = closes g.D.Desk.history g.D.Desk.faults g.D.Desk.opening c.pass.inside.seat.id i.0 _ _ (rw i.1 at c.close_with-closed.ensures.values.2) (sym (ap (λ k. k.number) before) ∙ c.requires.root) (sym (ap (λ k. k.lent) before) ∙ c.requires.joined) i.4 in
+    let same : done.0 ≡ c.in-Some.desk = same_some (sym (some-injective _ _ (sym c.take-slot.ensures.value ∙ done.1)) ∙ c.in-Some.is) in
+    rw before (subst (λ d. Closes g.D.Desk.history g.D.Desk.faults g.D.Desk.opening i.0 d) same done.2).count
