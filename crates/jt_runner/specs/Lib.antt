@@ -1,2 +1,4 @@
 pub mod Reply
 pub mod Answer
+pub mod Telling
+pub mod Running
