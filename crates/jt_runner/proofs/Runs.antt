@@ -97,7 +97,13 @@ module _ {A : Type 0} (answer : A → List ℕ → Reply) (asked : A) where
           ]
           );
     };
-    holds = inr final.told;
+    holds = inr (
+      final.told,
+      elim final.after [
+        | inl end ↦ inl end
+        | inr all ↦ inr (λ rest. (all rest).1)
+      ],
+    );
   }
 
   whole_of : (HasTold : A → List ℕ → Type 0) (octets rest written_text : List ℕ) (written written_end : Option (List ℕ)) (status : Status) (taken text : List ℕ)

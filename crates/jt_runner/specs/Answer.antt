@@ -59,10 +59,14 @@ pub record Runs (answer : List ℕ → Reply) (left left_now old now : Option (L
   pub answers : Answers status (answer taken) old now
   pub settled : IsFault status ⊎ IsSettled answer left_now taken
 
+-- this holds of the octets that were taken, and of them and all that could follow them, or none follows
+abbrev pub HoldsOf : (List ℕ → Type 0) → Option (List ℕ) → List ℕ → Type 0
+HoldsOf Holds left taken = Holds taken × (IsAtEnd left ⊎ ((rest : List ℕ) → Holds (taken ++ rest)))
+
 -- The same, and what holds of the octets that were taken, where the run had no fault.
 pub record RunsTelling (answer : List ℕ → Reply) (Holds : List ℕ → Type 0) (left left_now old now : Option (List ℕ)) (status : Status) : Type 0 where
   pub runs : Runs answer left left_now old now status
-  pub holds : IsFault status ⊎ Holds runs.taken
+  pub holds : IsFault status ⊎ HoldsOf Holds left_now runs.taken
 
 -- the run had no fault and wrote the whole answer to these octets, of which this holds
 abbrev pub AnswersWhole : (List ℕ → Reply) → (List ℕ → Type 0) → Status → Option (List ℕ) → Option (List ℕ) → List ℕ → Type 0

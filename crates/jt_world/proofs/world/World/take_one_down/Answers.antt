@@ -2,7 +2,7 @@ use Rattle.std.proofs.Common.{ap, ◌∙◌}
 use Rattle.jt_world.specs.World.{World, Wire, completed, moved}
 use Rattle.jt_world.specs.Events.{heard, moved_down}
 use Rattle.jt_world.specs.Holding.{Looked, world_of}
-use Rattle.jt_world.proofs.world.World.hear.Goals as goal
+use Rattle.jt_world.proofs.world.World.take_one_down.Goals as goal
 
 pub returns-clause-ok : goal.returns-clause-ok
 returns-clause-ok c =
