@@ -5,7 +5,7 @@ use Rattle.std.proofs.lemmas.Grind.{flat_map-append}
 use Rattle.std.proofs.lemmas.List.{take-append-drop, take_all}
 use Rattle.std.specs.List.{flat_map, position}
 use Rattle.jt_script.specs.Text.{IsLine, terminated, Cuts, lines_of, is_within}
-use Rattle.jt_script.specs.Cutter.{Held, Takes, IsBeyond, begun_of, begun_line}
+use Rattle.jt_script.specs.Cutter.{Held, Takes, IsBegun, IsBeyond, begun_of, begun_line}
 use Rattle.jt_script.proofs.Lacking.{Lacks-append, front_before, lacks_all}
 use Rattle.jt_script.proofs.Lines.{AreLines-append, lines_of-front, lines_of-unfinished, some_line, long_line}
 
@@ -32,6 +32,10 @@ cuts_line text begun front lines cuts h = record {
   each = AreLines-append lines ((begun ++ front) ∷ []) cuts.each (Lacks-append 10 begun front cuts.unfinished h, tt);
   unfinished = tt;
 }
+
+-- nothing was taken
+pub begun_same : (old new : Held) → begun_of new ≡ begun_of old → new.number ≡ old.number → IsBegun old → IsBegun new
+begun_same old new same number begun = rw (same, number) begun
 
 -- a line past the last of the limit
 pub late : (held : Held) (octets : List ℕ) → held.number ≡ 10000000 → 0 < length octets → IsBeyond held octets

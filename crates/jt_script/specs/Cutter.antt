@@ -1,5 +1,5 @@
 -- What a cutter of lines holds, and what its calls tell. To be believed.
-use Rattle.std.specs.Prelude.{◌≡◌, ℕ, ◌+◌, ◌-◌, ◌*◌, Bool, true, false, List, [], ◌∷◌, ◌++◌, length}
+use Rattle.std.specs.Prelude.{◌≡◌, ℕ, ◌<◌, ◌+◌, ◌-◌, ◌*◌, Bool, true, false, IsTrue, List, [], ◌∷◌, ◌++◌, length}
 use Rattle.jt_script.specs.Text.{Cuts, lines_of, is_within}
 use Rattle.jt_script.specs.declared.line_cutter.Cut.{Cut}
 use Rattle.jt_script.specs.declared.line_cutter.Cut.TheVariants as cut
@@ -17,6 +17,10 @@ begun_line false line = line
 -- what there is of a line that is not ended
 abbrev pub begun_of : Held → List ℕ
 begun_of held = begun_line held.whole held.line
+
+-- what there is of a line that is not ended is within the limits so far
+abbrev pub IsBegun : Held → Type 0
+IsBegun held = 0 < length (begun_of held) → IsTrue (is_within (held.number + 1) (begun_of held))
 
 -- These octets were taken: whatever text the cutter stood for, it now stands for that text and then the octets, and to the
 -- lines of that text these were added.

@@ -2,7 +2,7 @@
 
 ghost use Rattle.std.specs.Prelude.{◌≡◌, ◌≤◌, ◌<◌, ◌+◌, ◌++◌, [], ◌∷◌, List, ℕ, length, take, true, false, IsTrue, IfSome, ◌==◌, position, option_to_list, option_copied};
 ghost use Rattle.jt_script.specs.Text.{Cuts, lines_of, is_within};
-ghost use Rattle.jt_script.specs.Cutter.{Takes, IsBeyond, begun_of, room_of, told};
+ghost use Rattle.jt_script.specs.Cutter.{Takes, IsBegun, IsBeyond, begun_of, room_of, told};
 
 use arrayvec::ArrayVec;
 use std::marker::Model;
@@ -61,6 +61,7 @@ impl LineCutter {
     pub fn new() -> LineCutter
         ensures text { Cuts [] [] (begun_of result) }
         ensures number { result.number ≡ 0 }
+        ensures begun { IsBegun result }
     {
         LineCutter {
             line: ArrayVec::new(),
@@ -102,6 +103,8 @@ impl LineCutter {
         ensures room { room_of self.new + result.0 ≤ room_of self.old }
         ensures line { result.1 ≡ Cut.Line → (0 < result.0) × IsTrue (is_within self.new.number self.new.line) }
         ensures bad { result.1 ≡ Cut.Bad → (result.0 ≡ 0) × IsBeyond self.old piece.now }
+        // What is kept of a line that is not ended is within the limits so far.
+        ensures begun { IsBegun self.old → IsBegun self.new }
     {
         self.begin();
         if piece.is_empty() {

@@ -15,13 +15,13 @@ use Rattle.jt_view.specs.Entry.{Entry, entries_of, end_entries, first_refusal}
 use Rattle.jt_view.specs.declared.closing.Closing.{Closing}
 use Rattle.jt_view.specs.declared.closing.Closing.TheVariants.{Whole, TooLong, HexRefused}
 use Rattle.jt_view.specs.declared.reporter.Reporter.{Reporter}
-use Rattle.jt_view.specs.declared.status.Status.{Status}
-use Rattle.jt_view.specs.declared.status.Status.TheVariants.{Refused}
+use Rattle.jt_runner.specs.declared.status.Status.{Status}
+use Rattle.jt_runner.specs.declared.status.Status.TheVariants.{Refused}
 use Rattle.jt_view.specs.HexInput as hex
 use Rattle.jt_text.specs.Refusals.{refusal_line}
 use Rattle.jt_view.specs.Report.{decoded, wrong_place, closing_of, closed_entries, report_text, check_text, answer_of, printed}
 use Rattle.jt_view.specs.Reporting.{Tally, Counts, GoesOn, TellsOn, TellsLast, Closes}
-use Rattle.jt_view.specs.Taking.{IsRead, Stands, printed_of, TakesOn, TakesLast, Ends, EndsTooLong}
+use Rattle.jt_view.specs.Taking.{IsRead, Stands, printed_of, TakesOn, TakesLast, EndsTooLong}
 use Rattle.jt_view.proofs.Counting.{entries_of-front}
 use Rattle.jt_view.proofs.EntriesTold.{first_refusal-front}
 
@@ -188,17 +188,14 @@ takes_wrong stays digits old mid piece more text text_mid text_now index status 
 }
 
 -- an input that ends
-pub ends : (reporter : Reporter) (closing : Closing) (text text_now : List ℕ) (status : Status)
+pub closes_here : (reporter : Reporter) (closing : Closing) (text text_now : List ℕ) (status : Status)
     → ((seen : List ℕ) → Stands reporter seen → (most : ℕ) → length seen ≤ most → closing_of reporter.command.encoding most seen ≡ closing)
-    → Closes reporter.command.report closing reporter.tally text text_now status → Ends reporter text text_now status
+    → (closes : Closes reporter.command.report closing reporter.tally text text_now status) → (seen : List ℕ) → Stands reporter seen → (most : ℕ) → length seen ≤ most
+    → answer_of reporter.command most seen ≡ record { text = printed_of reporter seen ++ closes.added; status = status }
 unfolding answer_of
-ends reporter closing text text_now status is closes = record {
-  added = closes.added;
-  text_is = closes.text_is;
-  answer = λ seen stands most fits.
-      let all : take most seen ≡ seen = take_all most seen fits in
-      rw (is seen stands most fits, all) (closes.reply (decoded reporter.command.encoding seen) stands.counts stands.goes_on);
-}
+closes_here reporter closing text text_now status is closes seen stands most fits =
+    let all : take most seen ≡ seen = take_all most seen fits in
+    rw (is seen stands most fits, all) (closes.reply (decoded reporter.command.encoding seen) stands.counts stands.goes_on)
 
 pub no_wrong : (encoding : Encoding) (waiting : Option ℕ) (seen : List ℕ) → IsRead encoding waiting seen → wrong_place encoding seen ≡ None
 no_wrong Octets waiting seen read = refl

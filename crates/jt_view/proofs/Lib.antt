@@ -6,6 +6,4 @@ pub mod HexSoFar
 pub mod InputTaken
 pub mod PiecesTaken
 pub mod PrintedFirst
-pub mod RunsOver
-pub mod StepsTaken
 pub mod Told

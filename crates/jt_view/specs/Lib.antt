@@ -2,8 +2,6 @@ pub mod Answer
 pub mod Entry
 pub mod HexInput
 pub mod Line
-pub mod Reply
 pub mod Report
 pub mod Reporting
-pub mod Running
 pub mod Taking

@@ -3,7 +3,8 @@ use Rattle.std.specs.Prelude.{◌≡◌, ℕ, ◌≤◌, ◌<◌, List, ◌++◌
 use Rattle.jt_view.specs.declared.command.Encoding.{Encoding}
 use Rattle.jt_view.specs.declared.command.Encoding.TheVariants.{Octets, Hex}
 use Rattle.jt_view.specs.declared.reporter.Reporter.{Reporter}
-use Rattle.jt_view.specs.declared.status.Status.{Status}
+use Rattle.jt_runner.specs.declared.status.Status.{Status}
+use Rattle.jt_view.specs.declared.reporter.Question.{Question}
 use Rattle.jt_view.specs.HexInput as hex
 use Rattle.jt_view.specs.Report.{decoded, answer_of, printed}
 use Rattle.jt_view.specs.Reporting.{Counts, GoesOn}
@@ -24,6 +25,17 @@ pub record Stands (reporter : Reporter) (seen : List ℕ) : Type 0 where
 abbrev pub printed_of : Reporter → List ℕ → List ℕ
 printed_of reporter seen = printed reporter.command.report (decoded reporter.command.encoding seen)
 
+-- what a reporter was asked
+abbrev pub question : Reporter → Question
+question reporter = record { command = reporter.command; most = reporter.most }
+
+-- So asked, this front of the input was taken and this was printed of it, and the report goes on.
+pub record StandsFor (reporter : Reporter) (asked : Question) (seen printed : List ℕ) : Type 0 where
+  pub same : question reporter ≡ asked
+  pub stands : Stands reporter seen
+  pub within : length seen ≤ reporter.most
+  pub text_is : printed ≡ printed_of reporter seen
+
 -- a further piece was taken, this was printed of it, and the report goes on
 pub record TakesOn (old new : Reporter) (piece text text_now : List ℕ) : Type 0 where
   pub added : List ℕ
@@ -41,13 +53,6 @@ pub record TakesLast (old : Reporter) (piece text text_now : List ℕ) (status :
 abbrev pub Takes : Option Status → Reporter → Reporter → List ℕ → List ℕ → List ℕ → Type 0
 Takes None old new piece text text_now = TakesOn old new piece text text_now
 Takes (Some status) old new piece text text_now = TakesLast old piece text text_now status
-
--- the input ended here, and the rest of the answer was printed
-pub record Ends (reporter : Reporter) (text text_now : List ℕ) (status : Status) : Type 0 where
-  pub added : List ℕ
-  pub text_is : text_now ≡ text ++ added
-  pub answer : (seen : List ℕ) → Stands reporter seen → (most : ℕ) → length seen ≤ most
-      → answer_of reporter.command most seen ≡ record { text = printed_of reporter seen ++ added; status = status }
 
 -- the input goes on here, where no more may be read, and the rest of the answer was printed
 pub record EndsTooLong (reporter : Reporter) (text text_now : List ℕ) (status : Status) : Type 0 where

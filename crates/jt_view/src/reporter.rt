@@ -1,24 +1,33 @@
 //! The report of an input that comes in pieces.
 
-ghost use Rattle.std.specs.Prelude.{◌≡◌, ◌⊎◌, IfSome, ◌<◌, ◌≤◌, ◌+◌, ◌^◌, ℕ, List, [], None, length, string_bytes, IfOk};
-ghost use Rattle.jt_view.specs.Report.{closing_of};
-ghost use Rattle.jt_view.specs.Taking.{Stands, Takes, Ends, EndsTooLong};
+ghost use Rattle.std.specs.Prelude.{◌≡◌, ◌⊎◌, IfSome, ◌<◌, ◌≤◌, ◌+◌, ◌-◌, ◌^◌, ℕ, List, [], None, length, string_bytes, IfOk};
+ghost use Rattle.jt_view.specs.Report.{answer_of, closing_of};
+ghost use Rattle.jt_view.specs.Taking.{Stands, StandsFor, Takes, EndsTooLong};
 
 use crate::closing::Closing;
 use crate::command::{Command, Encoding};
 use crate::hex_laws::{law_octets_of_front, law_wrong_stays};
 use crate::hex_reader::HexReader;
-use crate::status::Status;
 use crate::tally::Tally;
 use crate::telling::{close, tell};
+use jt_runner::{Status, Teller};
 use jt_stream::law_all_items;
 use jt_value::Memory;
 use std::alloc::Global;
+
+/// What is asked of an input: a command, and how many of its octets may be read.
+#[derive(Clone, Copy, Debug, PartialEq, Eq)]
+pub struct Question {
+    pub command: Command,
+    pub most: u64,
+}
 
 /// What is kept of an input between its pieces.
 #[derive(Drop)]
 pub struct Reporter {
     command: Command,
+    // How many octets of the input may be read.
+    most: u64,
     reader: HexReader,
     // The octets of the last piece, where they are written as digits.
     octets: Vec<u8>,
@@ -29,25 +38,21 @@ pub struct Reporter {
 
 impl Reporter {
     /// The beginning of an input.
-    pub fn new(alloc: Global, command: Command) -> Reporter
+    pub fn new(alloc: Global, command: Command, most: u64) -> Reporter
         ensures command { result.command ≡ command }
+        ensures most { result.most ≡ most }
         ensures stands { Stands result [] }
+        ensures taken { result.taken ≡ 0 }
         ensures place { result.tally.stream.splitter.place ≤ result.taken }
     {
         Reporter {
             command,
+            most,
             reader: HexReader::new(),
             octets: Vec::new(alloc),
             tally: Tally::new(),
             taken: 0,
         }
-    }
-
-    /// How many octets of the input were taken.
-    pub fn taken(&self) -> u64
-        ensures { result ≡ self.now.taken }
-    {
-        self.taken
     }
 
     fn take_octets(
@@ -60,6 +65,7 @@ impl Reporter {
         requires taken { self.old.taken + length piece.now < 2 ^ 63 }
         requires place { self.old.tally.stream.splitter.place ≤ self.old.taken }
         ensures command { self.new.command ≡ self.old.command }
+        ensures most { self.new.most ≡ self.old.most }
         ensures taken { IfOk result (λ settled. settled ≡ None → self.new.taken ≡ self.old.taken + length piece.now) }
         ensures place { IfOk result (λ settled. settled ≡ None → self.new.tally.stream.splitter.place ≤ self.new.taken) }
         ensures place_of_any { IfOk result (λ _. self.new.tally.stream.splitter.place < 2 ^ 63) }
@@ -86,6 +92,7 @@ impl Reporter {
         requires taken { self.old.taken + length piece.now < 2 ^ 63 }
         requires place { self.old.tally.stream.splitter.place ≤ self.old.taken }
         ensures command { self.new.command ≡ self.old.command }
+        ensures most { self.new.most ≡ self.old.most }
         ensures taken { IfOk result (λ settled. settled ≡ None → self.new.taken ≡ self.old.taken + length piece.now) }
         ensures place { IfOk result (λ settled. settled ≡ None → self.new.tally.stream.splitter.place ≤ self.new.taken) }
         ensures place_of_any { IfOk result (λ _. self.new.tally.stream.splitter.place < 2 ^ 63) }
@@ -119,9 +126,8 @@ impl Reporter {
         }
     }
 
-    /// Takes the input's next octets, and puts what is printed of them. A status says that the report is settled, whatever
-    /// follows, and wholly printed.
-    pub fn take(
+    // Takes the input's next octets, none of which is past those that may be read.
+    fn take_piece(
         &mut self,
         alloc: Global,
         piece: &[u8],
@@ -130,6 +136,7 @@ impl Reporter {
         requires taken { self.old.taken + length piece.now < 2 ^ 63 }
         requires place { self.old.tally.stream.splitter.place ≤ self.old.taken }
         ensures command { self.new.command ≡ self.old.command }
+        ensures most { self.new.most ≡ self.old.most }
         ensures taken { IfOk result (λ settled. settled ≡ None → self.new.taken ≡ self.old.taken + length piece.now) }
         ensures place { IfOk result (λ settled. settled ≡ None → self.new.tally.stream.splitter.place ≤ self.new.taken) }
         ensures place_of_any { IfOk result (λ _. self.new.tally.stream.splitter.place < 2 ^ 63) }
@@ -140,15 +147,6 @@ impl Reporter {
             Encoding::Octets => self.take_octets(alloc, piece, text),
             Encoding::Hex => self.take_digits(alloc, piece, text),
         }
-    }
-
-    /// Puts what closes the report of an input that ends here, and answers its status.
-    pub fn end(&self, text: &mut String) -> Result<Status, Memory>
-        requires place { self.now.tally.stream.splitter.place < 2 ^ 63 }
-        ensures ends { IfOk result (λ status. Ends self.now (string_bytes text.old) (string_bytes text.new) status) }
-        ensures status { IfOk result (λ status. (status ≡ Status.Done) ⊎ (status ≡ Status.Refused)) }
-    {
-        close(self.command.report, self.closing(), &self.tally, text)
     }
 
     // How an input that ends here closes.
@@ -162,12 +160,51 @@ impl Reporter {
         }
     }
 
-    /// Puts what closes the report of an input that goes on, though no more of it may be read, and answers its status.
-    pub fn end_too_long(&self, text: &mut String) -> Result<Status, Memory>
+    // Puts what closes the report of an input that goes on, though no more of it may be read, and answers its status.
+    fn end_too_long(&self, text: &mut String) -> Result<Status, Memory>
         requires place { self.now.tally.stream.splitter.place < 2 ^ 63 }
         ensures ends { IfOk result (λ status. EndsTooLong self.now (string_bytes text.old) (string_bytes text.new) status) }
         ensures refused { IfOk result (λ status. status ≡ Status.Refused) }
     {
         close(self.command.report, Closing::TooLong, &self.tally, text)
+    }
+}
+
+impl Teller for Reporter {
+    type Asked = Question;
+
+    ghost answer = { λ asked input. answer_of asked.command asked.most input };
+
+    ghost stands = { λ reporter asked seen printed. StandsFor reporter asked seen printed };
+
+    ghost has_told = { λ _ _ _. Unit {0} };
+
+    ghost can_take = { λ reporter. (reporter.most ≤ 2 ^ 40) × (reporter.taken ≤ reporter.most) × (reporter.tally.stream.splitter.place ≤ reporter.taken) };
+
+    ghost room = { λ reporter. reporter.most - reporter.taken };
+
+    fn take(
+        &mut self,
+        alloc: Global,
+        piece: &[u8],
+        text: &mut String,
+    ) -> Result<Option<Status>, Memory> {
+        law_all_items();
+        law_octets_of_front();
+        let room = self.most - self.taken;
+        if piece.len() as u64 <= room {
+            return self.take_piece(alloc, piece, text);
+        }
+        match self.take_piece(alloc, &piece[..room as usize], text)? {
+            Some(status) => Ok(Some(status)),
+            None => {
+                let status = self.end_too_long(text)?;
+                Ok(Some(status))
+            }
+        }
+    }
+
+    fn end(&mut self, _alloc: Global, text: &mut String) -> Result<Status, Memory> {
+        close(self.command.report, self.closing(), &self.tally, text)
     }
 }

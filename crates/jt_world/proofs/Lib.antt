@@ -7,5 +7,5 @@ mod Looking
 mod Numbered
 mod Leading
 mod Reporting
-mod OverSource
-mod Standing
+mod Heard
+mod Rehearsed

@@ -5,6 +5,5 @@ pub mod Messages
 pub mod Reaching
 pub mod Script
 pub mod World
-pub mod Hearing
 pub mod Rehearsal
 pub mod Rehearsing

@@ -8,6 +8,10 @@ use Rattle.jt_script.specs.declared.script.ScriptLine.{ScriptLine}
 use Rattle.jt_script.specs.declared.script.ScriptLine.TheVariants.{Passed, Event, Bad}
 use Rattle.jt_script.specs.Said.{said}
 use Rattle.jt_script.specs.Text.{lines_of, is_within}
+use Rattle.jt_runner.specs.Lines.{Outcome, bad_line}
+use Rattle.jt_runner.specs.Reply.{Reply}
+use Rattle.jt_runner.specs.declared.status.Status.{Status}
+use Rattle.jt_runner.specs.declared.status.Status.TheVariants.{Done, Refused}
 use Rattle.jt_world.specs.declared.world.SmallEntry.{SmallEntry}
 use Rattle.jt_world.specs.Script.{fix_limit, world_after, entries_between}
 use Rattle.jt_world.specs.World.{World, empty, fixes_in}
@@ -23,10 +27,6 @@ unfoldable pub totals_line : World → List ℕ
 totals_line w =
     codes "recorded=" ++ decimal (length w.recorded) ++ codes " accepted=" ++ decimal (length (fixes_in (take w.accepted w.units)))
     ++ codes " rows=" ++ decimal (length w.rows) ++ codes " stored=" ++ decimal (length (fixes_in w.rows)) ++ codes "\n"
-
--- the line of this number is bad
-unfoldable pub bad_line : ℕ → List ℕ
-bad_line number = codes "line " ++ decimal number ++ codes " refused\n"
 
 -- ---- what a script leads to
 
@@ -83,3 +83,16 @@ world_of script = (rehearsal script).world
 -- the text that is printed of a script
 abbrev pub rehearsal_text : List ℕ → List ℕ
 rehearsal_text script = (rehearsal script).text
+
+-- a script with a bad line is refused
+abbrev pub script_status : Option ℕ → Status
+script_status None = Done
+script_status (Some number) = Refused
+
+-- what is printed of a script, and the status
+unfoldable pub script_reply : List ℕ → Reply
+script_reply script = record { text = rehearsal_text script; status = script_status (rehearsal script).bad }
+
+-- a rehearsal as what came of lines
+abbrev pub outcome_of : Rehearsal → Outcome World
+outcome_of r = record { left = r.world; text = r.text; bad = r.bad; status = script_status r.bad }

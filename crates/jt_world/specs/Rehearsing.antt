@@ -1,9 +1,9 @@
 -- What a rehearsal over a source and a sink does. To be believed.
-use Rattle.std.specs.Prelude.{◌≡◌, ◌⊎◌, ℕ, ◌+◌, ◌≤◌, List, ◌++◌, length, Option, Some, None}
+use Rattle.std.specs.Prelude.{◌≡◌, ◌⊎◌, ℕ, ◌+◌, ◌<◌, IsTrue, List, ◌++◌, length, Option, Some, None}
 use Rattle.std.specs.Io.KnownBytes.{Appends, Consumes, IsAtEnd}
 use Rattle.jt_io.specs.Sink.{AppendsPrefix}
+use Rattle.jt_script.specs.Text.{Cuts, is_within}
 use Rattle.jt_world.specs.Claim.{Kept}
-use Rattle.jt_script.specs.Text.{Cuts}
 use Rattle.jt_world.specs.Rehearsal.{Rehearsal, printing, rehearsed, rehearsal, world_of}
 use Rattle.jt_world.specs.World.{World, empty}
 use Rattle.jt_world.specs.declared.rehearsing.Rehearsed.{Rehearsed}
@@ -41,28 +41,12 @@ pub record Rehearses (left left_now old now : Option (List ℕ)) (result : Rehea
   pub settled : IsFault result ⊎ IsSettled left_now taken
   pub kept : IsFault result ⊎ Kept (world_of taken)
 
--- Each whole line of a script that begins so was heard, none of them is bad, and this is all that is printed of them,
--- whatever follows.
+-- Each whole line of a script that begins so was heard, none of them is bad, the line that is begun is within the limits so
+-- far, and this is all that is printed of the lines, whatever follows.
 pub record IsHeard (front text : List ℕ) : Type 0 where
   pub lines : List (List ℕ)
   pub begun : List ℕ
   pub cuts : Cuts front lines begun
+  pub within : 0 < length begun → IsTrue (is_within (length lines + 1) begun)
   pub world : World
   pub goes : (more : List (List ℕ)) → rehearsed empty 1 (lines ++ more) ≡ printing text (rehearsed world (length lines + 1) more)
-
--- all that is printed of what was taken, but for a line that is not ended, was written
-pub record PrintsTaken (left left_now old now : Option (List ℕ)) : Type 0 where
-  pub taken : List ℕ
-  pub text : List ℕ
-  pub consumed : Consumes left left_now taken
-  pub writes : Appends old now text
-  pub heard : IsHeard taken text
-
--- The source is read no further than the piece, of at most so many octets, that has the first bad line.
-pub record ReadsNoFurther (piece : ℕ) (left left_now : Option (List ℕ)) : Type 0 where
-  pub front : List ℕ
-  pub last : List ℕ
-  pub text : List ℕ
-  pub consumed : Consumes left left_now (front ++ last)
-  pub few : length last ≤ piece
-  pub heard : IsHeard front text

@@ -2,11 +2,11 @@
 #![tactic(auto)]
 
 mod acknowledgement;
+mod hearing;
 mod laws;
 mod platform;
 mod rehearsing;
 mod row;
-mod script_run;
 mod script_text;
 mod terminal;
 mod wire;

@@ -2,7 +2,7 @@
 
 ghost use Rattle.std.specs.Prelude.{◌≡◌, ◌++◌, length, take, string_bytes, OnOk};
 ghost use Rattle.std.specs.List.{flat_map};
-ghost use Rattle.jt_world.specs.Rehearsal.{entry_line, totals_line, bad_line};
+ghost use Rattle.jt_world.specs.Rehearsal.{entry_line, totals_line};
 
 use crate::world::{SmallEntry, World};
 use std::alloc::AllocError;
@@ -24,14 +24,6 @@ pub(crate) fn push_entry_lines(text: &mut String, entries: &[SmallEntry]) -> Res
         push_entry_line(text, *entry)?;
     }
     Ok(())
-}
-
-/// The line of a bad line.
-#[tactic(auto, unfolding(crate::specs::Rehearsal::bad_line))]
-pub(crate) fn push_bad_line(text: &mut String, number: u64) -> Result<(), AllocError>
-    ensures { OnOk result (string_bytes text.new ≡ string_bytes text.old ++ bad_line number) }
-{
-    write!(text, "line {number} refused\n")
 }
 
 /// The line at the end of a script: how far the world came.

@@ -133,7 +133,7 @@ impl World {
     }
 
     // The terminal takes one more octet.
-    fn hear(&mut self, alloc: Global) -> Result<(), Memory>
+    fn take_one_down(&mut self, alloc: Global) -> Result<(), Memory>
         requires { self.old.line.down.taken < length self.old.line.down.octets }
         ensures ok { OnOk result (self.new ≡ after self.old Down) }
         ensures err { OnErr result (self.new ≡ self.old) }
@@ -157,7 +157,7 @@ impl World {
         ensures ok { OnOk result (self.new ≡ accepting (after self.old Down)) }
         ensures err { OnErr result (self.new ≡ self.old) }
     {
-        self.hear(alloc)?;
+        self.take_one_down(alloc)?;
         self.accept();
         Ok(())
     }

@@ -1,6 +1,7 @@
-use Rattle.std.proofs.Common.{◌+◌, ◌++◌, ℕ, List, take, refl, sym, ap, ◌∙◌, arith}
+use Rattle.jt_script.specs.Cutter.{begun_line}
+use Rattle.std.proofs.Common.{Bool, ◌+◌, ◌++◌, ℕ, List, take, refl, sym, ap, ◌∙◌, arith}
 use Rattle.jt_script.specs.Cutter.{Held}
-use Rattle.jt_script.proofs.Cutting.{late, takes_line, takes_more, too_long_line, too_long_begun}
+use Rattle.jt_script.proofs.Cutting.{begun_same, late, takes_line, takes_more, too_long_line, too_long_begun}
 use Rattle.jt_script.proofs.line_cutter.LineCutter.take.Goals as goal
 
 pub returns-then-self-eq-LINES_LIMIT-clause-bad : goal.returns-then-self-eq-LINES_LIMIT-clause-bad
@@ -26,3 +27,17 @@ returns-then-keep-2-clause-takes c =
 
 pub returns-else-keep-2-clause-bad : goal.returns-else-keep-2-clause-bad
 returns-else-keep-2-clause-bad c = λ _. (refl, too_long_begun c.args.self.now c.args.piece.now (sym c.in-None.ensures) (rw (c.begin.ensures.line) at (c.if-keep-2.ensures.too_many refl)))
+
+pub returns-then-is_empty-clause-begun : goal.returns-then-is_empty-clause-begun
+returns-then-is_empty-clause-begun c =
+    begun_same c.args.self.now c.begin.new.self (ap (λ (b : Bool). begun_line b c.begin.new.self.line) c.begin.ensures.whole ∙ c.begin.ensures.line) c.begin.ensures.number
+
+pub returns-else-keep-clause-begun : goal.returns-else-keep-clause-begun
+returns-else-keep-clause-begun c =
+    let same = c.if-keep.ensures.same refl in
+    rw same (begun_same c.args.self.now c.begin.new.self (ap (λ (b : Bool). begun_line b c.begin.new.self.line) c.begin.ensures.whole ∙ c.begin.ensures.line) c.begin.ensures.number)
+
+pub returns-else-keep-2-clause-begun : goal.returns-else-keep-2-clause-begun
+returns-else-keep-2-clause-begun c =
+    let same = c.if-keep-2.ensures.same refl in
+    rw same (begun_same c.args.self.now c.begin.new.self (ap (λ (b : Bool). begun_line b c.begin.new.self.line) c.begin.ensures.whole ∙ c.begin.ensures.line) c.begin.ensures.number)
