@@ -1,4 +1,4 @@
-//! The fleet of a platform: its text, and what `platform` prints.
+//! The fleet that the text of a source names.
 #![tactic(auto)]
 
 mod fleet_reader;

@@ -127,7 +127,7 @@ fn refused<P: Keeper>(alloc: Global, hub: Hub<P>) -> Served<P>
 }
 
 // An empty list with room for so many.
-fn room<T>(alloc: Global, count: u32) -> Result<Buffer<T>, Memory>
+fn room<T: Drop>(alloc: Global, count: u32) -> Result<Buffer<T>, Memory>
     ensures { IfOk result (λ list. (list.items ≡ []) × (count ≤ list.spare)) }
 {
     let mut list = Buffer::new(alloc);
@@ -242,7 +242,9 @@ where
     ensures few { length jobs.new.items ≤ sessions }
     ensures end { EndsAs result (length jobs.new.items) sessions (D.pool door.new) (D.faults door.old) (D.faults door.new) }
 {
-    for number in 1..=sessions {
+    let mut accepted = 0;
+    while accepted < sessions {
+        let number = accepted + 1;
         let Ok(one) = turn.split(pass, number) else {
             return ServeEnd::Memory;
         };
@@ -252,6 +254,7 @@ where
                 let Ok(()) = jobs.push(job) else {
                     unreachable!();
                 };
+                accepted = number;
             }
             Accepted::Over => {
                 turn.join(pass, one);
