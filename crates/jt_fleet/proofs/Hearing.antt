@@ -1,5 +1,7 @@
 -- How the reading of a fleet goes on, and how it ends.
-use Rattle.std.proofs.Common.{◌≡◌, ◌++◌, ◌+◌, ℕ, true, false, List, [], ◌∷◌, length, Option, Some, None, IsTrue, refl, sym, ap, subst, ◌∙◌, append_assoc, append-nil, length-append, arith}
+use Rattle.std.proofs.Math.Dec.{leb}
+use Rattle.std.proofs.lemmas.Bool.{leb-true}
+use Rattle.std.proofs.Common.{◌≤◌, ◌&&◌, inl, inr, Bool, ◌≡◌, ◌++◌, ◌+◌, ℕ, true, false, List, [], ◌∷◌, length, Option, Some, None, IsTrue, refl, sym, ap, subst, ◌∙◌, append_assoc, append-nil, length-append, arith}
 use Rattle.std.specs.Io.KnownBytes.{Consumes, IsAtEnd}
 use Rattle.std.proofs.KnownBytes.{Consumes-nil, Consumes-trans}
 use Rattle.jt_script.specs.Text.{Cuts, lines_of, is_within}
@@ -149,3 +151,33 @@ pub ends_failed : (old now : Reading) (named : Named) (number : ℕ) (left mid l
     → (goes : Goes next.Failed now mid left_now h.text h.lines) → ReadsFleet told.Failed left left_now
 ends_failed old now named number left mid left_now h goes =
     record { taken = h.text ++ goes.more; consumed = Consumes-trans left mid left_now h.text goes.more h.consumed goes.consumed; answers = tt }
+
+-- want of memory at a line, or at the last one, says nothing of the text either
+pub ends_memory : (old now : Reading) (named : Named) (number : ℕ) (left mid left_now : Option (List ℕ)) (h : GoesOn old named number left mid)
+    → (goes : Goes next.Line now mid left_now h.text h.lines) → ReadsFleet told.Memory left left_now
+ends_memory old now named number left mid left_now h goes =
+    record { taken = h.text ++ goes.more; consumed = Consumes-trans left mid left_now h.text goes.more h.consumed goes.consumed; answers = tt }
+
+pub ends_last_memory : (old now : Reading) (named : Named) (number : ℕ) (left mid left_now : Option (List ℕ)) (h : GoesOn old named number left mid)
+    → (goes : Goes next.Last now mid left_now h.text h.lines) → ReadsFleet told.Memory left left_now
+ends_last_memory old now named number left mid left_now h goes =
+    record { taken = h.text ++ goes.more; consumed = Consumes-trans left mid left_now h.text goes.more h.consumed goes.consumed; answers = tt }
+
+first_holds : (a b : Bool) → (a && b) ≡ true → a ≡ true
+first_holds true b h = refl
+first_holds false b h = h
+
+-- lines within the limits are few
+pub few_lines : (number : ℕ) (line : List ℕ) → IsTrue (is_within number line) → number ≤ 10000000
+few_lines number line within = leb-true number 10000000 (first_holds (leb number 10000000) (leb (length line) 4096) within)
+
+-- what a line that was heard named, by the line itself
+pub good_is : (good : Bool) (old now : Named) (said line : List ℕ) → good ≡ true → said ≡ line → IsNamed good old (said_by said) now
+    → named_by old.secret old.fleet (said_by line) ≡ Some now
+good_is true old now said line e is named = subst (λ (l : List ℕ). named_by old.secret old.fleet (said_by l) ≡ Some now) is named
+good_is false old now said line e is named = absurd (cc e)
+
+pub bad_is : (good : Bool) (old now : Named) (said line : List ℕ) → good ≡ false → said ≡ line → IsNamed good old (said_by said) now
+    → named_by old.secret old.fleet (said_by line) ≡ None
+bad_is true old now said line e is named = absurd (cc e)
+bad_is false old now said line e is named = subst (λ (l : List ℕ). named_by old.secret old.fleet (said_by l) ≡ None) is named

@@ -11,7 +11,7 @@ pub record Named : Type 0 where
   pub secret : Option (List ℕ)
   pub fleet : Fleet
 
-pub nothing_named : Named
+abbrev pub nothing_named : Named
 nothing_named = record { secret = None; fleet = record { plates = []; terminals = [] } }
 
 abbrev pub with_plate : Fleet → List ℕ → Fleet

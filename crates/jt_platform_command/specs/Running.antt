@@ -31,6 +31,17 @@ pub record Scene : Type 0 where
   pub limit : ℕ
   pub keeper_faults : ℕ
 
+abbrev pub scene_of : Option (List ℕ) → ℕ → Pool → ℕ → Option Tables → ℕ → ℕ → Scene
+scene_of left source_faults pool net_faults tables limit keeper_faults = record {
+  left = left;
+  source_faults = source_faults;
+  pool = pool;
+  net_faults = net_faults;
+  tables = tables;
+  limit = limit;
+  keeper_faults = keeper_faults;
+}
+
 -- no link was served
 pub record ServesNone (old now : Scene) (reports : List Report) (history : List Entry) : Type 0 where
   pub none : reports ≡ []
