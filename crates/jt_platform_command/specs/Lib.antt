@@ -1,2 +1,3 @@
 pub mod Platform
 pub mod Running
+pub mod Opening

@@ -57,10 +57,13 @@ abbrev pub count_of : (Replied → Bool) → List Entry → ℕ
 count_of is_so [] = 0
 count_of is_so (entry ∷ entries) = (if is_so entry.reply then 1 else 0) + count_of is_so entries
 
-unfoldable pub entries_line : List Entry → List ℕ
-entries_line history =
-    codes "entries=" ++ decimal (length history) ++ codes " stored=" ++ decimal (count_of is_stored history)
-    ++ codes " repeat=" ++ decimal (count_of is_repeat history) ++ codes " renumbered=" ++ decimal (count_of is_renumbered history) ++ codes "\n"
+unfoldable pub totals_line : ℕ → ℕ → ℕ → ℕ → List ℕ
+totals_line entries stored repeat renumbered =
+    codes "entries=" ++ decimal entries ++ codes " stored=" ++ decimal stored ++ codes " repeat=" ++ decimal repeat
+    ++ codes " renumbered=" ++ decimal renumbered ++ codes "\n"
+
+abbrev pub entries_line : List Entry → List ℕ
+entries_line history = totals_line (length history) (count_of is_stored history) (count_of is_repeat history) (count_of is_renumbered history)
 
 -- ---- the last line, and the status
 

@@ -6,8 +6,9 @@ ghost use Rattle.jt_io.specs.Count.{Rose};
 ghost use Rattle.jt_platform.specs.History.{newest, tables_after};
 ghost use Rattle.jt_platform.specs.declared.desk.HubOpening.{HubOpening};
 ghost use Rattle.jt_platform_command.specs.Platform.{first_limit};
+ghost use Rattle.jt_platform.specs.Hub.{opening_of};
 ghost use Rattle.jt_platform_command.specs.Running.{RunsPlatform, scene_of};
-
+ghost use Rattle.jt_platform_command.specs.Opening.{Opens};
 
 use crate::telling::{tell_bad_line, tell_no_listener, tell_served};
 use jt_fleet::{FleetRead, read_fleet};
@@ -56,6 +57,18 @@ fn serve_fleet<R: Threads + Wait + Sync, K: Sink, L: Listen, P: Keeper + Send + 
 ) -> PlatformRun<P>
 where
     L::Link: Send,
+    requires history { hub.history ≡ [] }
+    requires sessions { 1 ≤ sessions }
+    ensures opens { Opens (Option (HubOpening P)) (opening_of (P.tables hub.start) (P.limit hub.start) hub.fleet hub.secret) sessions
+        (scene_of (L.pool listen.old) (L.faults listen.old) (P.tables hub.start) (P.limit hub.start) (P.faults hub.keeper))
+        (scene_of (L.pool listen.new) (L.faults listen.new) (P.tables result.keeper) (P.limit result.keeper) (P.faults result.keeper))
+        (K.written sink.old) (K.written sink.new) result.reports result.history result.status }
+    ensures keeper { (P.tables result.keeper ≡ tables_after (P.tables hub.start) (newest result.history)) × (P.limit result.keeper ≡ P.limit hub.start) }
+    ensures write_fault { result.status ≡ Status.WriteFault → Rose (K.faults sink.old) (K.faults sink.new) }
+    ensures no_read_fault { result.status ≢ Status.ReadFault }
+    ensures net_fault { result.status ≡ Status.NetFault → Rose (L.faults listen.old) (L.faults listen.new) }
+    ensures store_fault { result.status ≡ Status.StoreFault → Rose (P.faults hub.keeper) (P.faults result.keeper) ⊎ (first_limit result.reports ≢ None) }
+    ensures not_usage { result.status ≢ Status.Usage }
 {
     let Served { reports, hub, end } = serve(rt, alloc, listen, hub, sessions);
     let (keeper, history) = hub.into_parts();
@@ -69,7 +82,7 @@ where
 }
 
 // Begins to listen, and serves links over a fleet.
-fn open<R: Threads + Wait + Sync, K: Sink, L: Listen, P: Keeper + Send + Drop>(
+fn listen_over<R: Threads + Wait + Sync, K: Sink, L: Listen, P: Keeper + Send + Drop>(
     rt: &R,
     alloc: Global,
     sink: &mut K,
@@ -79,6 +92,18 @@ fn open<R: Threads + Wait + Sync, K: Sink, L: Listen, P: Keeper + Send + Drop>(
 ) -> PlatformRun<P>
 where
     L::Link: Send,
+    requires history { hub.history ≡ [] }
+    requires sessions { 1 ≤ words.sessions }
+    ensures opens { Opens (Option (HubOpening P)) (opening_of (P.tables hub.start) (P.limit hub.start) hub.fleet hub.secret) words.sessions
+        (scene_of (L.pool listen.old) (L.faults listen.old) (P.tables hub.start) (P.limit hub.start) (P.faults hub.keeper))
+        (scene_of (L.pool listen.new) (L.faults listen.new) (P.tables result.keeper) (P.limit result.keeper) (P.faults result.keeper))
+        (K.written sink.old) (K.written sink.new) result.reports result.history result.status }
+    ensures keeper { (P.tables result.keeper ≡ tables_after (P.tables hub.start) (newest result.history)) × (P.limit result.keeper ≡ P.limit hub.start) }
+    ensures write_fault { result.status ≡ Status.WriteFault → Rose (K.faults sink.old) (K.faults sink.new) }
+    ensures no_read_fault { result.status ≢ Status.ReadFault }
+    ensures net_fault { result.status ≡ Status.NetFault → Rose (L.faults listen.old) (L.faults listen.new) }
+    ensures store_fault { result.status ≡ Status.StoreFault → Rose (P.faults hub.keeper) (P.faults result.keeper) ⊎ (first_limit result.reports ≢ None) }
+    ensures not_usage { result.status ≢ Status.Usage }
 {
     if !listen.start(words.port) {
         let (keeper, history) = hub.into_parts();
@@ -114,9 +139,9 @@ pub fn platform<
 where
     L::Link: Send,
     requires sessions { 1 ≤ words.sessions }
-    ensures runs { RunsPlatform (Option (HubOpening P)) words.sessions
-        (scene_of (S.left source.old) (S.faults source.old) (L.pool listen.old) (L.faults listen.old) (P.tables keeper) (P.limit keeper) (P.faults keeper))
-        (scene_of (S.left source.new) (S.faults source.new) (L.pool listen.new) (L.faults listen.new) (P.tables result.keeper) (P.limit result.keeper) (P.faults result.keeper))
+    ensures runs { RunsPlatform (Option (HubOpening P)) words.sessions (S.left source.old) (S.left source.new)
+        (scene_of (L.pool listen.old) (L.faults listen.old) (P.tables keeper) (P.limit keeper) (P.faults keeper))
+        (scene_of (L.pool listen.new) (L.faults listen.new) (P.tables result.keeper) (P.limit result.keeper) (P.faults result.keeper))
         (K.written sink.old) (K.written sink.new) result.reports result.history result.status }
     ensures keeper { (P.tables result.keeper ≡ tables_after (P.tables keeper) (newest result.history)) × (P.limit result.keeper ≡ P.limit keeper) }
     ensures read_fault { result.status ≡ Status.ReadFault → Rose (S.faults source.old) (S.faults source.new) }
@@ -136,7 +161,7 @@ where
         FleetRead::Memory => return without_links(alloc, Status::Memory, keeper),
     };
     match Hub::start(alloc, keeper, fleet, secret) {
-        Ok(hub) => open(rt, alloc, sink, listen, hub, words),
+        Ok(hub) => listen_over(rt, alloc, sink, listen, hub, words),
         Err((keeper, Memory)) => without_links(alloc, Status::Memory, keeper),
     }
 }

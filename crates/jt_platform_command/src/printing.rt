@@ -1,10 +1,10 @@
 //! The printed lines of `platform`, each put at the end of a text.
 
-ghost use Rattle.std.specs.Prelude.{◌≡◌, ◌++◌, string_bytes, OnOk, if◌then◌else◌};
+ghost use Rattle.std.specs.Prelude.{◌≡◌, ◌<◌, ◌+◌, ◌^◌, ◌++◌, ◌||◌, string_bytes, OnOk, if◌then◌else◌};
 ghost use Rattle.std.specs.List.{flat_map};
 ghost use Rattle.jt_runner.specs.declared.status.Status.TheVariants.{Memory};
-ghost use Rattle.jt_platform_command.specs.Platform.{count_of, end_word, entries_line, is_renumbered, is_repeat, is_stored, session_counts, session_line, session_octets};
-ghost use Rattle.jt_platform_command.specs.Platform.{first_limit, is_memory, is_store_fault, last_reply, some_end, store_reply};
+ghost use Rattle.jt_platform_command.specs.Platform.{count_of, end_word, entries_line, is_renumbered, is_repeat, is_stored, session_counts, session_line, session_octets, totals_line};
+ghost use Rattle.jt_platform_command.specs.Platform.{first_limit, is_memory, is_store_fault, last_reply, limit_in, or_limit, some_end, store_reply};
 
 use jt_platform::{Entry, Reply};
 use jt_runner::Status;
@@ -77,6 +77,31 @@ struct Totals {
 }
 
 impl Totals {
+    fn with(self, reply: &Reply) -> Totals
+        requires stored { self.stored < 2 ^ 63 }
+        requires repeat { self.repeat < 2 ^ 63 }
+        requires renumbered { self.renumbered < 2 ^ 63 }
+        ensures stored { result.stored ≡ self.stored + (if is_stored reply.now then 1 else 0) }
+        ensures repeat { result.repeat ≡ self.repeat + (if is_repeat reply.now then 1 else 0) }
+        ensures renumbered { result.renumbered ≡ self.renumbered + (if is_renumbered reply.now then 1 else 0) }
+    {
+        let mut totals = self;
+        match reply {
+            Reply::Stored(_) => totals.stored += 1,
+            Reply::Repeat(_) => totals.repeat += 1,
+            Reply::Renumbered(_) => totals.renumbered += 1,
+            Reply::Registered(_)
+            | Reply::Denied(_)
+            | Reply::Accepted
+            | Reply::NotLive
+            | Reply::Fenced(_)
+            | Reply::ListFull(_)
+            | Reply::StoreFault
+            | Reply::Memory => {}
+        }
+        totals
+    }
+
     fn of(history: &[Entry]) -> Totals
         ensures stored { result.stored ≡ count_of is_stored history.now }
         ensures repeat { result.repeat ≡ count_of is_repeat history.now }
@@ -88,101 +113,112 @@ impl Totals {
             renumbered: 0,
         };
         for entry in history {
-            match entry.reply {
-                Reply::Stored(_) => totals.stored += 1,
-                Reply::Repeat(_) => totals.repeat += 1,
-                Reply::Renumbered(_) => totals.renumbered += 1,
-                _ => {}
-            }
+            totals = totals.with(&entry.reply);
         }
         totals
     }
 }
 
-/// The line of the totals of a history.
-#[tactic(auto, unfolding(crate::specs::Platform::entries_line))]
-pub(crate) fn push_entries_line(text: &mut String, history: &[Entry]) -> Result<(), AllocError>
-    ensures { OnOk result (string_bytes text.new ≡ string_bytes text.old ++ entries_line history.now) }
+#[tactic(auto, unfolding(crate::specs::Platform::totals_line))]
+fn push_totals(text: &mut String, entries: usize, totals: Totals) -> Result<(), AllocError>
+    ensures { OnOk result (string_bytes text.new ≡ string_bytes text.old ++ totals_line entries totals.stored totals.repeat totals.renumbered) }
 {
-    let entries = history.len();
     let Totals {
         stored,
         repeat,
         renumbered,
-    } = Totals::of(history);
+    } = totals;
     write!(text, "entries={entries} stored={stored} repeat={repeat} renumbered={renumbered}\n")
 }
 
-fn has_store_fault(reports: &[Report]) -> bool
-    ensures { result ≡ some_end is_store_fault reports.now }
+/// The line of the totals of a history.
+pub(crate) fn push_entries_line(text: &mut String, history: &[Entry]) -> Result<(), AllocError>
+    ensures { OnOk result (string_bytes text.new ≡ string_bytes text.old ++ entries_line history.now) }
 {
-    for report in reports {
-        if report.end == End::StoreFault {
-            return true;
-        }
-    }
-    false
+    push_totals(text, history.len(), Totals::of(history))
 }
 
-fn wants_memory(reports: &[Report]) -> bool
-    ensures { result ≡ some_end is_memory reports.now }
-{
-    for report in reports {
-        if report.end == End::Memory {
-            return true;
-        }
-    }
-    false
+// How the sessions ended, as far as the last line and the status go by it.
+#[derive(Clone, Copy)]
+struct Ends {
+    memory: bool,
+    store_fault: bool,
+    // The limit that the first session with a full list met.
+    limit: Option<u64>,
 }
 
-// The limit that the first session with a full list met.
-fn limit_met(reports: &[Report]) -> Option<u64>
-    ensures { result ≡ first_limit reports.now }
-{
-    for report in reports {
-        if let End::ListFull(limit) = report.end {
-            return Some(limit);
+impl Ends {
+    fn with(self, end: End) -> Ends
+        ensures memory { result.memory ≡ (self.memory || is_memory end) }
+        ensures store_fault { result.store_fault ≡ (self.store_fault || is_store_fault end) }
+        ensures limit { result.limit ≡ or_limit self.limit (limit_in end) }
+    {
+        let mut ends = self;
+        match end {
+            End::Memory => ends.memory = true,
+            End::StoreFault => ends.store_fault = true,
+            End::ListFull(limit) => ends.limit = ends.limit.or(Some(limit)),
+            End::Ended | End::LinkFault | End::Idle | End::Spent | End::Fenced(_) => {}
         }
+        ends
     }
-    None
+
+    fn of(reports: &[Report]) -> Ends
+        ensures memory { result.memory ≡ some_end is_memory reports.now }
+        ensures store_fault { result.store_fault ≡ some_end is_store_fault reports.now }
+        ensures limit { result.limit ≡ first_limit reports.now }
+    {
+        let mut ends = Ends {
+            memory: false,
+            store_fault: false,
+            limit: None,
+        };
+        for report in reports {
+            ends = ends.with(report.end);
+        }
+        ends
+    }
 }
 
-fn push_store_line(text: &mut String, reports: &[Report]) -> Result<(), AllocError>
-    ensures { OnOk result (string_bytes text.new ≡ string_bytes text.old ++ (store_reply (some_end is_store_fault reports.now) (first_limit reports.now)).text) }
+fn push_store_line(text: &mut String, store_fault: bool, limit: Option<u64>) -> Result<(), AllocError>
+    ensures { OnOk result (string_bytes text.new ≡ string_bytes text.old ++ (store_reply store_fault limit).text) }
 {
-    if has_store_fault(reports) {
+    if store_fault {
         return text.push_str("store fault\n");
     }
-    match limit_met(reports) {
+    match limit {
         Some(limit) => write!(text, "list full at {limit}\n"),
         None => Ok(()),
     }
 }
 
 /// The last line, if there is one.
-pub(crate) fn push_last_line(text: &mut String, end: ServeEnd, reports: &[Report]) -> Result<(), AllocError>
+pub(crate) fn push_last_line(
+    text: &mut String,
+    end: ServeEnd,
+    reports: &[Report],
+) -> Result<(), AllocError>
     ensures { OnOk result (string_bytes text.new ≡ string_bytes text.old ++ (last_reply end reports.now).text) }
 {
     match end {
         ServeEnd::ListenFault => text.push_str("listen fault\n"),
         ServeEnd::Memory => Ok(()),
-        ServeEnd::All | ServeEnd::Over => push_store_line(text, reports),
+        ServeEnd::All | ServeEnd::Over => {
+            let ends = Ends::of(reports);
+            push_store_line(text, ends.store_fault, ends.limit)
+        }
     }
 }
 
-fn last_status(end: ServeEnd, reports: &[Report]) -> Status
-    ensures { result ≡ (last_reply end reports.now).status }
+fn store_status(store_fault: bool, limit: Option<u64>) -> Status
+    ensures { result ≡ (store_reply store_fault limit).status }
 {
-    match end {
-        ServeEnd::ListenFault => Status::NetFault,
-        ServeEnd::Memory => Status::Memory,
-        ServeEnd::All | ServeEnd::Over => {
-            if has_store_fault(reports) || limit_met(reports).is_some() {
-                Status::StoreFault
-            } else {
-                Status::Done
-            }
-        }
+    if store_fault {
+        return Status::StoreFault;
+    }
+    match limit {
+        Some(_) => Status::StoreFault,
+        None => Status::Done,
     }
 }
 
@@ -190,9 +226,13 @@ fn last_status(end: ServeEnd, reports: &[Report]) -> Status
 pub(crate) fn served_status(end: ServeEnd, reports: &[Report]) -> Status
     ensures { result ≡ (if some_end is_memory reports.now then Memory else (last_reply end reports.now).status) }
 {
-    if wants_memory(reports) {
-        Status::Memory
-    } else {
-        last_status(end, reports)
+    let ends = Ends::of(reports);
+    if ends.memory {
+        return Status::Memory;
+    }
+    match end {
+        ServeEnd::ListenFault => Status::NetFault,
+        ServeEnd::Memory => Status::Memory,
+        ServeEnd::All | ServeEnd::Over => store_status(ends.store_fault, ends.limit),
     }
 }

@@ -1,9 +1,10 @@
 //! What `platform` writes of what came of it.
 
-ghost use Rattle.std.specs.Prelude.{◌≡◌, ◌≢◌, List, string_bytes, OnOk};
+ghost use Rattle.std.specs.Prelude.{◌≡◌, ◌≢◌, ◌⊎◌, ◌++◌, string_bytes, OnOk, if◌then◌else◌};
 ghost use Rattle.jt_io.specs.Count.{Rose};
-ghost use Rattle.jt_runner.specs.Answer.{Answers};
-ghost use Rattle.jt_platform_command.specs.Platform.{BadLine, NoListener, Served, platform_text};
+ghost use Rattle.jt_runner.specs.Answer.{Answers, IsFault};
+ghost use Rattle.jt_runner.specs.declared.status.Status.TheVariants.{Memory};
+ghost use Rattle.jt_platform_command.specs.Platform.{BadLine, NoListener, Served, is_memory, last_reply, platform_text, some_end};
 
 use crate::printing::{push_entries_line, push_last_line, push_session_lines, served_status};
 use jt_io::{Sink, write_all};
@@ -16,7 +17,7 @@ use std::alloc::{AllocError, Global};
 // Writes a text, all at once.
 fn write_text<K: Sink>(sink: &mut K, text: &[u8], status: Status) -> Status
     ensures answers { Answers result (record { text = text.now; status = status }) (K.written sink.old) (K.written sink.new) }
-    ensures status { result ≢ Status.WriteFault → result ≡ status }
+    ensures status { (result ≡ status) ⊎ (result ≡ Status.WriteFault) }
     ensures write_fault { result ≡ Status.WriteFault → status ≢ Status.WriteFault → Rose (K.faults sink.old) (K.faults sink.new) }
 {
     if write_all(sink, text) {
@@ -30,6 +31,7 @@ fn write_text<K: Sink>(sink: &mut K, text: &[u8], status: Status) -> Status
 #[tactic(auto, unfolding(crate::specs::Platform::platform_text))]
 pub(crate) fn tell_bad_line<K: Sink>(alloc: Global, sink: &mut K, number: u64) -> Status
     ensures answers { Answers result (platform_text (BadLine number)) (K.written sink.old) (K.written sink.new) }
+    ensures status { (result ≡ Status.Refused) ⊎ IsFault result }
     ensures write_fault { result ≡ Status.WriteFault → Rose (K.faults sink.old) (K.faults sink.new) }
     ensures no_read_fault { result ≢ Status.ReadFault }
 {
@@ -44,13 +46,14 @@ pub(crate) fn tell_bad_line<K: Sink>(alloc: Global, sink: &mut K, number: u64) -
 #[tactic(auto, unfolding(crate::specs::Platform::platform_text))]
 pub(crate) fn tell_no_listener<K: Sink>(sink: &mut K) -> Status
     ensures answers { Answers result (platform_text NoListener) (K.written sink.old) (K.written sink.new) }
+    ensures status { (result ≡ Status.NetFault) ⊎ IsFault result }
     ensures write_fault { result ≡ Status.WriteFault → Rose (K.faults sink.old) (K.faults sink.new) }
     ensures no_read_fault { result ≢ Status.ReadFault }
 {
     write_text(sink, b"listen fault\n", Status::NetFault)
 }
 
-#[tactic(auto, using(std::proofs::Common::append_assoc))]
+#[tactic(auto, using(std::proofs::Common::append_assoc), unfolding(crate::specs::Platform::platform_text))]
 fn push_served(
     text: &mut String,
     end: ServeEnd,
@@ -65,6 +68,7 @@ fn push_served(
 }
 
 /// What came of the sessions.
+#[tactic(auto, unfolding(crate::specs::Platform::platform_text))]
 pub(crate) fn tell_served<K: Sink>(
     alloc: Global,
     sink: &mut K,
@@ -73,6 +77,7 @@ pub(crate) fn tell_served<K: Sink>(
     history: &[Entry],
 ) -> Status
     ensures answers { Answers result (platform_text (Served end reports.now history.now)) (K.written sink.old) (K.written sink.new) }
+    ensures status { (result ≡ (if some_end is_memory reports.now then Memory else (last_reply end reports.now).status)) ⊎ IsFault result }
     ensures write_fault { result ≡ Status.WriteFault → Rose (K.faults sink.old) (K.faults sink.new) }
     ensures no_read_fault { result ≢ Status.ReadFault }
 {
