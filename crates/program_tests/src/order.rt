@@ -95,7 +95,13 @@ fn lines_go_out_before_the_next_read(rt: HostRuntime) {
     let rehearse = words_of(alloc, &["rehearse"]).expect(&rt, "words");
     let view = words_of(alloc, &["view"]).expect(&rt, "words");
     assert!(&rt; is_written_first(alloc, &rehearse, b"fix 0\ntick 0\nup 1 all\n"));
-    assert!(&rt; is_written_first(alloc, &view, b"\x7e\x00\x02\x00\x00\x01\x39\x12\x34\x56\x78\x00\x00\x32\x7e"));
+    assert!(&rt;
+        is_written_first(
+            alloc,
+            &view,
+            b"\x7e\x00\x02\x00\x00\x01\x39\x12\x34\x56\x78\x00\x00\x32\x7e"
+        )
+    );
     // Nothing is printed of a comment, and so nothing is written.
     assert!(&rt; !is_written_first(alloc, &rehearse, b"# fix 0\n"));
 }
