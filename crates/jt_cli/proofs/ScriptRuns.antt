@@ -4,14 +4,13 @@ use Rattle.std.specs.Io.KnownBytes.{Appends}
 use Rattle.jt_world.specs.declared.rehearsing.Rehearsed.{Rehearsed}
 use Rattle.jt_world.specs.declared.rehearsing.Rehearsed.TheVariants as rehearsed
 use Rattle.jt_world.specs.Claim.{Kept}
-use Rattle.jt_world.specs.Rehearsal.{Rehearsal, rehearsal, rehearsal_text, world_of}
+use Rattle.jt_world.specs.Rehearsal.{Rehearsal, rehearsal, rehearsal_text, world_of, script_status, script_reply}
 use Rattle.jt_world.specs.Rehearsing.{Rehearses, ending}
 use Rattle.jt_world.specs.Rehearsing as rehearsing
-use Rattle.jt_view.specs.Answer.{Answers, IsFault, IsSettled, Runs}
-use Rattle.jt_cli.specs.Script.{script_status, script_reply, RunsScript}
-use Rattle.jt_view.specs.Reply.{Reply}
-use Rattle.jt_view.specs.declared.status.Status.{Status}
-use Rattle.jt_view.specs.declared.status.Status.TheVariants as status
+use Rattle.jt_runner.specs.Answer.{IsFault, Runs}
+use Rattle.jt_cli.specs.Script.{RunsScript}
+use Rattle.jt_runner.specs.declared.status.Status.{Status}
+use Rattle.jt_runner.specs.declared.status.Status.TheVariants as status
 
 -- the statuses of the ways in which a rehearsal ends
 pub record IsStatusOf (result : Rehearsed) (status : Status) : Type 0 where
@@ -87,20 +86,3 @@ unfolding script_reply
 runs_whole None old now result status is told = tt
 runs_whole (Some script) old now result status is (inl fault) = inl (is.fault fault)
 runs_whole (Some script) old now result status is (inr whole) = inr (is.same (rehearsal script).bad whole.0, whole.1, whole.2)
-
-told_so : (answer : List ℕ → Reply) (octets rest : List ℕ) (old now : Option (List ℕ)) (status : Status) (taken : List ℕ) → octets ≡ taken ++ rest
-    → Answers status (answer taken) old now → IsFault status ⊎ IsSettled answer (Some rest) taken
-    → IsFault status ⊎ ((status ≡ (answer octets).status) × Appends old now (answer octets).text)
-told_so answer octets rest old now status taken is (inr fault) settled = inl fault.0
-told_so answer octets rest old now status taken is (inl told) (inl fault) = inl fault
-told_so answer octets rest old now status taken is (inl told) (inr settled) =
-    let same : answer octets ≡ answer taken =
-    ap answer is ∙ elim settled [ inl end ↦ ap (λ (r : List ℕ). answer (taken ++ r)) end ∙ ap answer (append-nil taken) | inr final ↦ final rest ] in
-    inr (subst (λ (r : Reply). (status ≡ r.status) × Appends old now r.text) (sym same) told)
-
--- a run over a source that tells its octets
-pub told_whole : (answer : List ℕ → Reply) (left left_now old now : Option (List ℕ)) (status : Status) → Runs answer left left_now old now status
-    → IfSome left (λ octets. IsFault status ⊎ ((status ≡ (answer octets).status) × Appends old now (answer octets).text))
-told_whole answer None left_now old now status runs = tt
-told_whole answer (Some octets) None old now status runs = absurd runs.consumed
-told_whole answer (Some octets) (Some rest) old now status runs = told_so answer octets rest old now status runs.taken runs.consumed runs.answers runs.settled

@@ -6,9 +6,10 @@ mod task;
 mod top;
 mod usage;
 
+pub use jt_runner::Status;
 pub use jt_text::{refusal_line, view_line};
 pub use jt_view::{
-    Closing, Command, Encoding, Report, Status, law_octets_of_front, law_wrong_stays, report,
+    Closing, Command, Encoding, Report, law_octets_of_front, law_wrong_stays, report,
 };
 pub use playing::play;
 pub use task::Task;

@@ -4,13 +4,13 @@ ghost use Rattle.std.specs.Prelude.{◌≡◌, ◌≢◌, ◌⊎◌, ◌^◌, If
 ghost use Rattle.std.specs.Io.KnownBytes.{IsAtEnd, Appends};
 ghost use Rattle.jt_io.specs.Count.{Rose};
 ghost use Rattle.jt_world.specs.Claim.{Kept};
-ghost use Rattle.jt_world.specs.Rehearsal.{world_of};
-ghost use Rattle.jt_world.specs.Rehearsing.{PrintsTaken, ReadsNoFurther};
-ghost use Rattle.jt_view.specs.Answer.{IsFault};
-ghost use Rattle.jt_cli.specs.Script.{script_reply, RunsScript};
+ghost use Rattle.jt_world.specs.Rehearsal.{script_reply, world_of};
+ghost use Rattle.jt_world.specs.Rehearsing.{IsHeard};
+ghost use Rattle.jt_runner.specs.Answer.{IsFault, PrintsTaken, ReadsNoFurther, StopsAtWrite};
+ghost use Rattle.jt_cli.specs.Script.{RunsScript};
 
 use jt_io::{Sink, Source};
-use jt_view::Status;
+use jt_runner::Status;
 use jt_world::{Rehearsed, rehearse};
 use std::alloc::Global;
 
@@ -19,8 +19,10 @@ pub fn play<S: Source, K: Sink>(alloc: Global, source: &mut S, sink: &mut K) -> 
     ensures runs { RunsScript (S.left source.old) (S.left source.new) (K.written sink.old) (K.written sink.new) result }
     ensures whole { IfSome (S.left source.old) (λ script. IsFault result ⊎ ((result ≡ (script_reply script).status)
         × Appends (K.written sink.old) (K.written sink.new) (script_reply script).text × Kept (world_of script))) }
-    ensures no_further { ReadsNoFurther (2 ^ 14) (S.left source.old) (S.left source.new) }
-    ensures prints_taken { result ≡ Status.ReadFault → PrintsTaken (S.left source.old) (S.left source.new) (K.written sink.old) (K.written sink.new) }
+    ensures no_further { ReadsNoFurther IsHeard (2 ^ 14) (S.left source.old) (S.left source.new) }
+    ensures prints_taken { result ≡ Status.ReadFault → PrintsTaken IsHeard (S.left source.old) (S.left source.new) (K.written sink.old) (K.written sink.new) }
+    ensures stops_at_write { result ≡ Status.WriteFault → StopsAtWrite script_reply IsHeard (2 ^ 14)
+        (S.left source.old) (S.left source.new) (K.written sink.old) (K.written sink.new) }
     ensures to_the_end { result ≡ Status.Done → IsAtEnd (S.left source.new) }
     ensures read_fault { result ≡ Status.ReadFault → Rose (S.faults source.old) (S.faults source.new) }
     ensures write_fault { result ≡ Status.WriteFault → Rose (K.faults sink.old) (K.faults sink.new) }

@@ -3,23 +3,25 @@
 ghost use Rattle.std.specs.Prelude.{◌≡◌, ◌≢◌, ◌⊎◌, ◌^◌, ℕ, List, None, map, string_bytes, IfSome};
 ghost use Rattle.std.specs.Io.KnownBytes.{IsAtEnd, Appends};
 ghost use Rattle.jt_io.specs.Count.{Rose};
-ghost use Rattle.jt_view.specs.Answer.{Answers, IsFault, Runs, ReadsNoFurther, PrintsTaken};
+ghost use Rattle.jt_runner.specs.Answer.{Answers, IsFault, Runs, ReadsNoFurther, PrintsTaken, StopsAtWrite};
+ghost use Rattle.jt_view.specs.Answer.{IsOpen};
 ghost use Rattle.jt_cli.specs.Usage.{usage};
 ghost use Rattle.jt_view.specs.Report.{answer_of};
 ghost use Rattle.jt_cli.specs.Acting.{Acts};
-ghost use Rattle.jt_cli.specs.Script.{script_reply, RunsScript};
+ghost use Rattle.jt_cli.specs.Script.{RunsScript};
 ghost use Rattle.jt_cli.specs.Words.{words_of, words_of_task};
 ghost use Rattle.jt_cli.specs.declared.task.Task.{Task};
 ghost use Rattle.jt_world.specs.Claim.{Kept};
-ghost use Rattle.jt_world.specs.Rehearsal.{world_of};
-ghost use Rattle.jt_world.specs.Rehearsing as rehearsing;
+ghost use Rattle.jt_world.specs.Rehearsal.{script_reply, world_of};
+ghost use Rattle.jt_world.specs.Rehearsing.{IsHeard};
 ghost use Rattle.jt_view.specs.declared.command.Command.{Command};
 
 use crate::playing::play;
 use crate::task::Task;
 use crate::usage::push_usage_line;
 use jt_io::{Sink, Source, write_all};
-use jt_view::{Status, report};
+use jt_runner::Status;
+use jt_view::report;
 use std::alloc::Global;
 
 /// What the program is run over.
@@ -105,10 +107,15 @@ pub fn run<R, S: Source, K: Sink>(
 
     // The source is read no further than the piece of at most 2^14 octets that settles the report.
     ensures no_further { (command : Command) → map string_bytes words.now.items ≡ words_of command →
-        ReadsNoFurther command (2 ^ 40) (2 ^ 14) (S.left outside.source) (S.left result.outside.source) }
+        ReadsNoFurther (IsOpen command (2 ^ 40)) (2 ^ 14) (S.left outside.source) (S.left result.outside.source) }
     // What is printed of a piece is written before the next is read, so it is there also where that read fails.
     ensures prints_taken { (command : Command) → map string_bytes words.now.items ≡ words_of command → result.status ≡ Status.ReadFault →
-        PrintsTaken command (S.left outside.source) (S.left result.outside.source) (K.written outside.sink) (K.written result.outside.sink) }
+        PrintsTaken (IsOpen command (2 ^ 40)) (S.left outside.source) (S.left result.outside.source) (K.written outside.sink) (K.written result.outside.sink) }
+    // A write that failed ends the run: what was taken is a front and one piece of at most 2^14 octets; all that is printed
+    // of the front was written, and of the rest of the answer a prefix.
+    ensures stops_at_write { (command : Command) → map string_bytes words.now.items ≡ words_of command → result.status ≡ Status.WriteFault →
+        StopsAtWrite (answer_of command (2 ^ 40)) (IsOpen command (2 ^ 40)) (2 ^ 14) (S.left outside.source) (S.left result.outside.source)
+        (K.written outside.sink) (K.written result.outside.sink) }
 
     // The words are those of a rehearsal: the octets of the script that were taken, what was written of the answer to them,
     // that it is the answer to the whole script, whatever else it has, and that the claim of delivery holds of its world.
@@ -121,10 +128,14 @@ pub fn run<R, S: Source, K: Sink>(
         × Appends (K.written outside.sink) (K.written result.outside.sink) (script_reply script).text × Kept (world_of script))) }
     // The script is read no further than the piece of at most 2^14 octets that has its first bad line.
     ensures rehearses_no_further { map string_bytes words.now.items ≡ words_of_task Task.Rehearse →
-        rehearsing.ReadsNoFurther (2 ^ 14) (S.left outside.source) (S.left result.outside.source) }
+        ReadsNoFurther IsHeard (2 ^ 14) (S.left outside.source) (S.left result.outside.source) }
     // What is printed of a piece is written before the next is read.
     ensures rehearses_prints_taken { map string_bytes words.now.items ≡ words_of_task Task.Rehearse → result.status ≡ Status.ReadFault →
-        rehearsing.PrintsTaken (S.left outside.source) (S.left result.outside.source) (K.written outside.sink) (K.written result.outside.sink) }
+        PrintsTaken IsHeard (S.left outside.source) (S.left result.outside.source) (K.written outside.sink) (K.written result.outside.sink) }
+    // A write that failed ends the run.
+    ensures rehearses_stops_at_write { map string_bytes words.now.items ≡ words_of_task Task.Rehearse → result.status ≡ Status.WriteFault →
+        StopsAtWrite script_reply IsHeard (2 ^ 14) (S.left outside.source) (S.left result.outside.source)
+        (K.written outside.sink) (K.written result.outside.sink) }
 
     // The words are those of no task.
     ensures usage { ((task : Task) → map string_bytes words.now.items ≢ words_of_task task) →

@@ -1,11 +1,10 @@
 -- How a text input that comes in pieces is heard.
-use Rattle.std.proofs.Common.{◌≡◌, ◌≤◌, ◌+◌, ℕ, true, false, IsTrue, Option, Some, None, Result, Ok, Err, List, [], ◌∷◌, ◌++◌, length, take, drop, refl, sym, ap, subst, ◌∙◌, arith, append_assoc, append-nil, length-append}
+use Rattle.std.proofs.Common.{◌≡◌, ◌≤◌, ◌+◌, ℕ, false, Option, Some, None, Result, Ok, Err, List, [], ◌∷◌, ◌++◌, length, take, drop, refl, sym, ap, ◌∙◌, arith, append_assoc, append-nil, length-append}
 use Rattle.std.proofs.lemmas.List.{take-append-drop}
 use Rattle.std.specs.Prelude.{IfOk}
 use Rattle.jt_script.specs.Text.{Cuts, lines_of, is_within}
 use Rattle.jt_script.specs.Cutter.{Held, IsBegun, IsBeyond, begun_of, room_of}
 use Rattle.jt_script.specs.Cutter as cutter
-use Rattle.jt_runner.specs.Reply.{Reply}
 use Rattle.jt_runner.specs.Telling.{BeginsWith, GoesOn, Settles, Ends}
 use Rattle.jt_runner.specs.Lines.{Outcome, printing, bad_line, bad_outcome, reply_of, answer_of, HearsOn, HearsBad, HearsLast, Closes, HasHeard, HasClosed}
 use Rattle.jt_runner.specs.LineSteps.{TakesOn, TakesLast}
@@ -32,7 +31,6 @@ module _ {H : Type 0} (outcome : H → ℕ → List (List ℕ) → Outcome H) wh
     pub takes : TakesOn outcome old now held held_now bad bad_now front text text_now
 
 module _ {H : Type 0} (law : LinesOfFront) (outcome : H → ℕ → List (List ℕ) → Outcome H) where
-
   printing_twice : (a b : List ℕ) (o : Outcome H) → printing a (printing b o) ≡ printing (a ++ b) o
   printing_twice a b o = ap (λ (text : List ℕ). record o { text = text }) (sym (append_assoc a b o.text))
 

@@ -1,16 +1,15 @@
 -- A run over a source and a sink, from its steps.
-use Rattle.std.proofs.Common.{◌≡◌, ◌≤◌, ◌⊎◌, ℕ, List, [], ◌++◌, Option, Some, None, IfSome, length, refl, sym, ap, subst, ◌∙◌, arith, inl, inr, append_assoc, append-nil}
+use Rattle.std.proofs.Common.{◌≡◌, ◌≤◌, ◌⊎◌, ℕ, List, [], ◌++◌, Option, Some, None, IfSome, length, refl, sym, ap, subst, ◌∙◌, inl, inr, append-nil}
 use Rattle.std.proofs.KnownBytes.{Appends-nil, Appends-trans, Consumes-nil, Consumes-trans, Consumes-kept}
 use Rattle.std.specs.Io.KnownBytes.{Appends, Consumes, Keeps, IsAtEnd}
-use Rattle.jt_runner.specs.Answer.{IsFault, IsSettled, Runs, RunsTelling, AnswersWhole, ReadsNoFurther, PrintsTaken, StopsAtWrite}
+use Rattle.jt_runner.specs.Answer.{IsFault, RunsTelling, AnswersWhole, ReadsNoFurther, PrintsTaken, StopsAtWrite}
 use Rattle.jt_runner.specs.Reply.{Reply}
 use Rattle.jt_runner.specs.Running.{WritesOn, WritesRest, WritesEnd, WritesPart, Advances, Finishes}
-use Rattle.jt_runner.specs.Telling.{BeginsWith, Settles, Ends}
+use Rattle.jt_runner.specs.Telling.{BeginsWith}
 use Rattle.jt_runner.specs.declared.status.Status.{Status}
 use Rattle.jt_runner.specs.declared.status.Status.TheVariants.{ReadFault}
 
 module _ {A : Type 0} (answer : A → List ℕ → Reply) (asked : A) where
-
   -- a front of the source was taken, what is printed of it was written, and the input stays open
   pub record RunsOn (Stands : A → List ℕ → List ℕ → Type 0) (left left_now written written_now : Option (List ℕ)) : Type 0 where
     pub seen : List ℕ
@@ -158,11 +157,10 @@ module _ {A : Type 0} (answer : A → List ℕ → Reply) (asked : A) where
   runs_last Stood Stands HasTold left left_now left_end written written_now written_end piece status on consumes (inl rest) =
       let final = final_rest Stood HasTold left left_now left_end written written_now written_end piece status on consumes rest in
       (final_runs HasTold left left_end written written_end status final, final_whole HasTold left left_end written written_end status final)
-  runs_last Stood Stands HasTold left left_now left_end written written_now written_end piece status on consumes (inr part) =
-      (
-        runs_part Stood HasTold left left_now left_end written written_now written_end piece status on consumes part.1 part.0,
-        fault_whole HasTold left written written_end status part.0,
-      )
+  runs_last Stood Stands HasTold left left_now left_end written written_now written_end piece status on consumes (inr part) = (
+    runs_part Stood HasTold left left_now left_end written written_now written_end piece status on consumes part.1 part.0,
+    fault_whole HasTold left written written_end status part.0,
+  )
 
   pub runs_end : (Stood : A → List ℕ → List ℕ → Type 0) (HasTold : A → List ℕ → Type 0) (left left_now left_end written written_now written_end : Option (List ℕ)) (status : Status)
       → RunsOn Stood left left_now written written_now → IsAtEnd left_end × Keeps left_now left_end → Finishes status answer Stood HasTold written_now written_end
@@ -171,11 +169,10 @@ module _ {A : Type 0} (answer : A → List ℕ → Reply) (asked : A) where
   runs_end Stood HasTold left left_now left_end written written_now written_end status on ended (inl wrote) =
       let final = final_end Stood HasTold left left_now left_end written written_now written_end status on ended wrote in
       (final_runs HasTold left left_end written written_end status final, final_whole HasTold left left_end written written_end status final)
-  runs_end Stood HasTold left left_now left_end written written_now written_end status on ended (inr part) =
-      (
-        runs_part Stood HasTold left left_now left_end written written_now written_end [] status on (consumes_nothing left_now left_end ended.1) part.1 part.0,
-        fault_whole HasTold left written written_end status part.0,
-      )
+  runs_end Stood HasTold left left_now left_end written written_now written_end status on ended (inr part) = (
+    runs_part Stood HasTold left left_now left_end written written_now written_end [] status on (consumes_nothing left_now left_end ended.1) part.1 part.0,
+    fault_whole HasTold left written written_end status part.0,
+  )
 
   pub runs_failed : (Stood : A → List ℕ → List ℕ → Type 0) (HasTold : A → List ℕ → Type 0) (left left_now left_end written written_now : Option (List ℕ))
       → RunsOn Stood left left_now written written_now → Keeps left_now left_end
@@ -186,8 +183,7 @@ module _ {A : Type 0} (answer : A → List ℕ → Reply) (asked : A) where
         added = [];
         writes = Appends-nil written_now;
         part = λ one seen printed stood first. let all = first [] in (all.0, all.1 ∙ ap (λ (t : List ℕ). t ++ all.0) (sym (append-nil printed)));
-      } in
-      (
+      } in (
         runs_part Stood HasTold left left_now left_end written written_now written_now [] ReadFault on (consumes_nothing left_now left_end kept) part tt,
         fault_whole HasTold left written written_now ReadFault tt,
       )

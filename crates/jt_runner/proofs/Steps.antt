@@ -1,15 +1,13 @@
 -- What a step of a run wrote.
-use Rattle.std.proofs.Common.{◌≡◌, ℕ, List, [], ◌++◌, Option, Some, None, refl, sym, ap, subst, ◌∙◌, inl, inr, append_assoc, append-nil}
+use Rattle.std.proofs.Common.{◌≡◌, ℕ, List, [], ◌++◌, Option, Some, None, sym, ap, subst, ◌∙◌, inl, inr, append_assoc, append-nil}
 use Rattle.std.proofs.KnownBytes.{Appends-nil}
 use Rattle.jt_io.specs.Sink.{AppendsPrefix}
 use Rattle.jt_runner.specs.Reply.{Reply}
-use Rattle.jt_runner.specs.Running.{Writes, WritesOn, WritesRest, WritesEnd, WritesPart, Advances, Finishes}
+use Rattle.jt_runner.specs.Running.{Writes, WritesOn, WritesRest, WritesPart, Advances, Finishes}
 use Rattle.jt_runner.specs.Telling.{GoesOn, Settles, Takes, Ends}
 use Rattle.jt_runner.specs.declared.status.Status.{Status}
-use Rattle.jt_runner.specs.declared.status.Status.TheVariants.{WriteFault}
 
 module _ {A : Type 0} (answer : A → List ℕ → Reply) (Stood Stands : A → List ℕ → List ℕ → Type 0) (HasTold : A → List ℕ → Type 0) where
-
   -- nothing was written, since memory was refused
   pub part_none : (piece : List ℕ) (written : Option (List ℕ)) → WritesPart answer Stood piece written written
   part_none piece written = record {

@@ -1,5 +1,5 @@
 -- What one step over the octets of a text input does. A step function for the proofs.
-use Rattle.std.specs.Prelude.{◌≡◌, ℕ, ◌+◌, ◌≤◌, List, ◌++◌, length, Option, Some, None, take}
+use Rattle.std.specs.Prelude.{ℕ, ◌+◌, ◌≤◌, List, length, Option, take}
 use Rattle.jt_script.specs.Cutter.{Held, room_of}
 use Rattle.jt_runner.specs.Lines.{Outcome, HasHeard, HasClosed, answer_of}
 use Rattle.jt_runner.specs.Telling.{GoesOn, Settles}

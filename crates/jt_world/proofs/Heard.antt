@@ -10,7 +10,7 @@ use Rattle.jt_script.specs.declared.script.ScriptLine.{ScriptLine}
 use Rattle.jt_script.specs.declared.script.ScriptLine.TheVariants.{Passed, Event, Bad}
 use Rattle.jt_script.specs.Said.{said}
 use Rattle.jt_script.specs.Text.{is_within}
-use Rattle.jt_runner.specs.Lines.{Outcome, HearsOn, HearsBad, bad_outcome}
+use Rattle.jt_runner.specs.Lines.{Outcome, HearsOn, HearsBad}
 use Rattle.jt_world.specs.Rehearsal.{Rehearsal, is_allowed, meaning, led, heard, rehearsed, outcome_of, entry_line}
 use Rattle.jt_world.specs.Script.{IsAllowed, fix_limit, entries_between, world_after}
 use Rattle.jt_world.specs.World.{World}
@@ -49,10 +49,6 @@ bad_meaning : (w : World) (number : ℕ) (line : List ℕ) → IsTrue (is_within
 unfolding meaning
 bad_meaning w number line within says = rw (within, ← says) refl
 
-beyond_meaning : (w : World) (number : ℕ) (line : List ℕ) → is_within number line ≡ false → meaning w number line ≡ Bad
-unfolding meaning
-beyond_meaning w number line e = rw e refl
-
 pub hears_passed : (w : World) (number : ℕ) (line text : List ℕ) → IsTrue (is_within number line) → Passed ≡ said line → HearsOn outcome w w number line text text
 hears_passed w number line text within says = record {
   added = [];
@@ -79,7 +75,3 @@ hears_refused w number line text e within says may_not = hears_it_bad w number l
 
 pub hears_bad : (w : World) (number : ℕ) (line text : List ℕ) → IsTrue (is_within number line) → Bad ≡ said line → HearsBad outcome w w number line text text
 hears_bad w number line text within says = hears_it_bad w number line text (bad_meaning w number line within says)
-
-pub beyond_is_bad : (w : World) (number : ℕ) (line : List ℕ) (more : List (List ℕ)) → is_within number line ≡ false
-    → outcome w number (line ∷ more) ≡ bad_outcome w number
-beyond_is_bad w number line more e = ap (said_then w number more) (beyond_meaning w number line e)

@@ -8,4 +8,4 @@ mod Numbered
 mod Leading
 mod Reporting
 mod Heard
-mod Rehearsed
+mod Rehearsals

@@ -7,3 +7,4 @@ pub mod Script
 pub mod World
 pub mod Rehearsal
 pub mod Rehearsing
+pub mod Beyond

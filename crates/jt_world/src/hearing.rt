@@ -5,7 +5,7 @@ ghost use Rattle.std.specs.List.{flat_map};
 ghost use Rattle.jt_world.specs.Reaching.{Reached};
 ghost use Rattle.jt_world.specs.Rehearsal.{entry_line, outcome_of, rehearsed};
 ghost use Rattle.jt_world.specs.Script.{IsAllowed, entries_between, world_after};
-ghost use Rattle.jt_world.proofs.Heard.{beyond_is_bad};
+ghost use Rattle.jt_world.specs.Beyond.{beyond_is_bad};
 
 use crate::script_text::{push_entry_lines, push_totals_line};
 use crate::world::World;

@@ -1,6 +1,6 @@
 use Rattle.std.proofs.Common.{arith, refl}
 use Rattle.std.proofs.lemmas.Grind.{common_steps}
-use Rattle.jt_runner.proofs.Runs.{runs_first, runs_more, runs_last, runs_end, runs_failed, reads_no_further, prints_taken, stops_at_write, consumes_nothing}
+use Rattle.jt_runner.proofs.Runs.{runs_more, runs_last, runs_end, runs_failed, reads_no_further, prints_taken, stops_at_write, consumes_nothing}
 use Rattle.jt_runner.proofs.Steps.{some_part, end_part}
 use Rattle.jt_runner.specs.Telling.{SomeStands}
 use Rattle.jt_runner.proofs.running.run_teller.Goals as goal
@@ -8,8 +8,7 @@ use Rattle.jt_runner.proofs.running.run_teller.Goals as goal
 pub loop-count-preserved : goal.loop-count-preserved
 loop-count-preserved g c =
     let so_far = c.loop-count.invariant in
-    let advances = rw c.in-None.is at c.advance.ensures.advances in
-    (
+    let advances = rw c.in-None.is at c.advance.ensures.advances in (
       λ asked began. runs_more _ asked _ _ _ _ _ _ _ _ _ (so_far.0 asked began) c.in-Bytes.ensures.octets.2 advances,
       c.in-None.ensures.can refl,
       omega arith,

@@ -1,4 +1,4 @@
-use Rattle.std.proofs.Common.{length-take, ◌≡◌, length, refl, arith}
+use Rattle.std.proofs.Common.{length-take, ◌≡◌, length, arith}
 use Rattle.std.proofs.lemmas.List.{take_all}
 use Rattle.jt_runner.proofs.LinesHeard.{steps_more, steps_heard, steps_last, steps_bad, steps_beyond}
 use Rattle.jt_runner.proofs.line_teller.LineTeller.step.Goals as goal

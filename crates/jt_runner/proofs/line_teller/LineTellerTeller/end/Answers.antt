@@ -1,5 +1,5 @@
-use Rattle.std.proofs.Common.{refl, ap, ◌+◌, ℕ}
-use Rattle.jt_runner.proofs.LinesHeard.{both_ok, ends_whole, ends_line, ends_last, ends_bad, ends_with}
+use Rattle.std.proofs.Common.{ap, ◌+◌, ℕ}
+use Rattle.jt_runner.proofs.LinesHeard.{both_ok, ends_whole, ends_line, ends_with}
 use Rattle.jt_runner.proofs.line_teller.LineTellerTeller.end.Goals as goal
 
 pub returns-in-None-clause-ends : goal.returns-in-None-clause-ends

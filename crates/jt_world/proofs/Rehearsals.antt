@@ -1,5 +1,5 @@
 -- A rehearsal over a source and a sink, from the run of its lines.
-use Rattle.std.proofs.Common.{◌≡◌, ◌⊎◌, ◌+◌, ◌<◌, ℕ, IsTrue, List, [], ◌++◌, Option, Some, None, IfSome, length, refl, sym, ap, subst, ◌∙◌, inl, inr}
+use Rattle.std.proofs.Common.{◌≡◌, ◌⊎◌, ◌+◌, ◌<◌, ℕ, IsTrue, List, [], ◌++◌, Option, Some, None, IfSome, length, refl, sym, ap, subst, ◌∙◌, inl, inr, arith}
 use Rattle.std.proofs.KnownBytes.{Appends-nil, Consumes-nil}
 use Rattle.std.specs.Io.KnownBytes.{Appends, IsAtEnd}
 use Rattle.jt_io.proofs.Prefixes.{AppendsPrefix-all}
@@ -33,8 +33,8 @@ done_same bad (Some number) e = absurd cc
 pub done : (bad : Option ℕ) → IsEnding status.Done bad rehearsed.Done
 done bad = record { same = λ number is. done_same bad number; fault = λ f. f }
 
-pub bad_line : (number : ℕ) → IsEnding status.Refused (Some number) (rehearsed.BadLine number)
-bad_line number = record { same = λ other is e. sym (ap ending is); fault = λ f. absurd f }
+pub bad_line : (number : ℕ) (bad : Option ℕ) → Some number ≡ bad → IsEnding status.Refused bad (rehearsed.BadLine number)
+bad_line number bad one = record { same = λ other is e. sym (ap ending (is ∙ sym one)); fault = λ f. absurd f }
 
 fault_same : (status : Status) (result : Rehearsed) (number : Option ℕ) → IsFault status → status ≡ script_status number → result ≡ ending number
 fault_same status result None fault e = absurd (subst IsFault e fault)
@@ -48,6 +48,10 @@ write_fault bad = record { same = λ number is e. fault_same status.WriteFault r
 
 pub memory : (bad : Option ℕ) → IsEnding status.Memory bad rehearsed.Memory
 memory bad = record { same = λ number is e. fault_same status.Memory rehearsed.Memory number tt e; fault = λ f. f }
+
+-- nothing was taken yet, and the world is the one in which nothing has happened
+pub begins : (world hearer : World) (held : Held) (bad : Option ℕ) → HasHeard outcome world hearer held bad [] [] → world ≡ empty → HasHeard outcome empty hearer held bad [] []
+begins world hearer held bad heard same = subst (λ (w : World). HasHeard outcome w hearer held bad [] []) same heard
 
 -- what is known where the whole script was told
 abbrev pub Holds : World → Option ℕ → List ℕ → Type 0
@@ -129,22 +133,44 @@ not_of : (status : Status) (script : List ℕ) (old now : Option (List ℕ)) →
 not_of status script old now sound other (inl told) = other _ told.0
 not_of status script old now sound other (inr part) = sound part.0
 
-pub not_so : (world : World) (bad : Option ℕ) (status : Status) (left left_now old now : Option (List ℕ)) → (IsFault status → ⊥) → ((number : Option ℕ) → status ≡ script_status number → ⊥)
+not_so : (world : World) (bad : Option ℕ) (status : Status) (left left_now old now : Option (List ℕ)) → (IsFault status → ⊥) → ((number : Option ℕ) → status ≡ script_status number → ⊥)
     → RunsTelling (answer_of outcome empty) (Holds world bad) left left_now old now status → ⊥
 not_so world bad status left left_now old now sound other did = not_of status did.runs.taken old now sound other did.runs.answers
 
-pub refused_bad : (world : World) (left left_now old now : Option (List ℕ)) → RunsTelling (answer_of outcome empty) (Holds world None) left left_now old now status.Refused → ⊥
-refused_bad world left left_now old now did = by_cases did.runs.answers did.holds
-  where
-    by_cases : Answers status.Refused (answer_of outcome empty did.runs.taken) old now
-        → IsFault status.Refused ⊎ (Holds world None did.runs.taken × (IsAtEnd left_now ⊎ ((rest : List ℕ) → Holds world None (did.runs.taken ++ rest)))) → ⊥
-    by_cases (inr part) holds = part.0
-    by_cases (inl told) (inl fault) = fault
-    by_cases (inl told) (inr holds) = let same = told.0 ∙ ap script_status holds.0.0.bad_is in absurd cc
+by_cases : (world : World) (bad : Option ℕ) (script : List ℕ) (left old now : Option (List ℕ)) → None ≡ bad → Answers status.Refused (answer_of outcome empty script) old now
+    → IsFault status.Refused ⊎ answer.HoldsOf (Holds world bad) left script → ⊥
+by_cases world bad script left old now none (inr part) holds = part.0
+by_cases world bad script left old now none (inl told) (inl fault) = fault
+by_cases world bad script left old now none (inl told) (inr holds) = let same = told.0 ∙ ap script_status (holds.0.0.bad_is ∙ sym none) in absurd cc
+
+pub refused_bad : (world : World) (bad : Option ℕ) (left left_now old now : Option (List ℕ)) → None ≡ bad
+    → RunsTelling (answer_of outcome empty) (Holds world bad) left left_now old now status.Refused → ⊥
+refused_bad world bad left left_now old now none did = by_cases world bad did.runs.taken left_now old now none did.runs.answers did.holds
+
+store_other : (number : Option ℕ) → status.StoreFault ≡ script_status number → ⊥
+store_other None e = absurd cc
+store_other (Some number) e = absurd cc
+
+net_other : (number : Option ℕ) → status.NetFault ≡ script_status number → ⊥
+net_other None e = absurd cc
+net_other (Some number) e = absurd cc
+
+unsent_other : (number : Option ℕ) → status.Unsent ≡ script_status number → ⊥
+unsent_other None e = absurd cc
+unsent_other (Some number) e = absurd cc
+
+pub not_store : (world : World) (bad : Option ℕ) (left left_now old now : Option (List ℕ)) → RunsTelling (answer_of outcome empty) (Holds world bad) left left_now old now status.StoreFault → ⊥
+not_store world bad left left_now old now did = not_so world bad status.StoreFault left left_now old now (λ f. f) store_other did
+
+pub not_net : (world : World) (bad : Option ℕ) (left left_now old now : Option (List ℕ)) → RunsTelling (answer_of outcome empty) (Holds world bad) left left_now old now status.NetFault → ⊥
+not_net world bad left left_now old now did = not_so world bad status.NetFault left left_now old now (λ f. f) net_other did
+
+pub not_unsent : (world : World) (bad : Option ℕ) (left left_now old now : Option (List ℕ)) → RunsTelling (answer_of outcome empty) (Holds world bad) left left_now old now status.Unsent → ⊥
+not_unsent world bad left left_now old now did = not_so world bad status.Unsent left left_now old now (λ f. f) unsent_other did
 
 -- ---- how far it read, and what it wrote
 
-as_rehearsal : Outcome World → Rehearsal
+abbrev as_rehearsal : Outcome World → Rehearsal
 as_rehearsal o = record { world = o.left; text = o.text; bad = o.bad }
 
 pub is_heard : (world : World) (held : Held) (bad : Option ℕ) (front text : List ℕ) → HasHeard outcome empty world held bad front text → IsHeard front text
@@ -175,4 +201,21 @@ runs_nothing left written = record {
   tells = inr (tt, ([], rehearsal_text [], refl, Appends-nil written));
   settled = inl tt;
   kept = inl tt;
+}
+
+-- the answer of the run of lines is that of the script
+pub stops_so : (size : ℕ) (left left_now old now : Option (List ℕ)) → StopsAtWrite (answer_of outcome empty) IsHeard size left left_now old now
+    → StopsAtWrite script_reply IsHeard size left left_now old now
+unfolding rehearsal script_reply
+stops_so size left left_now old now stops = record {
+  front = stops.front;
+  last = stops.last;
+  text = stops.text;
+  consumed = stops.consumed;
+  few = stops.few;
+  open_before = stops.open_before;
+  part = stops.part;
+  beyond = stops.beyond;
+  of_answer = stops.of_answer;
+  writes = stops.writes;
 }
