@@ -242,7 +242,9 @@ where
     ensures few { length jobs.new.items ≤ sessions }
     ensures end { EndsAs result (length jobs.new.items) sessions (D.pool door.new) (D.faults door.old) (D.faults door.new) }
 {
-    for number in 1..=sessions {
+    let mut accepted = 0;
+    while accepted < sessions {
+        let number = accepted + 1;
         let Ok(one) = turn.split(pass, number) else {
             return ServeEnd::Memory;
         };
@@ -252,6 +254,7 @@ where
                 let Ok(()) = jobs.push(job) else {
                     unreachable!();
                 };
+                accepted = number;
             }
             Accepted::Over => {
                 turn.join(pass, one);
