@@ -4,7 +4,7 @@ use Rattle.std.specs.Prelude.{option_map}
 use Rattle.std.proofs.lemmas.List.{append-nil, length-reverse, reverse-append}
 use lib.ListN.{get_elem?}
 use mathlib.Core.List.{IsPrefix}
-use mathlib.Core.Option.{some}
+use mathlib.Core.Option.{some, some-ne-none}
 use Rattle.jt_io.specs.Count.{Rose, RoseBy}
 use Rattle.jt_link.specs.Link.{Wire}
 use Rattle.jt_link.specs.Pool.{Pool, Script, Used, IsNew, used_of}
@@ -121,3 +121,35 @@ module _ {O K : Type 0} (o : Opening) (opening : O) (turn : TurnId) (h : List En
     by : ((k : ℕ) × (e : Ended Request Reply) × (get_elem? root.ended k ≡ some e) × (e.number ≡ n)) ⊎ IsNoneOf n root.ended → entries_of n (map as_ask h) ≡ []
     by (inl found) = ended_none found.0 found.1 found.2 found.3 (up_to found.0 found.1 found.2)
     by (inr none) = others n (λ e. omega (arith, e, number, above)) none
+
+-- ---- where no link was accepted
+
+all_coming : (coming : Option (List Script)) → option_map (λ scripts. drop 0 scripts) coming ≡ coming
+all_coming None = refl
+all_coming (Some scripts) = refl
+
+all_back : (back : Option (List Used)) → option_map (λ links. links ++ []) back ≡ back
+all_back None = refl
+all_back (Some links) = ap Some (append-nil links)
+
+pub nothing_served : {O : Type 0} (o : Opening) (h : List Entry) (pool : Pool) (reports : List Report) → reports ≡ [] → AreServed {O = O} o h pool pool reports
+nothing_served o h pool [] e = record {
+  back = [];
+  each = λ m report at. absurd (some-ne-none report (sym at));
+  as_many = refl;
+  coming = sym (all_coming pool.coming);
+  came_back = sym (all_back pool.back);
+  lent = refl;
+}
+nothing_served o h pool (r ∷ rs) e = absurd cc
+
+pub nothing_legal : (o : Opening) (h : List Entry) → h ≡ [] → Legal o (newest h)
+nothing_legal o [] e = tt
+nothing_legal o (e ∷ h) is = absurd cc
+
+pub no_entries : (h : List Entry) (n : ℕ) → h ≡ [] → entries_of n (map as_ask h) ≡ []
+no_entries [] n e = refl
+no_entries (e ∷ h) n is = absurd cc
+
+pub joined_as : {O : Type 0} (o other : Option Opening) (opening : O) (turn : TurnId) (coming : Option (List Script)) (m : ℕ) (root : PassState Request Reply O) (left : Wire) (report : Report) → o ≡ other → IsJoined o opening turn coming m root left report → IsJoined other opening turn coming m root left report
+joined_as o other opening turn coming m root left report is j = subst (λ x. IsJoined x opening turn coming m root left report) is j
