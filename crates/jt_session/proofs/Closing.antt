@@ -235,8 +235,8 @@ none_served empty o octets pass link = record {
 
 owed_in : {X : Type 0} (opening : Option X) (os : X → Opening) (reserved : X → ℕ) (found : List (Turned Request Reply)) (before now session : ℕ) (r : Reply) → 1 ≤ session → IsSomeAnd opening (λ o. session ≤ reserved o) → closed (newest (map as_entry found)) session ≡ false
     → IfSome opening (λ o. Gives (os o) (reserved o) found before now session ask.Close r) → r ≡ say.Accepted
-owed_in None os reserved found before now session r from upto open given = absurd upto
-owed_in (Some o) os reserved found before now session r from upto open given = given.close refl (record { from = from; upto = upto; unclosed = open })
+owed_in None os reserved found before now session r from upto free given = absurd upto
+owed_in (Some o) os reserved found before now session r from upto free given = given.close refl (record { from = from; upto = upto; unclosed = free })
 
 accepted_enters : (r : Reply) (n : ℕ) → r ≡ say.Accepted → entry_if (makes_entry r) n ask.Close r ≡ close_of n ∷ []
 accepted_enters r n e = ap (λ x. entry_if (makes_entry x) n ask.Close x) e
@@ -269,16 +269,16 @@ filled_later (Some o) seen found rest seen_now q l front is full = record {
   rows = full.rows;
 }
 
-module _ {O X : Type 0} (o : Option Opening) (octets : ℕ) (pass mid pass_now : PassState Request Reply O) (link link_now : Wire) (report : Report) (up_to : ServesUpTo o octets pass mid link link_now report) where
-  mine_open : (n : ℕ) → mid.number ≡ pass.number → pass.mine ≡ [] → entries_of mid.number pass_now.found ≡ mid.mine → OpenAll (entries_of mid.number pass_now.found)
-  mine_open n number new own = subst OpenAll (sym (own ∙ (up_to.entries ∙ ap (λ m. m ++ acts_on pass.number up_to.asked) new))) (acts_open pass.number up_to.asked up_to.closes)
+module _ {O : Type 0} (o : Option Opening) (octets : ℕ) (pass mid pass_now : PassState Request Reply O) (link link_now : Wire) (report : Report) (up_to : ServesUpTo o octets pass mid link link_now report) where
+  mine_open : mid.number ≡ pass.number → pass.mine ≡ [] → entries_of mid.number pass_now.found ≡ mid.mine → OpenAll (entries_of mid.number pass_now.found)
+  mine_open number new own = subst OpenAll (sym (own ∙ (up_to.entries ∙ ap (λ m. m ++ acts_on pass.number up_to.asked) new))) (acts_open pass.number up_to.asked up_to.closes)
 
-  pub serves_closed : (opening : Option X) (os : X → Opening) (reserved : X → ℕ) (r : Reply) → mid.number ≡ pass.number → pass.mine ≡ [] → 1 ≤ mid.number → IsSomeAnd opening (λ x. mid.number ≤ reserved x)
+  pub serves_closed : {X : Type 0} (opening : Option X) (os : X → Opening) (reserved : X → ℕ) (r : Reply) → mid.number ≡ pass.number → pass.mine ≡ [] → 1 ≤ mid.number → IsSomeAnd opening (λ x. mid.number ≤ reserved x)
       → entries_of mid.number pass_now.found ≡ mid.mine → IfSome opening (λ x. Gives (os x) (reserved x) pass_now.found pass_now.found_faults pass_now.faults mid.number ask.Close r)
       → pass_now.mine ≡ mid.mine ++ entry_if (makes_entry r) mid.number ask.Close r → pass_now.seen ≡ pass_now.found ++ entry_if (makes_entry r) mid.number ask.Close r → IsPrefix mid.seen pass_now.found
       → mid.failed ≤ pass_now.failed → mid.faults ≤ pass_now.faults → Serves o octets pass pass_now link link_now report
   serves_closed opening os reserved r number new from upto own given mine seen front failed faults =
-      let accepted : r ≡ say.Accepted = owed_in opening os reserved pass_now.found pass_now.found_faults pass_now.faults mid.number r from upto (unclosed pass_now.found mid.number (mine_open 0 number new own)) given in record {
+      let accepted : r ≡ say.Accepted = owed_in opening os reserved pass_now.found pass_now.found_faults pass_now.faults mid.number r from upto (unclosed pass_now.found mid.number (mine_open number new own)) given in record {
         taken = up_to.taken;
         asked = up_to.asked;
         said = up_to.said;

@@ -52,9 +52,9 @@ filled_unit o seen found session phone serial id octets l front (inr (live, inr 
   id = id;
   octets = octets;
   asked = refl;
-  limit = e.1;
+  limit = e.1.0;
   rows = told_map (tables_after o.tables (newest (map as_entry found))) (λ t. (length (t.rows (key_of phone)) ≡ o.limit) × IsMore (t.rows (key_of phone)) serial id octets) (λ t. length (t.rows (key_of phone)) ≡ l)
-      (λ t full. full.0 ∙ sym e.1) e.2;
+      (λ t full. full.0 ∙ sym e.1.0) e.1.1;
 }
 
 filled : (o : Opening) (seen found : List (Turned Request Reply)) (session : ℕ) (q : Request) (l : ℕ) → IsPrefix found seen → Allowed o (newest (map as_entry found)) session q (say.ListFull l) → IsFilled o seen (Some q) l

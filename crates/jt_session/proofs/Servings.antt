@@ -30,7 +30,7 @@ use Rattle.jt_session.proofs.Hearings.{hears_as, hears_both, hears_on, same_both
 
 -- ---- what an answer ends a session as
 
-by_answer : Fed → Bool
+abbrev by_answer : Fed → Bool
 by_answer On = true
 by_answer (Stop ends.Ended) = false
 by_answer (Stop ends.LinkFault) = false
@@ -95,7 +95,7 @@ counts_same a = record { later = omega arith; stays = λ e. refl }
 front_all : {X : Type 0} (xs ys : List X) → xs ≡ ys → IsPrefix xs ys
 front_all xs ys e = ([], λ i. (append-nil xs ∙ e) i)
 
-drop_of : {X : Type 0} → ℕ → List X → List X
+abbrev drop_of : {X : Type 0} → ℕ → List X → List X
 drop_of n xs = drop n xs
 
 front_and_rest : {X : Type 0} (n : ℕ) (xs : List X) → take n xs ++ drop_of n xs ≡ xs
@@ -200,7 +200,7 @@ module _ {O : Type 0} (o : Option Opening) (s : Seen) (pass : PassState Request 
     -- octets were read and heard
     module _ (piece : List ℕ) (count : ℕ) (gave : Gives w.inbound mid.inbound piece) (cause : ReadHasCause w.faults mid.faults w.inbound mid.inbound (Bytes count)) (are : AreOctets piece) (other : Option Opening) (same_o : other ≡ o) (next : Seen) (pass_next : PassState Request Reply O) (w_next : Wire) (done : ℕ) (end : Option Ending)
         (did : Answers other now next piece pass_now pass_next mid w_next done end) (same : IsSamePass pass_now pass_next) where
-      taken_now : List ℕ
+      abbrev taken_now : List ℕ
       taken_now = c.taken ++ piece
 
       gave_now : Gives link.inbound w_next.inbound taken_now

@@ -1,6 +1,7 @@
 //! A session over a link.
 
 ghost use Rattle.std.specs.Prelude.{◌≡◌, ◌≤◌, ◌<◌, ◌+◌, ◌*◌, ◌^◌, [], false, None, IsSome, IsSomeAnd, length, option_map};
+ghost use Rattle.jt_value.specs.Octets.{AreOctets};
 ghost use Rattle.jt_link.specs.Link.{wire_of};
 ghost use Rattle.jt_platform.specs.Hub.{opening_of};
 ghost use Rattle.jt_session.specs.TurnLaw.{IsNew};
@@ -61,6 +62,7 @@ fn answer<R: Wait, K: Link, P: Keeper>(
     ensures waiting { session.new.waiting ≡ None }
     ensures place { session.new.stream.place ≤ session.old.stream.place + length octets.now }
     ensures short { result.0 ≤ 4184 * length octets.now }
+    ensures fit { AreOctets octets.now }
 {
     let mut out = Buffer::new(alloc);
     let fed = hear(rt, session, turn, pass, octets, &mut out);

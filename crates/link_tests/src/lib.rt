@@ -2,6 +2,8 @@
 #![tactic(auto)]
 
 #[cfg(test)]
+mod endless;
+#[cfg(test)]
 mod scripts;
 #[cfg(test)]
 mod sockets;
