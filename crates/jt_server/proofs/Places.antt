@@ -67,6 +67,7 @@ of_number n (x ∷ ended) = elim (ℕ_discrete x.number n) as (λ _. ((k : ℕ) 
   later : {A B : Type 0} (x : Ended A B) (n : ℕ) (ended : List (Ended A B)) → x.number ≢ n → ((k : ℕ) × (e : Ended A B) × (get_elem? ended k ≡ some e) × (e.number ≡ n)) ⊎ IsNoneOf n ended → ((k : ℕ) × (e : Ended A B) × (get_elem? (x ∷ ended) k ≡ some e) × (e.number ≡ n)) ⊎ IsNoneOf n (x ∷ ended)
   later x n ended ne (inl found) = inl (suc found.0, found.1, found.2, found.3)
   later x n ended ne (inr none) = inr (none_of x n ended ne none)
+
   none_of : {A B : Type 0} (x : Ended A B) (n : ℕ) (ended : List (Ended A B)) → x.number ≢ n → IsNoneOf n ended → IsNoneOf n (x ∷ ended)
   none_of x n ended ne none zero e at = subst (λ y. y.number ≢ n) (some-injective x e at) ne
   none_of x n ended ne none (suc m) e at = none m e at

@@ -77,7 +77,7 @@ lent_enough count (Some n) = omega arith
 
 module _ {O K : Type 0} (o : Opening) (opening : O) (turn : TurnId) (h : List Entry) (pool pool_now : Pool) (root : PassState Request Reply O) (wire : K → Wire) (report_of : K → Report) (links : List K) (reports : List Report) where
   module _ (seen : IsPrefix root.seen (map as_ask h)) (ended : HasEach (map as_ask h) root.ended) (legal : Legal o (newest h)) where
-    one_served : (m : ℕ) (left : Wire) (report : Report) → (j : IsJoined (Some o) opening turn pool.coming m root left report) → IsServed {O = O} o h (m + 1) j.worked.came left report
+    one_served : (m : ℕ) (left : Wire) (report : Report) → (j : IsJoined (Some o) opening turn pool.coming m root left report) → IsServed O o h (m + 1) j.worked.came left report
     one_served m left report j = record {
       pass = j.worked.pass;
       pass_now = j.pass_now;
@@ -89,7 +89,7 @@ module _ {O K : Type 0} (o : Opening) (opening : O) (turn : TurnId) (h : List En
 
     pub are_served : ((i : ℕ) (b : K) → get_elem? links i ≡ some b → IsJoined (Some o) opening turn pool.coming (length links - 1 - i) root (wire b) (report_of b)) → reports ≡ reverse (map report_of links)
         → pool_now.coming ≡ option_map (λ scripts. drop (length links) scripts) pool.coming → pool_now.back ≡ option_map (λ back. back ++ map used_of (reverse (map wire links))) pool.back → pool_now.lent ≡ option_map (λ n. n - length links) (option_map (λ n. n + length links) pool.lent)
-        → AreServed {O = O} o h pool pool_now reports
+        → AreServed O o h pool pool_now reports
     are_served joined is coming back lent =
         let many : length reports ≡ length links = ap length is ∙ (length-reverse (map report_of links) ∙ length-map report_of links) in record {
           back = reverse (map wire links);
@@ -118,6 +118,7 @@ module _ {O K : Type 0} (o : Opening) (opening : O) (turn : TurnId) (h : List En
     ended_none : (k : ℕ) (e : Ended Request Reply) → get_elem? root.ended k ≡ some e → e.number ≡ n → (e.number ≤ count) ⊎ (e.mine ≡ []) → entries_of n (map as_ask h) ≡ []
     ended_none k e at same (inl few) = absurd (omega (arith, same, few, above))
     ended_none k e at same (inr none) = ap (λ j. entries_of j (map as_ask h)) (sym same) ∙ (ended k e at ∙ none)
+
     by : ((k : ℕ) × (e : Ended Request Reply) × (get_elem? root.ended k ≡ some e) × (e.number ≡ n)) ⊎ IsNoneOf n root.ended → entries_of n (map as_ask h) ≡ []
     by (inl found) = ended_none found.0 found.1 found.2 found.3 (up_to found.0 found.1 found.2)
     by (inr none) = others n (λ e. omega (arith, e, number, above)) none
@@ -132,7 +133,7 @@ all_back : (back : Option (List Used)) → option_map (λ links. links ++ []) ba
 all_back None = refl
 all_back (Some links) = ap Some (append-nil links)
 
-pub nothing_served : {O : Type 0} (o : Opening) (h : List Entry) (pool : Pool) (reports : List Report) → reports ≡ [] → AreServed {O = O} o h pool pool reports
+pub nothing_served : {O : Type 0} (o : Opening) (h : List Entry) (pool : Pool) (reports : List Report) → reports ≡ [] → AreServed O o h pool pool reports
 nothing_served o h pool [] e = record {
   back = [];
   each = λ m report at. absurd (some-ne-none report (sym at));

@@ -39,7 +39,7 @@ pub record IsFullAfter (o : Opening) (h : List Entry) (q : Option Request) (l : 
 
 -- A link that came so was served under this number, and came back so. The history's entries of the number are those of the pass that
 -- served it, and where the report's end is ListFull the phone has as many rows as it may have after the whole history.
-pub record IsServed {O : Type 0} (o : Opening) (h : List Entry) (number : ℕ) (came back : Wire) (report : Report) : Type 0 where
+pub record IsServed (O : Type 0) (o : Opening) (h : List Entry) (number : ℕ) (came back : Wire) (report : Report) : Type 0 where
   pub pass : PassState Request Reply O
   pub pass_now : PassState Request Reply O
   pub serves : Serves (Some o) (2 ^ 40) pass pass_now came back report
@@ -58,10 +58,10 @@ store_faults (report ∷ reports) = one_fault report.end + store_faults reports
 
 -- Each of the listener's links that was accepted was new, the first of those to come, and was served under the number of its place,
 -- from 1 on; these links came back to the listener, in order, and no other.
-pub record AreServed {O : Type 0} (o : Opening) (h : List Entry) (pool pool_now : Pool) (reports : List Report) : Type 0 where
+pub record AreServed (O : Type 0) (o : Opening) (h : List Entry) (pool pool_now : Pool) (reports : List Report) : Type 0 where
   pub back : List Wire
   pub each : (m : ℕ) (report : Report) → get_elem? reports m ≡ some report
-      → (came left : Wire) × IsNew (option_map (λ scripts. drop m scripts) pool.coming) came × (get_elem? back m ≡ some left) × IsServed {O = O} o h (m + 1) came left report
+      → (came left : Wire) × IsNew (option_map (λ scripts. drop m scripts) pool.coming) came × (get_elem? back m ≡ some left) × IsServed O o h (m + 1) came left report
   pub as_many : length back ≡ length reports
   pub coming : pool_now.coming ≡ option_map (λ scripts. drop (length reports) scripts) pool.coming
   pub came_back : pool_now.back ≡ option_map (λ links. links ++ map used_of back) pool.back

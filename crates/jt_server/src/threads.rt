@@ -68,15 +68,15 @@ where
     requires history { hub.history ≡ [] }
     requires sessions { 1 ≤ sessions }
     // Each reply is one that the entries before it allow, over the opening of the hub, which stays but for its reserved number.
-    ensures legal { Legal (opening_of (P.tables hub.entry.start) (P.limit hub.entry.start) hub.entry.fleet hub.entry.secret) (newest result.hub.history) }
-    ensures opening { (result.hub.start ≡ hub.entry.start) × (result.hub.fleet ≡ hub.entry.fleet) × (result.hub.secret ≡ hub.entry.secret) }
+    ensures legal { Legal (opening_of (P.tables hub.start) (P.limit hub.start) hub.fleet hub.secret) (newest result.hub.history) }
+    ensures opening { (result.hub.start ≡ hub.start) × (result.hub.fleet ≡ hub.fleet) × (result.hub.secret ≡ hub.secret) }
     // What was served, and what came back to the listener.
-    ensures served { AreServed {O = Option (HubOpening P)} (opening_of (P.tables hub.entry.start) (P.limit hub.entry.start) hub.entry.fleet hub.entry.secret) result.hub.history (L.pool listen.old) (L.pool listen.new) result.reports }
+    ensures served { AreServed (Option (HubOpening P)) (opening_of (P.tables hub.start) (P.limit hub.start) hub.fleet hub.secret) result.hub.history (L.pool listen.old) (L.pool listen.new) result.reports }
     ensures no_other { (n : ℕ) → (n ≡ 0) ⊎ (length result.reports < n) → entries_of n (map as_ask result.hub.history) ≡ [] }
     ensures end { EndsAs result.end (length result.reports) sessions (L.pool listen.new) (L.faults listen.old) (L.faults listen.new) }
     ensures count { Counts (L.faults listen.old) (L.faults listen.new) }
     // The keeper's count rose by at least as many as the reports that end as StoreFault.
-    ensures faults { RoseBy (store_faults result.reports) (P.faults hub.entry.keeper) (P.faults result.hub.keeper) }
+    ensures faults { RoseBy (store_faults result.reports) (P.faults hub.keeper) (P.faults result.hub.keeper) }
 {
     let Ok(()) = hub.reserve(sessions) else {
         return refused(alloc, hub);
@@ -139,10 +139,10 @@ fn room<T: Drop>(alloc: Global, count: u32) -> Result<Buffer<T>, Memory>
 fn give_back<L: Listen>(listen: &mut L, mut links: Vec<Back<L::Link>>, reports: &mut Buffer<Report>)
     requires lent { IfSome (L.pool listen.old).lent (λ lent. length links.items ≤ lent) }
     requires room { length links.items ≤ reports.old.spare }
-    ensures reports { reports.new.items ≡ reports.old.items ++ reverse (map (λ b. b.report) links.entry.items) }
+    ensures reports { reports.new.items ≡ reports.old.items ++ reverse (map (λ b. b.report) links.items) }
     ensures coming { (L.pool listen.new).coming ≡ (L.pool listen.old).coming }
-    ensures back { (L.pool listen.new).back ≡ option_map (λ back. back ++ map used_of (reverse (map (λ b. wire_of L.Link.inbound L.Link.written L.Link.faults b.link) links.entry.items))) (L.pool listen.old).back }
-    ensures lent { (L.pool listen.new).lent ≡ option_map (λ lent. lent - length links.entry.items) (L.pool listen.old).lent }
+    ensures back { (L.pool listen.new).back ≡ option_map (λ back. back ++ map used_of (reverse (map (λ b. wire_of L.Link.inbound L.Link.written L.Link.faults b.link) links.items))) (L.pool listen.old).back }
+    ensures lent { (L.pool listen.new).lent ≡ option_map (λ lent. lent - length links.items) (L.pool listen.old).lent }
     ensures count { L.faults listen.new ≡ L.faults listen.old }
 {
     while let Some(back) = links.pop() {
@@ -326,7 +326,7 @@ fn join_all<R: Threads, D: Door, P: Keeper>(
     requires room { (links.old.items ≡ []) × (length jobs.items ≤ links.old.spare) }
     ensures root { IsRoot pass.old.opening turn.now pass.old.base pass.new }
     ensures lent { pass.new.lent ≡ 0 }
-    ensures as_many { length links.new.items ≡ length jobs.entry.items }
+    ensures as_many { length links.new.items ≡ length jobs.items }
     ensures up_to { AreUpTo (length links.new.items) pass.new }
     ensures failed { HasFailed (store_faults (map (λ b. b.report) links.new.items)) pass.new }
     ensures links { (i : ℕ) (b : _) → get_elem? links.new.items i ≡ some b → IsJoined (option_map (λ o. opening_of (P.tables o.start) (P.limit o.start) o.fleet o.secret) pass.old.opening) pass.old.opening turn.now (D.pool before.value).coming (length links.new.items - 1 - i) pass.new (wire_of D.Link.inbound D.Link.written D.Link.faults b.link) b.report }

@@ -1,6 +1,6 @@
 //! What a thread does: it serves one link.
 
-ghost use Rattle.std.specs.Prelude.{◌≡◌, ◌≤◌, [], IsSomeAnd, option_map};
+ghost use Rattle.std.specs.Prelude.{◌≡◌, ◌≤◌, ◌^◌, [], IsSomeAnd, option_map};
 ghost use Rattle.jt_link.specs.Link.{wire_of};
 ghost use Rattle.jt_platform.specs.Hub.{opening_of};
 ghost use Rattle.jt_session.specs.Hearing.{IsSamePass};
@@ -54,7 +54,7 @@ pub(crate) fn serve_one<R: Wait, K: Link, P: Keeper>(
     requires turn { pass.turn ≡ turn.now }
     requires number { (1 ≤ pass.number) × IsSomeAnd pass.opening (λ o. pass.number ≤ o.reserved) }
     requires new { pass.mine ≡ [] }
-    ensures serves { Serves (option_map (λ o. opening_of (P.tables o.start) (P.limit o.start) o.fleet o.secret) pass.opening) (2 ^ 40) pass result.pass (wire_of K.inbound K.written K.faults link.entry) (wire_of K.inbound K.written K.faults result.link) result.report }
+    ensures serves { Serves (option_map (λ o. opening_of (P.tables o.start) (P.limit o.start) o.fleet o.secret) pass.opening) (2 ^ 40) pass result.pass (wire_of K.inbound K.written K.faults link) (wire_of K.inbound K.written K.faults result.link) result.report }
     ensures same { IsSamePass pass result.pass }
 {
     let (report, pass) = serve_link(rt, alloc, &mut link, turn, pass);

@@ -1,3 +1,5 @@
+ghost use Rattle.std.specs.Prelude.{◌≡◌, [], IfOk};
+
 use crate::waiting::Pair;
 use jt_link::{ScriptLink, ScriptListen};
 use jt_platform::{Fleet, Hub};
@@ -9,8 +11,6 @@ use std::alloc::Global;
 use std::sync::Arc;
 use std::sync::atomic::AtomicU64;
 use std::test::*;
-
-ghost use Rattle.std.specs.Prelude.{◌≡◌, [], IfOk};
 
 /// The heartbeat of phone 013912345678.
 const HEARTBEAT: &[u8; 15] = b"\x7e\x00\x02\x00\x00\x01\x39\x12\x34\x56\x78\x00\x00\x32\x7e";

@@ -28,7 +28,7 @@ loop-read-preserved-in-None g c =
       few = omega arith;
       course =
           course_reads (option_map (λ o. opening_of (g.P.Keeper.tables o.start) (g.P.Keeper.limit o.start) o.fleet o.secret) c.args.pass.now.opening) c.args.session.now c.args.pass.now (wire_of g.K.Sink.inbound g.K.Sink.written g.K.Sink.faults c.args.link.now) c.loop-read.session c.loop-read.pass (wire_of g.K.Sink.inbound g.K.Sink.written g.K.Sink.faults c.loop-read.link) (wire_of g.K.Sink.inbound g.K.Sink.written g.K.Sink.faults c.read.new.self) c.loop-read.read c.loop-read.written c.loop-read.quiets c.loop-read.invariant.course c.read.ensures.written (take c.in-Bytes.count c.read.new.buf) c.in-Bytes.count c.in-Bytes.ensures.octets.2 c.in-Bytes.ensures.cause c.answer-done.ensures.fit
-    (option_map (λ o. opening_of (g.P.Keeper.tables o.start) (g.P.Keeper.limit o.start) o.fleet o.secret) c.loop-read.pass.opening) (ap (λ x. option_map (λ o. opening_of (g.P.Keeper.tables o.start) (g.P.Keeper.limit o.start) o.fleet o.secret) x) c.loop-read.invariant.course.same.opening) c.answer-done.new.session c.answer-done.new.pass (wire_of g.K.Sink.inbound g.K.Sink.written g.K.Sink.faults c.answer-done.new.link) c.answer-done.result.0 c.answer-done.result.1 c.answer-done.ensures.answers c.answer-done.ensures.same
+          (option_map (λ o. opening_of (g.P.Keeper.tables o.start) (g.P.Keeper.limit o.start) o.fleet o.secret) c.loop-read.pass.opening) (ap (λ x. option_map (λ o. opening_of (g.P.Keeper.tables o.start) (g.P.Keeper.limit o.start) o.fleet o.secret) x) c.loop-read.invariant.course.same.opening) c.answer-done.new.session c.answer-done.new.pass (wire_of g.K.Sink.inbound g.K.Sink.written g.K.Sink.faults c.answer-done.new.link) c.answer-done.result.0 c.answer-done.result.1 c.answer-done.ensures.answers c.answer-done.ensures.same
           c.in-None.is c.answer-done.ensures.waiting (c.answer-done.ensures.on c.in-None.is) c.answer-done.ensures.place c.answer-done.ensures.short (omega (arith, length-take c.in-Bytes.count c.read.new.buf, c.in-Bytes.ensures.octets.1));
     }
 
