@@ -22,9 +22,7 @@ use jt_position::Fix;
 use jt_regions::RegionTable;
 use jt_store::{Loaded, StoreError, Vault};
 use jt_terminal_answers::first_params;
-use jt_terminal_rule::{
-    Event, GiveUp, Phase, Queue, Settings, State, Timing, Wait, lose, opened,
-};
+use jt_terminal_rule::{Event, GiveUp, Phase, Queue, Settings, State, Timing, Wait, lose, opened};
 use jt_terminal_steps::{TerminalError, beaten, received, ticked};
 use jt_value::{Memory, Octets, Seq};
 use std::alloc::Global;
@@ -206,7 +204,6 @@ pub struct Terminal<V: Vault> {
 }
 
 impl<V: Vault> Model for Terminal<V> {
-    
     ghost use Rattle.std.specs.Coded.{codes};
     ghost use Rattle.jt_params.specs.contracts.table.ParamTable as params;
     ghost use Rattle.jt_regions.specs.contracts.region_table.RegionTable as regions;

@@ -32,10 +32,7 @@ fn dword(value: &ParamValue) -> Option<u32>
 {
     match value {
         ParamValue::Dword(number) => Some(*number),
-        ParamValue::Byte(_)
-        | ParamValue::Word(_)
-        | ParamValue::Text(_)
-        | ParamValue::Raw(_) => None,
+        _ => None,
     }
 }
 

@@ -128,7 +128,7 @@ module _ {T : Type 0} (id_of : T → ℕ) where
     sets_say (Ok u) new s =
         let same : new ≡ put = same_maps new put (λ id. s.3 id ∙ sym (put_get list (kept setting old) id)) in
         let b = all_three (nat_le setting 2) (not (is_some (missing id_of setting list old))) (nat_le (count_after id_of setting list old) region_limit)
-            (few_is setting 2 s.0) (no_missing (missing id_of setting list old) s.1) (few_is (count_after id_of setting list old) region_limit s.2) in
+        (few_is setting 2 s.0) (no_missing (missing id_of setting list old) s.1) (few_is (count_after id_of setting list old) region_limit s.2) in
         ap (λ (b : Bool). cond b (Some put) None) b ∙ ap (λ (m : FinMap nat_cmp T). Some m) (sym same)
     sets_say (Err (errors.BadSetting n)) new s =
         not_taken (first_fails (nat_le setting 2) (not (is_some (missing id_of setting list old))) (nat_le (count_after id_of setting list old) region_limit) (many_is setting 2 s.0))

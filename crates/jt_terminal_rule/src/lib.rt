@@ -12,7 +12,9 @@ mod waits;
 
 pub use laws::{law_examples, law_forming, law_rule, law_unsaid, law_waits};
 pub use queue::Queue;
-pub use saying::{AUTH, beats, beats_if_silent, frame, header, lose, now_in, opened, repeats, say_auth, say_unit};
+pub use saying::{
+    AUTH, beats, beats_if_silent, frame, header, lose, now_in, opened, repeats, say_auth, say_unit,
+};
 pub use settings::Settings;
 pub use state::{Acknowledgement, AnswerKind, Event, GiveUp, Phase, State, Timing, Wait};
 pub use units::unit_of;

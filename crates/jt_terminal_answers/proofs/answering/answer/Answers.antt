@@ -29,4 +29,3 @@ change_regions-requires-in-Rectangles-clause-few c =
 pub change_regions-requires-in-Delete-clause-few : goal.change_regions-requires-in-Delete-clause-few
 change_regions-requires-in-Delete-clause-few c =
     subst (λ (change : RegionChange). AtMost 65535 change) (sym c.in_ok-change-in-Delete.ensures) (fits_deletion c.args.header.now.edition c.in-Delete.kind c.in-Delete.ids (subst (λ (m : Message). Fits c.args.header.now.edition m) c.in-Delete.is c.requires.fits))
-
