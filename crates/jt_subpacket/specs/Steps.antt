@@ -1,9 +1,10 @@
--- What the calls inside an assembler answer, and what holds of all that it keeps. Step definitions for the proofs; no public clause cites them.
-use Rattle.std.specs.Prelude.{◌≡◌, ℕ, zero, suc, ◌+◌, ◌*◌, ◌≤◌, ◌<◌, Bool, ◌==◌, ◌||◌, not, if◌then◌else◌, List, [], ◌∷◌, ◌++◌, length, take, drop, Some, slice_get, slice_set}
+-- The packets of a message as a list; what the calls inside an assembler answer, and what holds of all that it keeps. But for the packets these
+-- are step definitions for the proofs, which no public clause cites.
+use Rattle.std.specs.Prelude.{◌≡◌, ℕ, zero, suc, ◌+◌, ◌*◌, ◌≤◌, ◌<◌, ◌/◌, nat_le, None, Bool, ◌==◌, ◌||◌, not, if◌then◌else◌, List, [], ◌∷◌, ◌++◌, length, take, drop, Some, slice_get, slice_set}
 use Rattle.std.specs.FinMap.{get, len, contains_key}
 use Rattle.std.specs.List.{filter, flat_map, remove}
 use Rattle.jt_header.specs.declared.header.Header.{Header}
-use Rattle.jt_subpacket.specs.Parts.{Message, packet_header}
+use Rattle.jt_subpacket.specs.Parts.{Message, packet_header, packet_octets}
 use Rattle.jt_subpacket.specs.Partials.{Partial, Pieces, HasNumbers, missing, numbers, piece, with_piece}
 use Rattle.jt_subpacket.specs.Fates.{told}
 use Rattle.jt_subpacket.specs.declared.taken.Fate.{Fate}
@@ -18,6 +19,12 @@ piece_of body place = take 1023 (drop (place * 1023) body)
 abbrev pub front : Header → ℕ → List ℕ → ℕ → List Message
 front h total body zero = []
 front h total body (suc place) = front h total body place ++ (packet_header h total place, piece_of body place) ∷ []
+
+-- the packets of a message: one without packet fields, or pieces of 1,023 octets and a rest
+abbrev pub packets_of : Header → List ℕ → List Message
+packets_of h body =
+    if nat_le (length body) packet_octets then (record h { packet = None }, body) ∷ []
+    else front h ((length body + 1022) / 1023) body ((length body + 1022) / 1023)
 
 -- ---- what is kept of a message
 

@@ -2,7 +2,7 @@
 
 ghost use Rattle.std.specs.Prelude.{◌≡◌, ℕ, ◌*◌, ◌<◌, ◌≤◌, length, IfOk, IfErr};
 ghost use Rattle.jt_subpacket.specs.Parts.{Parts, packet_header};
-ghost use Rattle.jt_subpacket.specs.Steps.{front, piece_of};
+ghost use Rattle.jt_subpacket.specs.Steps.{front, packets_of, piece_of};
 ghost use Rattle.jt_subpacket.specs.declared.splitting.SplitError.TheVariants.{Memory as NoMemory, TooLarge};
 
 use jt_header::{Header, Packet};
@@ -106,6 +106,7 @@ pub fn split(
     body: &[u8],
 ) -> Result<Seq<(Header, Octets)>, SplitError>
     ensures parts { IfOk result (Parts header.now body.now) }
+    ensures packets { IfOk result (λ packets. packets ≡ packets_of header.now body.now) }
     ensures too_large { 261888 < length body.now → result ≡ Err (TooLarge (length body.now)) }
     ensures few { length body.now ≤ 261888 → IfErr result (λ error. error ≡ NoMemory) }
 {

@@ -3,6 +3,7 @@ use Rattle.std.proofs.Common.{ℕ, zero, suc, ◌≡◌, ◌<◌, ◌≤◌, ◌
 use Rattle.std.specs.Prelude.{All}
 use Rattle.std.proofs.lemmas.List.{length-drop, take-append-drop}
 use Rattle.jt_value.specs.Serials.{gap_of}
+use Rattle.jt_params.specs.Tables.{HasOctets}
 use Rattle.jt_position.specs.Fixes.{IsFix, fixes_of}
 use Rattle.jt_store.specs.declared.row.Row.{Row}
 use Rattle.jt_store.specs.declared.unit.Unit.{Unit as OneUnit}
@@ -15,7 +16,7 @@ use Rattle.jt_terminal_rule.specs.Messages.{AreSettings}
 use Rattle.jt_terminal_rule.specs.Steps.{fixes_in, past, past_accepted}
 use Rattle.jt_terminal_rule.specs.Rule.{started}
 use Rattle.jt_terminal_rule.specs.Machines.{Agrees, AreSerials, mark_of}
-use Rattle.jt_terminal.specs.Running.{Counts, IsSound}
+use Rattle.jt_terminal_steps.specs.Running.{Counts, IsSound}
 use Rattle.jt_terminal_rule.proofs.Accepting.{row_in, serial_is}
 use Rattle.jt_terminal_rule.proofs.Filling.{none_is_end}
 use Rattle.jt_terminal_rule.proofs.Measuring.{drop_from, take_upto}
@@ -72,11 +73,12 @@ agrees_started h settings l w is order mark next are =
     }
 
 pub sound_started : (held : Option Held) (settings : Settings) (l : Loaded) → AreSettings settings → Told held IsWhole → Told held (λ h. IsLoaded h l) → AreInOrder l.mark l.next l.units l.code → AreSerials l.units → All IsFix l.fixes
-    → l.mark < 65536 → l.next < 65536 → l.recorded < 2 ^ 64 → l.accepted < 2 ^ 64 → IsSound held (started settings l)
-sound_started held settings l good whole is order serials are mark next recorded accepted = record {
+    → l.mark < 65536 → l.next < 65536 → l.recorded < 2 ^ 64 → l.accepted < 2 ^ 64 → HasOctets (started settings l).params → IsSound held (started settings l)
+sound_started held settings l good whole is order serials are mark next recorded accepted octets = record {
   good = good;
   order = record { order = order; serials = serials; phase = tt; mark = mark; next = next; sent = omega arith };
   fixes = are;
+  params = octets;
   agrees = by held whole is;
 }
   where

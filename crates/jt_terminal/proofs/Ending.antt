@@ -7,7 +7,7 @@ use Rattle.jt_store.specs.Tables.{Told}
 use Rattle.jt_store.specs.Vaults.{Held, Gaps, carried, formed, settled}
 use Rattle.jt_terminal_rule.specs.declared.state.State.{State}
 use Rattle.jt_terminal_rule.specs.Machines.{Agrees, IsInOrder}
-use Rattle.jt_terminal.specs.Running.{IsDone, IsSound}
+use Rattle.jt_terminal_steps.specs.Running.{IsDone, IsSound}
 
 none_there : {A : Type 0} (xs : List A) → length xs ≡ 0 → xs ≡ []
 none_there [] e = refl

@@ -1,5 +1,4 @@
-mod Keeping
-mod Chaining
 mod Begins
 mod Naming
 mod Ending
+mod Lateness

@@ -5,7 +5,7 @@ ghost use Rattle.jt_store.specs.Vaults.{Held};
 ghost use Rattle.jt_terminal_rule.specs.Machines.{held_after};
 ghost use Rattle.jt_terminal_rule.specs.Rule.{Step, sends};
 ghost use Rattle.jt_terminal_rule.specs.declared.settings.Settings.{Settings};
-ghost use Rattle.jt_terminal.specs.Running.{holds_after};
+ghost use Rattle.jt_terminal_steps.specs.Running.{holds_after};
 
 /// What steps one after another send, and what a vault holds after them: where it tells nothing, nothing is told later.
 pub fn law_steps()

@@ -2,19 +2,16 @@
 #![tactic(auto)]
 
 mod actions;
-mod error;
-mod hearing;
 mod laws;
 mod loading;
+mod telling;
 mod terminal;
-mod ticking;
-mod window;
 
 pub use actions::Actions;
-pub use error::TerminalError;
 pub use jt_terminal_rule::{
-    Acknowledgement, Event, GiveUp, Phase, Queue, Settings, State, Timing, Wait, law_examples,
-    law_forming, law_rule, law_unsaid, law_waits,
+    Acknowledgement, AnswerKind, Event, GiveUp, Phase, Queue, Settings, State, Timing, Wait,
+    law_examples, law_forming, law_rule, law_unsaid, law_waits,
 };
+pub use jt_terminal_steps::TerminalError;
 pub use laws::law_steps;
 pub use terminal::Terminal;

@@ -1,32 +1,36 @@
 //! A terminal over a vault.
 
-ghost use Rattle.std.specs.Prelude.{◌≡◌, ◌≤◌, ◌<◌, ◌^◌, ◌↔◌, false, Bool, IfErr, IfOk, IsErrOf, IsOk, IsTrue, None, OnErr, OnOk, Some, length};
+ghost use Rattle.std.specs.Prelude.{ℕ, ◌≡◌, ◌≤◌, ◌<◌, ◌^◌, ◌↔◌, false, Bool, IfErr, IfOk, IsErrOf, IsOk, IsTrue, None, OnErr, OnOk, Some, length};
 ghost use Rattle.std.specs.Option.{option_to_list};
 ghost use Rattle.jt_store.specs.Tables.{HasCause, IsSteady, Rose, Told};
 ghost use Rattle.jt_store.specs.Vaults.{Held, Notes, Records, settled};
 ghost use Rattle.jt_terminal_rule.specs.Messages.{AreSettings};
 ghost use Rattle.jt_terminal_rule.specs.Rule as rule;
-ghost use Rattle.jt_terminal.specs.Running.{Counts, CutShort, IsDone, IsDown, IsEvent, IsRefused, IsSound, IsStarted, Outside, Ran, TerminalValue, holds_after, time_after};
-ghost use Rattle.jt_terminal.specs.declared.error.TerminalError.TheVariants.{Store};
-ghost use Rattle.jt_terminal_rule.specs.declared.state.Event.TheVariants.{Lost};
+ghost use Rattle.jt_terminal_steps.specs.Running.{Counts, CutShort, IsDone, IsDown, IsEvent, IsRefused, IsSound, IsStarted, Outside, Ran, TerminalValue, holds_after, time_after};
+ghost use Rattle.jt_terminal_steps.specs.declared.error.TerminalError.TheVariants.{Store};
+ghost use Rattle.jt_terminal_rule.specs.declared.state.Event.TheVariants.{Lost, Tick};
+ghost use Rattle.jt_terminal_rule.specs.declared.state.GiveUp.TheVariants.{TimedOut};
+ghost use Rattle.jt_terminal_rule.specs.Tables.{set_params};
+ghost use Rattle.jt_terminal_rule.specs.Waits.{IsLate, IsTimed};
+ghost use Rattle.std.specs.FinMap.{empty};
 
 use crate::actions::Actions;
-use crate::error::TerminalError;
-use crate::hearing::{is_acceptance, names, received};
 use crate::loading::{look_at_fixes, look_at_serials};
-use crate::ticking::{beaten, ticked};
-use jt_codec::Message;
+use crate::telling::told_by;
+use jt_params::ParamTable;
 use jt_position::Fix;
-use jt_store::{Loaded, StoreError, Unit, Vault};
-use jt_terminal_rule::{
-    Acknowledgement, Event, GiveUp, Phase, Queue, Settings, State, Timing, Wait, lose, opened,
-};
+use jt_regions::RegionTable;
+use jt_store::{Loaded, StoreError, Vault};
+use jt_terminal_answers::first_params;
+use jt_terminal_rule::{Event, GiveUp, Phase, Queue, Settings, State, Timing, Wait, lose, opened};
+use jt_terminal_steps::{TerminalError, beaten, received, ticked};
 use jt_value::{Memory, Octets, Seq};
 use std::alloc::Global;
 use std::marker::Model;
 
-// The state of a terminal that starts with what its vault loaded.
-fn started(settings: Settings, loaded: Loaded) -> State
+// The state of a terminal that starts with what its vault loaded, and the parameters of its settings.
+fn started(alloc: Global, settings: Settings, loaded: Loaded, params: ParamTable) -> State
+    requires { params ≡ set_params (rule.first_params settings) empty }
     ensures state { result ≡ rule.started settings loaded }
     ensures small { (result.mark < 65536) × (result.next < 65536) × (result.recorded < 2 ^ 64) × (result.accepted < 2 ^ 64) }
 {
@@ -49,6 +53,9 @@ fn started(settings: Settings, loaded: Loaded) -> State
         phase: Phase::Down,
         time: 0,
         timing,
+        params,
+        regions: RegionTable::new(alloc),
+        last: None,
         wait: Wait {
             since: 0,
             last: 0,
@@ -68,45 +75,12 @@ fn started(settings: Settings, loaded: Loaded) -> State
     }
 }
 
-// How many units stand before the first of those sent on this line that the response names.
-fn first_named(ack: Acknowledgement, sent: usize, units: &Queue<Unit>) -> Option<u64>
-    ensures { result ≡ rule.first_named ack sent units.now }
-{
-    for place in 0..sent {
-        let Some(unit) = units.get(place) else {
-            return None;
-        };
-        if names(ack, unit) {
-            return Some(place as u64);
-        }
-    }
-    None
-}
-
 // How many units stand before the one whose acceptance this event tells, if it tells one.
 fn told(state: &State, event: &Event) -> Option<u64>
     ensures { result ≡ rule.told state.now (rule.response event.now) }
 {
     match event {
-        Event::Received(
-            _,
-            Message::PlatformAck {
-                reply,
-                id,
-                result: answer,
-            },
-        ) => {
-            let ack = Acknowledgement {
-                reply: *reply,
-                id: *id,
-                result: *answer,
-            };
-            if is_acceptance(ack) {
-                first_named(ack, state.sent, &state.units)
-            } else {
-                None
-            }
-        }
+        Event::Received(_, message) => told_by(state, message),
         _ => None,
     }
 }
@@ -141,7 +115,6 @@ fn run_rule<V: Vault>(
     ensures err { OnErr result (CutShort (rule.rule state.old event.now).steps (V.holds vault.old) (V.holds vault.new)) }
     ensures sound { IsSound (V.holds vault.new) state.new }
     ensures settings { state.new.settings ≡ state.old.settings }
-    ensures timing { state.new.timing ≡ state.old.timing }
     ensures time { state.new.time ≡ time_after state.old event.now }
     ensures lost { event.now ≡ Lost → IsOk result }
     ensures outside { Outside (V.faults vault.old) (V.faults vault.new) (V.limit vault.old) (V.limit vault.new) (V.may_fail vault.old) (V.may_fail vault.new) result }
@@ -185,16 +158,18 @@ fn act<V: Vault>(
 ) -> Result<Actions, TerminalError>
     requires event { IsEvent state.old event.now }
     requires sound { IsSound (V.holds vault.old) state.old }
+    requires timed { IsTimed state.old }
     ensures state { OnOk result (state.new ≡ (rule.rule state.old event.now).state) }
     ensures vault { OnOk result (V.holds vault.new ≡ holds_after (rule.rule state.old event.now).steps (V.holds vault.old)) }
     ensures frames { IfOk result (λ actions. actions.frames ≡ rule.sends state.old.settings (rule.rule state.old event.now).steps) }
     ensures end { IfOk result (λ actions. actions.end ≡ (rule.rule state.old event.now).end) }
     ensures told { IfOk result (λ actions. actions.told ≡ option_to_list (rule.told state.old (rule.response event.now))) }
+    ensures late { (now since at : ℕ) → event.now ≡ Tick now → IfOk result (λ actions. actions.end ≡ Some (TimedOut since at) → IsLate state.old now since at) }
     ensures cut { OnErr result (CutShort (rule.rule state.old event.now).steps (V.holds vault.old) (V.holds vault.new)) }
     ensures down { OnErr result (IsDown state.new) }
     ensures sound { IsSound (V.holds vault.new) state.new }
+    ensures timed { IsTimed state.new }
     ensures settings { state.new.settings ≡ state.old.settings }
-    ensures timing { state.new.timing ≡ state.old.timing }
     ensures time { state.new.time ≡ time_after state.old event.now }
     ensures lost { event.now ≡ Lost → IsOk result }
     ensures outside { Outside (V.faults vault.old) (V.faults vault.new) (V.limit vault.old) (V.limit vault.new) (V.may_fail vault.old) (V.may_fail vault.new) result }
@@ -229,13 +204,19 @@ pub struct Terminal<V: Vault> {
 }
 
 impl<V: Vault> Model for Terminal<V> {
-    ghost use Rattle.jt_terminal.specs.Running.{IsSound, TerminalValue};
+    ghost use Rattle.std.specs.Coded.{codes};
+    ghost use Rattle.jt_params.specs.contracts.table.ParamTable as params;
+    ghost use Rattle.jt_regions.specs.contracts.region_table.RegionTable as regions;
+    ghost use Rattle.jt_terminal_rule.specs.Waits.{IsTimed};
+    ghost use Rattle.jt_terminal_steps.specs.Running.{IsSound, TerminalValue};
 
     ghost Value = { TerminalValue V };
 
+    ghost coded = { Prim.hlevel (codes, params.the_row.coded, regions.the_row.coded) };
+
     ghost view = { λ terminal. record { vault = terminal.vault; state = terminal.state } };
 
-    ghost invariant = { λ terminal. IsSound (V.holds terminal.vault) terminal.state };
+    ghost invariant = { λ terminal. IsSound (V.holds terminal.vault) terminal.state × IsTimed terminal.state };
 }
 
 impl<V: Vault> Terminal<V> {
@@ -251,11 +232,15 @@ impl<V: Vault> Terminal<V> {
         ensures ok { IfOk result (λ terminal. IsStarted settings (V.holds vault) terminal.state × (V.holds terminal.vault ≡ V.holds vault) × (V.limit terminal.vault ≡ V.limit vault) × (V.faults vault ≤ V.faults terminal.vault) × (V.may_fail vault ≡ false → V.may_fail terminal.vault ≡ false)) }
         ensures err { IfErr result (λ refused. (V.holds refused.0 ≡ V.holds vault) × (V.limit refused.0 ≡ V.limit vault) × IsRefused (V.faults vault) (V.faults refused.0) (V.may_fail vault) (V.may_fail refused.0) refused.1) }
     {
+        let params = match first_params(alloc, &settings) {
+            Ok(params) => params,
+            Err(Memory) => return Err((vault, StoreError::Memory)),
+        };
         match vault.load(alloc) {
             Ok(loaded) => {
                 look_at_fixes(loaded.fixes.as_slice());
                 look_at_serials(loaded.units.as_slice());
-                let state = started(settings, loaded);
+                let state = started(alloc, settings, loaded, params);
                 Ok(Terminal { vault, state })
             }
             Err(error) => Err((vault, error)),
@@ -273,11 +258,13 @@ impl<V: Vault> Terminal<V> {
         ensures steady { IsSteady (V.may_fail self.old.vault) (V.may_fail self.new.vault) result }
     {
         let copy = fix.clone()?;
+        let last = fix.clone()?;
         let _octets = fix.as_slice();
         self.state.waiting.push(copy)?;
         match self.vault.note_fix(alloc, fix) {
             Ok(()) => {
                 self.state.recorded = self.state.recorded.saturating_add(1);
+                self.state.last = Some(last);
                 Ok(())
             }
             Err(error) => {
@@ -298,12 +285,13 @@ impl<V: Vault> Terminal<V> {
         ensures vault { OnOk result (V.holds self.new.vault ≡ holds_after (rule.rule self.old.state event).steps (V.holds self.old.vault)) }
         ensures frames { IfOk result (λ actions. actions.frames ≡ rule.sends self.old.state.settings (rule.rule self.old.state event).steps) }
         ensures end { IfOk result (λ actions. actions.end ≡ (rule.rule self.old.state event).end) }
+        // A line is given up for want of an answer only once all waits have passed since the first sending.
+        ensures late { (now since at : ℕ) → event ≡ Tick now → IfOk result (λ actions. actions.end ≡ Some (TimedOut since at) → IsLate self.old.state now since at) }
         ensures told { IfOk result (λ actions. actions.told ≡ option_to_list (rule.told self.old.state (rule.response event))) }
         ensures cut { OnErr result (CutShort (rule.rule self.old.state event).steps (V.holds self.old.vault) (V.holds self.new.vault)) }
         ensures down { OnErr result (IsDown self.new.state) }
         ensures sound { IsSound (V.holds self.new.vault) self.new.state }
         ensures settings { self.new.state.settings ≡ self.old.state.settings }
-        ensures timing { self.new.state.timing ≡ self.old.state.timing }
         ensures time { self.new.state.time ≡ time_after self.old.state event }
         ensures lost { event ≡ Lost → IsOk result }
         ensures outside { Outside (V.faults self.old.vault) (V.faults self.new.vault) (V.limit self.old.vault) (V.limit self.new.vault) (V.may_fail self.old.vault) (V.may_fail self.new.vault) result }

@@ -42,7 +42,7 @@ pub loosen : (m : Machine) (just : Option Acknowledgement) (xs : List TerminalSt
 loosen m just [] may = may
 loosen m just (x ∷ xs) may = (loosen_step m just x may.0, may.1)
 
-may_append : (m : Machine) (just : Option Acknowledgement) (xs ys : List TerminalStep) → MayRun m just xs → MayRun (run m xs) None ys → MayRun m just (xs ++ ys)
+pub may_append : (m : Machine) (just : Option Acknowledgement) (xs ys : List TerminalStep) → MayRun m just xs → MayRun (run m xs) None ys → MayRun m just (xs ++ ys)
 may_append m just [] ys may more = loosen m just ys more
 may_append m just (x ∷ xs) ys may more = (may.0, may_append (stepped m x) None xs ys may.1 more)
 

@@ -21,9 +21,11 @@ use Rattle.jt_terminal_rule.specs.declared.state.Phase.{Phase}
 use Rattle.jt_terminal_rule.specs.declared.state.Phase.TheVariants.{Down, Registering, Authenticating, Live}
 use Rattle.jt_terminal_rule.specs.Messages.{is_acceptance}
 use Rattle.jt_terminal_rule.specs.Forming.{unit_of}
-use Rattle.jt_terminal_rule.specs.Rule.{Ruled, accepts, and_then, answered, authenticated, beats, beats_if_silent, beaten, begun, coded, down, fill, fills, fills_if_live, forgets, forms_one, gives_up, goes_on, has_passed, introduces, is_registered, is_silent, is_waiting, names, next_one, noted, one_sent, opened, or_stays, received, registered, repeats, replied, responded, rule, sends_one, started, stays, ticked, wait_behind, window}
+use Rattle.jt_terminal_rule.specs.Rule.{Ruled, Heard, Whole, Refused, Lacks, TooMany, accepts, and_then, answered, answers, answers_if_live, authenticated, beats, beats_if_silent, beaten, begun, coded, down, fill, fills, forgets, forms_one, gives_up, goes_on, has_passed, heard, introduces, is_registered, is_silent, is_waiting, names, next_one, noted, one_sent, opened, or_stays, received, registered, repeats, replied, responded, rule, sends_one, started, stays, ticked, wait_behind, window}
 use Rattle.jt_terminal_rule.specs.Rule as rule
-use Rattle.jt_terminal_rule.specs.Waits.{IsTimed, PassesAllWaits, waited}
+use Rattle.jt_terminal_rule.specs.Waits.{IsLate, IsTimed, PassesAllWaits, waited}
+use Rattle.jt_terminal_rule.specs.Answers.{Answer, answer_to, answer_to_refused, answer_to_lack}
+use Rattle.jt_terminal_rule.proofs.Answering.{answers_phase, answers_sent, answers_wait}
 use Rattle.jt_terminal_rule.proofs.Speaking.{at}
 
 -- ---- waits
@@ -157,17 +159,28 @@ module _ (s : State) where
       by false = timed
   timed_responded (Live serial) ack octets timed = timed_answered serial s.units ack octets timed
 
-  timed_passed : (p : Phase) → IsTimed (at s p) → IsTimed (fills_if_live p (at s p)).state
-  timed_passed Down timed = timed
-  timed_passed (Registering serial) timed = timed
-  timed_passed (Authenticating serial) timed = timed
-  timed_passed (Live serial) timed = timed_fills (at s (Live serial)) serial refl timed
+  timed_answers : (a : Answer) (p : Phase) → IsTimed (at s p) → IsTimed (answers_if_live p (at s p) a).state
+  timed_answers a Down timed = timed
+  timed_answers a (Registering serial) timed = timed
+  timed_answers a (Authenticating serial) timed = timed
+  timed_answers a (Live serial) timed =
+      let t = (answers (at s (Live serial)) a).state in
+      let live = answers_phase (at s (Live serial)) a in
+      let same : is_waiting t.phase t.sent ≡ is_waiting (Live serial) s.sent = ap (λ (p : Phase). is_waiting p t.sent) live ∙ ap (is_waiting (Live serial)) (answers_sent (at s (Live serial)) a) in
+      timed_fills t serial live (timed_like (at s (Live serial)) t (answers_wait (at s (Live serial)) a) (λ w. sym same ∙ w) timed)
 
 -- the rule at a message, whatever it is
 timed_received : (s : State) (h : Header) (m : Message) → IsTimed s → IsTimed (received s h m).state
 timed_received s h (message.PlatformAck reply id result) timed = timed_responded s s.phase (record { reply = reply; id = id; result = result }) (body_octets h.edition (message.PlatformAck reply id result)) timed
 timed_received s h (message.RegisterReply reply) timed = timed_registered s s.phase reply (body_octets h.edition (message.RegisterReply reply)) timed
-timed_received s h _ timed = timed_passed s s.phase timed
+timed_received s h m timed = timed_answers s (answer_to s h m) s.phase timed
+
+-- what is heard on the line, whatever it is
+timed_heard : (s : State) (x : Heard) → IsTimed s → IsTimed (heard s x).state
+timed_heard s (Whole h m) timed = timed_received s h m timed
+timed_heard s (Refused h) timed = timed_answers s (answer_to_refused s h) s.phase timed
+timed_heard s (Lacks h first numbers) timed = timed_answers s (answer_to_lack s s.settings.phone.edition first numbers) s.phase timed
+timed_heard s (TooMany h) timed = timed_answers s (answer_to_refused s h) s.phase timed
 
 -- ---- heartbeats and moments
 
@@ -262,10 +275,6 @@ goes_on_endless s (Live serial) = fill_endless window (beats_if_silent s).state
 none_or_some : (cause : GiveUp) → Some cause ≡ None → ⊥
 none_or_some cause e = cc
 
--- what is said of the end of a line at this moment
-abbrev IsLate : State → ℕ → ℕ → ℕ → Type 0
-IsLate s now since at = (at ≡ now) × (since ≡ s.wait.since) × (s.wait.repeats < s.wait.sendings) × (since + waited s.wait.first s.wait.sendings ≤ now)
-
 timed_late : (s : State) (now since at : ℕ) → IsTimed s → (rule s (event.Tick now)).end ≡ Some (TimedOut since at) → IsLate s now since at
 timed_late s now since at timed e = by (has_passed (record s { time = now })) refl e
   where
@@ -292,5 +301,6 @@ passes_all_waits = record {
   noted = λ s fix timed. timed_like s (noted s fix) refl (λ w. w) timed;
   lost = timed_down;
   kept = timed_rule;
+  heard = timed_heard;
   late = timed_late;
 }

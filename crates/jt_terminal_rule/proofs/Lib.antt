@@ -6,10 +6,12 @@ pub mod Composing
 pub mod Filling
 mod Controlling
 pub mod Speaking
+pub mod Answering
+pub mod Tabling
 mod Ruling
 mod Cutting
 mod Telling
 pub mod Starting
 pub mod Measuring
-mod Lasting
+pub mod Lasting
 mod Unsaying

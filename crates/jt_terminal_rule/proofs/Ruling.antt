@@ -18,11 +18,13 @@ use Rattle.jt_terminal_rule.specs.declared.state.Acknowledgement.{Acknowledgemen
 use Rattle.jt_terminal_rule.specs.Messages.{AreSettings, header_of, is_acceptance}
 use Rattle.jt_terminal_rule.specs.Steps.{Machine, hears, lets_in, auths_by}
 use Rattle.jt_terminal_rule.specs.declared.state.State.{State}
-use Rattle.jt_terminal_rule.specs.Rule.{Ruled, fills, window, fills_if_live, responded, answered, authenticated, registered, replied, received, response_in, names, beats, beats_if_silent, is_silent, beaten, repeats, again, oldest_again, goes_on, has_passed, sent_again, ticked, gives_up, accepts, and_then}
+use Rattle.jt_terminal_rule.specs.Rule.{Ruled, fills, window, answers, answers_if_live, Heard, Whole, Refused, Lacks, TooMany, heard, responded, answered, authenticated, registered, replied, received, response_in, names, beats, beats_if_silent, is_silent, beaten, repeats, again, oldest_again, goes_on, has_passed, sent_again, ticked, gives_up, accepts, and_then}
 use Rattle.jt_terminal_rule.specs.Rule as rule
 use Rattle.jt_terminal_rule.specs.declared.state.Event.TheVariants as event
 use Rattle.jt_terminal_rule.specs.Machines.{machine_of, held_after, IsPhase, IsInOrder, Agrees}
-use Rattle.jt_terminal_rule.specs.Law.{AreSteps, RuleTakesSteps, UnitCarriesFirstFixes}
+use Rattle.jt_terminal_rule.specs.Answers.{Answer, answer_to, answer_to_refused, answer_to_lack}
+use Rattle.jt_terminal_rule.specs.Law.{AreSteps, HeardTakesSteps, RuleTakesSteps, UnitCarriesFirstFixes}
+use Rattle.jt_terminal_rule.proofs.Answering.{answers_phase, answers_steps}
 use Rattle.jt_terminal_rule.proofs.Numbering.{length-numbered}
 use Rattle.jt_terminal_rule.proofs.Composing.{and_then_steps, stays_steps, behind_any}
 use Rattle.jt_terminal_rule.proofs.Filling.{window_steps, acceptance_steps}
@@ -75,11 +77,18 @@ module _ (carries : UnitCarriesFirstFixes) (h : Held) (s : State) (good : AreSet
   live_fills : (serial : ℕ) → IsInOrder (at s (Live serial)) → Agrees h (at s (Live serial)) → AreSteps (machine_of h (at s (Live serial))) h None (fills (at s (Live serial)))
   live_fills serial o a = window_steps carries h (at s (Live serial)) serial refl o a
 
-  passed_over : (p : Phase) → IsInOrder (at s p) → Agrees h (at s p) → AreSteps (machine_of h (at s p)) h None (fills_if_live p (at s p))
-  passed_over Down o a = stays_steps h (at s Down) None o a
-  passed_over (Registering serial) o a = stays_steps h (at s (Registering serial)) None o a
-  passed_over (Authenticating serial) o a = stays_steps h (at s (Authenticating serial)) None o a
-  passed_over (Live serial) o a = live_fills serial o a
+  -- an answer, and then the window
+  live_answers : (a : Answer) (serial : ℕ) → AreSteps (machine_of h (at s (Live serial))) h None (answers (at s (Live serial)) a) → ((answers (at s (Live serial)) a).state.phase ≡ Live serial)
+      → AreSteps (machine_of h (at s (Live serial))) h None (and_then (answers (at s (Live serial)) a) fills)
+  live_answers a serial one live =
+      let r = answers (at s (Live serial)) a in
+      and_then_steps (machine_of h (at s (Live serial))) h None r fills one (window_steps carries (held_after r.steps h) r.state serial live one.in_order one.agrees)
+
+  pub answer_steps : (a : Answer) (p : Phase) → IsInOrder (at s p) → Agrees h (at s p) → AreSteps (machine_of h (at s p)) h None (answers_if_live p (at s p) a)
+  answer_steps a Down o g = stays_steps h (at s Down) None o g
+  answer_steps a (Registering serial) o g = stays_steps h (at s (Registering serial)) None o g
+  answer_steps a (Authenticating serial) o g = stays_steps h (at s (Authenticating serial)) None o g
+  answer_steps a (Live serial) o g = live_answers a serial (answers_steps h s serial good a o g) (answers_phase (at s (Live serial)) a)
 
   module _ (ack : Acknowledgement) (octets : List ℕ) where
     stays_behind : (p : Phase) → lets_in (machine_of h (at s p)).auths ack ≡ false → IsInOrder (at s p) → Agrees h (at s p) → AreSteps (hears (machine_of h (at s p)) (Some ack)) h (Some ack) (rule.stays (at s p))
@@ -216,7 +225,14 @@ module _ (carries : UnitCarriesFirstFixes) (h : Held) (s : State) (good : AreSet
 pub message_steps : UnitCarriesFirstFixes → (h : Held) (s : State) → AreSettings s.settings → IsInOrder s → Agrees h s → (header : Header) (m : Message) → AreSteps (hears (machine_of h s) (response_in m)) h (response_in m) (received s header m)
 message_steps carries h s good o a header (message.PlatformAck reply id result) = response_steps carries h s good (record { reply = reply; id = id; result = result }) (body_octets header.edition (message.PlatformAck reply id result)) s.phase o a
 message_steps carries h s good o a header (message.RegisterReply reply) = reply_steps carries h s good reply (body_octets header.edition (message.RegisterReply reply)) s.phase o a
-message_steps carries h s good o a header _ = passed_over carries h s good s.phase o a
+message_steps carries h s good o a header m = answer_steps carries h s good (answer_to s header m) s.phase o a
+
+-- what is heard on the line
+pub heard_steps : UnitCarriesFirstFixes → HeardTakesSteps
+heard_steps carries h s (Whole header m) good o a = message_steps carries h s good o a header m
+heard_steps carries h s (Refused header) good o a = answer_steps carries h s good (answer_to_refused s header) s.phase o a
+heard_steps carries h s (Lacks header first numbers) good o a = answer_steps carries h s good (answer_to_lack s s.settings.phone.edition first numbers) s.phase o a
+heard_steps carries h s (TooMany header) good o a = answer_steps carries h s good (answer_to_refused s header) s.phase o a
 
 repeated_and_on : UnitCarriesFirstFixes → (h : Held) (s : State) → AreSettings s.settings → IsInOrder s → Agrees h s → has_passed s ≡ true → (b : Bool)
     → AreSteps (machine_of h s) h None (cond b (and_then (repeats s) (goes_on s.phase)) (gives_up s [] (TimedOut s.wait.since s.time)))

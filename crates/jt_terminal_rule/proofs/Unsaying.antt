@@ -18,9 +18,11 @@ use Rattle.jt_terminal_rule.specs.declared.state.Phase.TheVariants.{Down, Regist
 use Rattle.jt_terminal_rule.specs.declared.state.GiveUp.TheVariants.{Denied}
 use Rattle.jt_terminal_rule.specs.Forming.{batch_unit, fitting, position_unit, unit_of}
 use Rattle.jt_terminal_rule.specs.Messages.{frame_of, header_of, is_acceptance}
-use Rattle.jt_terminal_rule.specs.Rule.{Step, Ruled, accepts, answered, authenticated, coded, fill, fills, fills_if_live, forgets, forms_one, gives_up, is_registered, names, next_one, one_sent, or_stays, received, registered, replied, responded, sends, sends_one, stays, window}
+use Rattle.jt_terminal_rule.specs.Rule.{Step, Ruled, accepts, and_then, answered, answers, answers_if_live, authenticated, coded, fill, fills, forgets, forms_one, gives_up, is_registered, names, next_one, one_sent, or_stays, received, registered, replied, responded, sends, sends_one, stays, window}
 use Rattle.jt_terminal_rule.specs.Rule as rule
 use Rattle.jt_terminal_rule.specs.Unsaid.{EachFrameIsOneLess, unsaid, unsaid_in, unsent}
+use Rattle.jt_terminal_rule.specs.Answers.{Answer, answer_to}
+use Rattle.jt_terminal_rule.proofs.Answering.{answers_lists, answers_phase, answers_sent}
 use Rattle.jt_terminal_rule.proofs.Speaking.{at}
 
 sends-append : (settings : Settings) (a b : List Step) → sends settings (a ++ b) ≡ sends settings a ++ sends settings b
@@ -206,14 +208,32 @@ module _ (settings : Settings) where
       by false = stays_less (at s (Authenticating serial))
   responded_less s (Live serial) ack octets le = answered_less s serial s.units ack octets refl le
 
-  passed_less : (s : State) (p : Phase) → s.sent ≤ length s.units → LessAt (at s p) (unsaid (at s p)) (fills_if_live p (at s p))
-  passed_less s Down le = stays_less (at s Down)
-  passed_less s (Registering serial) le = stays_less (at s (Registering serial))
-  passed_less s (Authenticating serial) le = stays_less (at s (Authenticating serial))
-  passed_less s (Live serial) le = fills_less (at s (Live serial)) serial refl le
+  more_room : (a b : ℕ) (r : Ruled) (s : State) → LessAt s a r → LessAt s (b + a) r
+  more_room a b r s le = omega (arith, le)
+
+  answers_less : (s : State) (serial : ℕ) (a : Answer) → s.sent ≤ length s.units
+      → LessAt (at s (Live serial)) (length (sends settings (answers (at s (Live serial)) a).steps) + unsent s) (and_then (answers (at s (Live serial)) a) fills)
+  answers_less s serial a le =
+      let r = answers (at s (Live serial)) a in
+      let lists = answers_lists (at s (Live serial)) a in
+      let sent = answers_sent (at s (Live serial)) a in
+      let units = ap (λ (us : List OneUnit). length us) lists.0 in
+      let waiting = ap (λ (fs : List (List ℕ)). length fs) lists.1 in
+      let rest = fills_less r.state serial (answers_phase (at s (Live serial)) a) (omega (arith, sent, units, le)) in
+      let both = ap (λ (fs : List (List ℕ)). length fs) (sends-append settings r.steps (fills r.state).steps) ∙ length-append (sends settings r.steps) (sends settings (fills r.state).steps) in
+      omega (arith, both, rest, sent, units, waiting)
+
+  live_or_not : (s : State) (p : Phase) (a : Answer) → s.sent ≤ length s.units → LessAt (at s p) (length (sends settings (answers (at s p) a).steps) + unsaid (at s p)) (answers_if_live p (at s p) a)
+  live_or_not s Down a le = more_room (unsaid (at s Down)) (length (sends settings (answers (at s Down) a).steps)) (stays (at s Down)) (at s Down) (stays_less (at s Down))
+  live_or_not s (Registering serial) a le = more_room (unsaid (at s (Registering serial))) (length (sends settings (answers (at s (Registering serial)) a).steps)) (stays (at s (Registering serial))) (at s (Registering serial)) (stays_less (at s (Registering serial)))
+  live_or_not s (Authenticating serial) a le = more_room (unsaid (at s (Authenticating serial))) (length (sends settings (answers (at s (Authenticating serial)) a).steps)) (stays (at s (Authenticating serial))) (at s (Authenticating serial)) (stays_less (at s (Authenticating serial)))
+  live_or_not s (Live serial) a le = answers_less s serial a le
+
+none_more : (a b : ℕ) → a ≤ b → a ≤ 0 + b
+none_more a b le = omega (arith, le)
 
 pub each_frame : EachFrameIsOneLess
-each_frame s h (message.PlatformAck reply id result) le =
-    responded_less s.settings s s.phase (record { reply = reply; id = id; result = result }) (body_octets h.edition (message.PlatformAck reply id result)) le
-each_frame s h (message.RegisterReply reply) le = registered_less s.settings s s.phase reply (body_octets h.edition (message.RegisterReply reply)) le
-each_frame s h _ le = passed_less s.settings s s.phase le
+each_frame s h (message.PlatformAck reply id result) le = none_more _ (unsaid s) (
+    responded_less s.settings s s.phase (record { reply = reply; id = id; result = result }) (body_octets h.edition (message.PlatformAck reply id result)) le)
+each_frame s h (message.RegisterReply reply) le = none_more _ (unsaid s) (registered_less s.settings s s.phase reply (body_octets h.edition (message.RegisterReply reply)) le)
+each_frame s h m le = live_or_not s.settings s s.phase (answer_to s h m) le

@@ -21,7 +21,7 @@ use Rattle.jt_terminal_rule.specs.Steps.{Machine, MayRun, MayStep, Restarts, run
 use Rattle.jt_terminal_rule.specs.declared.state.State.{State}
 use Rattle.jt_terminal_rule.specs.declared.state.Event.{Event}
 use Rattle.jt_terminal_rule.specs.declared.state.Event.TheVariants.{Opened, Received, Tick}
-use Rattle.jt_terminal_rule.specs.Rule.{Ruled, Step, Sends, Says, Changes, Opens, Loses, after_control, down, noted, response, rule, started, told, sends}
+use Rattle.jt_terminal_rule.specs.Rule.{Ruled, Step, Sends, Says, Changes, Opens, Loses, Heard, Whole, Refused, Lacks, TooMany, after_control, after_packets, down, heard, noted, response, response_in, rule, started, told, sends}
 use Rattle.jt_terminal_rule.specs.Machines.{machine_of, as_steps, held_after, Agrees, IsInOrder, MayCommit}
 
 -- a batch may have at most 1,023 octets where it has at most so many fixes, and only there
@@ -41,6 +41,11 @@ pub record UnitCarriesFirstFixes : Type 0 where
 abbrev pub ControlKeepsTheLastPlace : Type 0
 ControlKeepsTheLastPlace = (s : State) → s.mark < 65536 → s.next < 65536 → gap_of s.mark s.next ≤ 32766 → gap_of s.mark (after_control s) ≤ 32766
 
+-- nor does a message in packets, and one in one packet takes one serial
+pub record PacketsKeepTheLastPlace : Type 0 where
+  pub near : (s : State) (count : ℕ) → s.mark < 65536 → s.next < 65536 → gap_of s.mark s.next ≤ 32766 → gap_of s.mark (after_packets s count) ≤ 32766
+  pub one : (s : State) → after_packets s 1 ≡ after_control s
+
 -- Steps of the rule from the machine m, where the vault holds `held`: they are steps of the machine, the first of them directly after
 -- `just`, and lead to the machine of the new state, which is in order and agrees with what the vault then holds. The vault takes each change.
 pub record AreSteps (m : Machine) (held : Held) (just : Option Acknowledgement) (r : Ruled) : Type 0 where
@@ -54,6 +59,18 @@ pub record AreSteps (m : Machine) (held : Held) (just : Option Acknowledgement) 
 abbrev pub RuleTakesSteps : Type 0
 RuleTakesSteps = (held : Held) (s : State) (event : Event) → AreSettings s.settings → IsInOrder s → Agrees held s
     → AreSteps (hears (machine_of held s) (response event)) held (response event) (rule s event)
+
+-- the response that is heard, if one is
+abbrev pub response_heard : Heard → Option Acknowledgement
+response_heard (Whole h m) = response_in m
+response_heard (Refused h) = None
+response_heard (Lacks h first numbers) = None
+response_heard (TooMany h) = None
+
+-- So does what the rule does at what is heard on the line.
+abbrev pub HeardTakesSteps : Type 0
+HeardTakesSteps = (held : Held) (s : State) (x : Heard) → AreSettings s.settings → IsInOrder s → Agrees held s
+    → AreSteps (hears (machine_of held s) (response_heard x)) held (response_heard x) (heard s x)
 
 -- the changes of the vault among these steps, in order, and then the loss of the line
 abbrev pub changes_then_loss : List Step → List Step
@@ -73,6 +90,9 @@ AreCutSteps held s just steps = (done left : List Step) → steps ≡ done ++ le
 -- an event that is cut short, as by want of memory, is steps that any terminal may take too
 abbrev pub RuleIsCutInSteps : Type 0
 RuleIsCutInSteps = (held : Held) (s : State) (event : Event) → AreSettings s.settings → IsInOrder s → Agrees held s → AreCutSteps held s (response event) (rule s event).steps
+
+abbrev pub HeardIsCutInSteps : Type 0
+HeardIsCutInSteps = (held : Held) (s : State) (x : Heard) → AreSettings s.settings → IsInOrder s → Agrees held s → AreCutSteps held s (response_heard x) (heard s x).steps
 
 -- the unit whose acceptance the terminal is told is the machine's
 abbrev pub RuleTellsTheUnit : Type 0

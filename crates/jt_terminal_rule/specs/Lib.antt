@@ -7,3 +7,5 @@ pub mod Steps
 pub mod Tails
 pub mod Waits
 pub mod Unsaid
+pub mod Tables
+pub mod Answers

@@ -1,6 +1,7 @@
 -- The terminal's rule: what it does at each event, as a function of its state (this project's own). To be believed.
--- Registration, authentication, heartbeat and general response are the standard's. It answers no other message yet.
+-- Registration, authentication, heartbeat and general response are the standard's.
 use Rattle.std.specs.Prelude.{ℕ, zero, suc, ◌+◌, ◌-◌, ◌*◌, ◌^◌, min, List, [], ◌∷◌, ◌++◌, drop, length, slice_get, Option, None, Some, Bool, true, false, not, ◌==◌, ◌&&◌, nat_lt, nat_le, if◌then◌else◌}
+use Rattle.std.specs.FinMap.{empty}
 use Rattle.std.specs.Option.{option_map, unwrap_or}
 use Rattle.jt_value.specs.Serials.{gap_of, serial_of}
 use Rattle.jt_header.specs.declared.header.Header.{Header}
@@ -24,12 +25,28 @@ use Rattle.jt_terminal_rule.specs.declared.state.GiveUp.TheVariants.{Denied, Tim
 use Rattle.jt_terminal_rule.specs.Forming.{unit_of}
 use Rattle.jt_terminal_rule.specs.declared.state.Acknowledgement.{Acknowledgement}
 use Rattle.jt_terminal_rule.specs.Messages.{is_acceptance, header_of, frame_of, register_octets, auth_octets}
+use Rattle.jt_params.specs.declared.param.Param.{Param}
+use Rattle.jt_params.specs.Tables.{Table, param_of}
+use Rattle.jt_params.specs.declared.param.ParamValue.TheVariants.{Dword}
+use Rattle.jt_subpacket.specs.Parts.{Message as Packet}
+use Rattle.jt_subpacket.specs.Steps.{packets_of}
+use Rattle.jt_terminal_rule.specs.Tables.{set_params, no_regions}
+use Rattle.jt_terminal_rule.specs.declared.state.AnswerKind.{AnswerKind}
+use Rattle.jt_terminal_rule.specs.Answers.{Answer, id_of_answer, answer_to, answer_to_refused, answer_to_lack}
 
 -- ---- what a terminal keeps
 
 -- the parameters that a terminal begins with
 abbrev pub timing_of : Settings → Timing
 timing_of settings = record { heartbeat = settings.heartbeat; answer = settings.answer; repeats = settings.repeats }
+
+-- a time as a parameter of a table
+abbrev pub time_param : ℕ → ℕ → Param
+time_param id number = param_of id (Dword number)
+
+-- the times that a terminal begins with, as parameters of a table
+abbrev pub first_params : Settings → List Param
+first_params settings = time_param 0x0001 settings.heartbeat ∷ time_param 0x0002 settings.answer ∷ time_param 0x0003 settings.repeats ∷ []
 
 -- a terminal that starts over what its vault loads: the serial that is next is the one that was committed
 abbrev pub started : Settings → Loaded → State
@@ -38,6 +55,9 @@ started settings loaded = record {
   phase = Down;
   time = 0;
   timing = timing_of settings;
+  params = set_params (first_params settings) empty;
+  regions = no_regions;
+  last = None;
   wait = record { since = 0; last = 0; sendings = 0; first = 0; repeats = 0 };
   said = 0;
   units = loaded.units;
@@ -56,7 +76,7 @@ risen count by = min (count + by) (2 ^ 64 - 1)
 
 -- a fix is recorded, and waits
 abbrev pub noted : State → List ℕ → State
-noted s fix = record s { waiting = s.waiting ++ fix ∷ []; recorded = risen s.recorded 1 }
+noted s fix = record s { waiting = s.waiting ++ fix ∷ []; recorded = risen s.recorded 1; last = Some fix }
 
 -- the platform's response that was just read, if it was one
 abbrev pub response_in : Message → Option Acknowledgement
@@ -111,6 +131,10 @@ sends settings (Loses ∷ steps) = sends settings steps
 -- of 32,767 is kept for a unit.
 abbrev pub after_control : State → ℕ
 after_control s = if nat_lt (gap_of s.mark s.next) 32766 then serial_of (s.next + 1) else s.next
+
+-- The same of a message in so many packets, which takes a serial for each of them, but not past that gap.
+abbrev pub after_packets : State → ℕ → ℕ
+after_packets s count = if nat_lt (gap_of s.mark s.next) 32766 then serial_of (s.next + min count (32766 - gap_of s.mark s.next)) else s.next
 
 -- ---- waits
 
@@ -219,13 +243,6 @@ fill (suc n) s = or_stays s (next_one s) (fill n)
 abbrev pub fills : State → Ruled
 fills s = fill window s
 
--- a terminal that is Live fills its window after each event
-abbrev pub fills_if_live : Phase → State → Ruled
-fills_if_live Down s = stays s
-fills_if_live (Registering serial) s = stays s
-fills_if_live (Authenticating serial) s = stays s
-fills_if_live (Live serial) s = fills s
-
 -- ---- the platform's answers
 
 -- the reply gives a code, which may have at most 255 octets (this project's own limit)
@@ -283,12 +300,61 @@ registered Down s reply octets = stays s
 registered (Authenticating serial) s reply octets = stays s
 registered (Live serial) s reply octets = fills s
 
--- a message of the platform; every other one is passed over
+-- ---- answers
+
+abbrev pub says_each : List Packet → List Step
+says_each [] = []
+says_each (packet ∷ packets) = Says packet.0 packet.1 ∷ says_each packets
+
+-- The most octets of a message, which no answer comes near: 256 packets.
+abbrev pub message_limit : ℕ
+message_limit = 261888
+
+-- the packets of an answer; a short one has one packet without packet fields
+abbrev pub answer_packets : State → AnswerKind → List ℕ → List Packet
+answer_packets s kind octets =
+    if nat_le (length octets) message_limit then packets_of (header_of s.settings.phone (id_of_answer kind) s.next) octets else []
+
+abbrev pub says_packets : State → List Packet → Ruled
+says_packets s packets = record { state = record s { said = s.time; next = after_packets s (length packets) }; steps = says_each packets; end = None }
+
+abbrev pub says_answer : State → Option (AnswerKind × List ℕ) → Ruled
+says_answer s None = stays s
+says_answer s (Some says) = says_packets s (answer_packets s says.0 says.1)
+
+abbrev pub changed_by : State → Answer → State
+changed_by s a = record s { timing = a.timing; params = a.params; regions = a.regions }
+
+abbrev pub answers : State → Answer → Ruled
+answers s a = says_answer (changed_by s a) a.says
+
+-- a terminal that is Live answers, and then fills its window
+abbrev pub answers_if_live : Phase → State → Answer → Ruled
+answers_if_live Down s a = stays s
+answers_if_live (Registering serial) s a = stays s
+answers_if_live (Authenticating serial) s a = stays s
+answers_if_live (Live serial) s a = and_then (answers s a) fills
+
+-- a message of the platform
 abbrev pub received : State → Header → Message → Ruled
 received s h (message.PlatformAck reply id result) =
     responded s.phase s (record { reply = reply; id = id; result = result }) (body_octets h.edition (message.PlatformAck reply id result))
 received s h (message.RegisterReply reply) = registered s.phase s reply (body_octets h.edition (message.RegisterReply reply))
-received s h _ = fills_if_live s.phase s
+received s h m = answers_if_live s.phase s (answer_to s h m)
+
+-- What a terminal hears on its line: a message, a body that is refused under its header, the last packet of a message whose others lack
+-- (the serial of packet 1 and the numbers), or a packet of too many.
+pub data Heard : Type 0 where
+  Whole : Header → Message → Heard
+  Refused : Header → Heard
+  Lacks : Header → ℕ → List ℕ → Heard
+  TooMany : Header → Heard
+
+abbrev pub heard : State → Heard → Ruled
+heard s (Whole h m) = received s h m
+heard s (Refused h) = answers_if_live s.phase s (answer_to_refused s h)
+heard s (Lacks h first numbers) = answers_if_live s.phase s (answer_to_lack s s.settings.phone.edition first numbers)
+heard s (TooMany h) = answers_if_live s.phase s (answer_to_refused s h)
 
 -- ---- heartbeats and moments
 

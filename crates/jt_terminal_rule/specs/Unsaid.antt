@@ -5,7 +5,8 @@ use Rattle.jt_codec.specs.declared.message.Message.{Message}
 use Rattle.jt_terminal_rule.specs.declared.state.State.{State}
 use Rattle.jt_terminal_rule.specs.declared.state.Phase.{Phase}
 use Rattle.jt_terminal_rule.specs.declared.state.Phase.TheVariants.{Down, Registering, Authenticating, Live}
-use Rattle.jt_terminal_rule.specs.Rule.{received, sends}
+use Rattle.jt_terminal_rule.specs.Answers.{answer_to}
+use Rattle.jt_terminal_rule.specs.Rule.{answers, received, sends}
 
 -- the units that were not sent on this line, and the fixes that wait
 abbrev pub unsent : State → ℕ
@@ -21,6 +22,11 @@ unsaid_in (Live serial) s = unsent s
 abbrev pub unsaid : State → ℕ
 unsaid s = unsaid_in s.phase s
 
--- at a message of the platform each frame that is sent is one less that may still be said
+-- how many frames the terminal answers the message with, if it is Live
+abbrev pub frames_of_answer : State → Header → Message → ℕ
+frames_of_answer s h m = length (sends s.settings (answers s (answer_to s h m)).steps)
+
+-- At a message of the platform each frame that is sent, but for those of the answer, is one less that may still be said. Responses and
+-- replies have no answer.
 abbrev pub EachFrameIsOneLess : Type 0
-EachFrameIsOneLess = (s : State) (h : Header) (m : Message) → s.sent ≤ length s.units → length (sends s.settings (received s h m).steps) + unsaid (received s h m).state ≤ unsaid s
+EachFrameIsOneLess = (s : State) (h : Header) (m : Message) → s.sent ≤ length s.units → length (sends s.settings (received s h m).steps) + unsaid (received s h m).state ≤ frames_of_answer s h m + unsaid s

@@ -1,6 +1,6 @@
 //! Laws of the terminal's rule, which is defined in specs/Rule.
 
-ghost use Rattle.jt_terminal_rule.specs.Law.{ControlKeepsTheLastPlace, FirstStartIsInOrder, FittingIsGreatest, NotedFixIsAStep, ResponsesNameTheUnit, RuleIsCutInSteps, RuleTakesSteps, RuleTellsTheUnit, StartIsARestart, UnitCarriesFirstFixes, WaitsGrow};
+ghost use Rattle.jt_terminal_rule.specs.Law.{ControlKeepsTheLastPlace, FirstStartIsInOrder, FittingIsGreatest, HeardIsCutInSteps, HeardTakesSteps, NotedFixIsAStep, PacketsKeepTheLastPlace, ResponsesNameTheUnit, RuleIsCutInSteps, RuleTakesSteps, RuleTellsTheUnit, StartIsARestart, UnitCarriesFirstFixes, WaitsGrow};
 ghost use Rattle.jt_terminal_rule.specs.Unsaid.{EachFrameIsOneLess};
 ghost use Rattle.jt_terminal_rule.specs.Waits.{PassesAllWaits};
 ghost use Rattle.std.specs.Prelude.{ℕ, List};
@@ -19,8 +19,11 @@ pub fn law_forming()
 /// the last serial before the limit to a unit.
 pub fn law_rule()
     ensures control { ControlKeepsTheLastPlace }
+    ensures packets { PacketsKeepTheLastPlace }
     ensures steps { RuleTakesSteps }
     ensures cut { RuleIsCutInSteps }
+    ensures heard { HeardTakesSteps }
+    ensures heard_cut { HeardIsCutInSteps }
     ensures told { RuleTellsTheUnit }
     ensures noted { NotedFixIsAStep }
     ensures start { StartIsARestart }
@@ -41,7 +44,8 @@ pub fn law_waits()
     ensures { PassesAllWaits }
 {}
 
-/// At a message of the platform each frame that is sent is one less that the terminal may still say on its line.
+/// At a message of the platform each frame that is sent, but for those of its answer, is one less that the terminal may still
+/// say on its line.
 pub fn law_unsaid()
     ensures { EachFrameIsOneLess }
 {}

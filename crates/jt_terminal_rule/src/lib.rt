@@ -12,8 +12,10 @@ mod waits;
 
 pub use laws::{law_examples, law_forming, law_rule, law_unsaid, law_waits};
 pub use queue::Queue;
-pub use saying::{AUTH, beats, beats_if_silent, lose, now_in, opened, repeats, say_auth, say_unit};
+pub use saying::{
+    AUTH, beats, beats_if_silent, frame, header, lose, now_in, opened, repeats, say_auth, say_unit,
+};
 pub use settings::Settings;
-pub use state::{Acknowledgement, Event, GiveUp, Phase, State, Timing, Wait};
+pub use state::{Acknowledgement, AnswerKind, Event, GiveUp, Phase, State, Timing, Wait};
 pub use units::unit_of;
-pub use waits::{begun, has_passed, has_serial};
+pub use waits::{after_packets, begun, has_passed, has_serial};

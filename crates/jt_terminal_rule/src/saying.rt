@@ -2,7 +2,7 @@
 
 ghost use Rattle.std.specs.Prelude.{◌≡◌, ◌<◌, ◌≤◌, ◌^◌, ◌++◌, ◌∷◌, [], length, slice_get, OnOk, OnErr, IfOk, IfSome};
 ghost use Rattle.jt_header.specs.Content.{IsHeader};
-ghost use Rattle.jt_terminal_rule.specs.Messages.{AreSettings, frame_of, header_of, register_octets, auth_octets};
+ghost use Rattle.jt_terminal_rule.specs.Messages.{AreSettings, BeginsWith, frame_of, header_of, register_octets, auth_octets};
 ghost use Rattle.jt_terminal_rule.specs.Rule as rule;
 
 use crate::settings::Settings;
@@ -22,8 +22,8 @@ pub(crate) const REGISTER: u16 = 0x0100;
 
 pub const AUTH: u16 = 0x0102;
 
-// The header of a message in one packet.
-fn header(phone: &Phone, id: u16, serial: u16) -> Header
+/// The header of a message of this id in one packet.
+pub fn header(phone: &Phone, id: u16, serial: u16) -> Header
     ensures { result ≡ header_of phone.now id serial }
 {
     let version = match phone.edition {
@@ -41,9 +41,9 @@ fn header(phone: &Phone, id: u16, serial: u16) -> Header
     }
 }
 
-// The frame of a header and a body.
+/// The frame of a header and a body.
 #[tactic(auto, unfolding(crate::specs::Messages::frame_of))]
-fn frame(alloc: Global, header: &Header, body: &[u8]) -> Result<Octets, Memory>
+pub fn frame(alloc: Global, header: &Header, body: &[u8]) -> Result<Octets, Memory>
     requires header { IsHeader header.now }
     requires body { length body.now < 2 ^ 10 }
     ensures { IfOk result (λ frame. frame ≡ frame_of header.now body.now) }
@@ -65,7 +65,8 @@ pub(crate) fn say(
 ) -> Result<(), Memory>
     requires good { AreSettings settings.now }
     requires body { length body.now < 2 ^ 10 }
-    ensures { OnOk result (out.new ≡ out.old ++ frame_of (header_of settings.now.phone id serial) body.now ∷ []) }
+    ensures out { OnOk result (out.new ≡ out.old ++ frame_of (header_of settings.now.phone id serial) body.now ∷ []) }
+    ensures kept { BeginsWith out.new out.old }
 {
     let header = header(&settings.phone, id, serial);
     let frame = frame(alloc, &header, body)?;
@@ -102,7 +103,8 @@ pub(crate) fn say_register(
     out: &mut Seq<Octets>,
 ) -> Result<(), Memory>
     requires { AreSettings settings.now }
-    ensures { OnOk result (out.new ≡ out.old ++ frame_of (header_of settings.now.phone 0x0100 serial) (register_octets settings.now) ∷ []) }
+    ensures out { OnOk result (out.new ≡ out.old ++ frame_of (header_of settings.now.phone 0x0100 serial) (register_octets settings.now) ∷ []) }
+    ensures kept { BeginsWith out.new out.old }
 {
     let body = register_body(alloc, settings)?;
     say(alloc, settings, REGISTER, serial, body.as_slice(), out)
@@ -119,7 +121,8 @@ pub fn say_auth(
 ) -> Result<(), Memory>
     requires good { AreSettings settings.now }
     requires short { length code.now ≤ 255 }
-    ensures { OnOk result (out.new ≡ out.old ++ frame_of (header_of settings.now.phone 0x0102 serial) (auth_octets settings.now code.now) ∷ []) }
+    ensures out { OnOk result (out.new ≡ out.old ++ frame_of (header_of settings.now.phone 0x0102 serial) (auth_octets settings.now code.now) ∷ []) }
+    ensures kept { BeginsWith out.new out.old }
 {
     let body = auth_body(alloc, settings, code)?;
     say(alloc, settings, AUTH, serial, body.as_slice(), out)
@@ -134,7 +137,8 @@ pub fn say_unit(
 ) -> Result<(), Memory>
     requires good { AreSettings settings.now }
     requires body { length unit.now.body ≤ 1023 }
-    ensures { OnOk result (out.new ≡ out.old ++ frame_of (header_of settings.now.phone unit.now.id unit.now.serial) unit.now.body ∷ []) }
+    ensures out { OnOk result (out.new ≡ out.old ++ frame_of (header_of settings.now.phone unit.now.id unit.now.serial) unit.now.body ∷ []) }
+    ensures kept { BeginsWith out.new out.old }
 {
     let Unit {
         serial,
@@ -166,6 +170,7 @@ pub(crate) fn introduces(
     ensures state { OnOk result (state.new ≡ (rule.introduces state.old state.old.code).state) }
     ensures out { OnOk result (out.new ≡ out.old ++ rule.sends state.old.settings (rule.introduces state.old state.old.code).steps) }
     ensures err { OnErr result (state.new ≡ state.old) }
+    ensures kept { BeginsWith out.new out.old }
 {
     match &state.code {
         None => {
@@ -188,6 +193,7 @@ pub fn opened(alloc: Global, state: &mut State, out: &mut Seq<Octets>) -> Result
     ensures state { OnOk result (state.new ≡ (rule.opened state.old).state) }
     ensures out { OnOk result (out.new ≡ out.old ++ rule.sends state.old.settings (rule.opened state.old).steps) }
     ensures err { OnErr result (state.new ≡ record state.old { sent = 0 }) }
+    ensures kept { BeginsWith out.new out.old }
 {
     state.sent = 0;
     introduces(alloc, state, out)
@@ -199,6 +205,7 @@ pub fn beats(alloc: Global, state: &mut State, out: &mut Seq<Octets>) -> Result<
     ensures state { OnOk result (state.new ≡ (rule.beats state.old).state) }
     ensures out { OnOk result (out.new ≡ out.old ++ rule.sends state.old.settings (rule.beats state.old).steps) }
     ensures err { OnErr result (state.new ≡ state.old) }
+    ensures kept { BeginsWith out.new out.old }
 {
     say(
         alloc,
@@ -223,6 +230,7 @@ pub fn beats_if_silent(
     ensures state { OnOk result (state.new ≡ (rule.beats_if_silent state.old).state) }
     ensures out { OnOk result (out.new ≡ out.old ++ rule.sends state.old.settings (rule.beats_if_silent state.old).steps) }
     ensures err { OnErr result (state.new ≡ state.old) }
+    ensures kept { BeginsWith out.new out.old }
 {
     if is_silent(state) {
         return beats(alloc, state, out);
@@ -235,7 +243,8 @@ fn again(alloc: Global, state: &State, out: &mut Seq<Octets>) -> Result<(), Memo
     requires good { AreSettings state.now.settings }
     requires short { IfSome state.now.code (λ code. length code ≤ 255) }
     requires units { IfSome (slice_get state.now.units 0) (λ unit. length unit.body ≤ 1023) }
-    ensures { OnOk result (out.new ≡ out.old ++ rule.sends state.now.settings (rule.again state.now state.now.phase)) }
+    ensures out { OnOk result (out.new ≡ out.old ++ rule.sends state.now.settings (rule.again state.now state.now.phase)) }
+    ensures kept { BeginsWith out.new out.old }
 {
     match state.phase {
         Phase::Down => Ok(()),
@@ -260,6 +269,7 @@ pub fn repeats(alloc: Global, state: &mut State, out: &mut Seq<Octets>) -> Resul
     ensures state { OnOk result (state.new ≡ (rule.repeats state.old).state) }
     ensures out { OnOk result (out.new ≡ out.old ++ rule.sends state.old.settings (rule.repeats state.old).steps) }
     ensures err { OnErr result (state.new ≡ state.old) }
+    ensures kept { BeginsWith out.new out.old }
 {
     again(alloc, state, out)?;
     let Wait {

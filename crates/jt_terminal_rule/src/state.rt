@@ -4,7 +4,9 @@ use crate::queue::Queue;
 use crate::settings::Settings;
 use jt_codec::Message;
 use jt_header::Header;
+use jt_params::ParamTable;
 use jt_position::Fix;
+use jt_regions::RegionTable;
 use jt_store::Unit;
 use jt_value::Octets;
 
@@ -54,7 +56,14 @@ pub struct State {
     pub phase: Phase,
     /// The moment of the latest Tick, in milliseconds.
     pub time: u64,
+    /// The times by the last typed parameters, which a raw one under their ids leaves as they are.
     pub timing: Timing,
+    /// The terminal's parameters, at first those of the settings. They live in memory.
+    pub params: ParamTable,
+    /// The terminal's regions, at first none. They live in memory.
+    pub regions: RegionTable,
+    /// The last fix that was recorded since the start.
+    pub last: Option<Fix>,
     /// The wait for the answer to a registration, to an authentication or to the oldest unit, where one was sent on this line.
     pub wait: Wait,
     /// When anything was sent last, in milliseconds.
@@ -75,6 +84,19 @@ pub struct State {
     pub recorded: u64,
     /// How many fixes are accepted. The count stays at 2^64 - 1.
     pub accepted: u64,
+}
+
+/// The messages that a terminal answers the platform with (the standard's, and 0x0005 this project's profile).
+#[derive(Clone, Copy, Debug, PartialEq, Eq)]
+pub enum AnswerKind {
+    /// 0x0001, the general response.
+    General,
+    /// 0x0104, parameters.
+    Parameters,
+    /// 0x0201, a position.
+    Position,
+    /// 0x0005, a request for packets again.
+    Packets,
 }
 
 /// What happens to a terminal.

@@ -34,6 +34,18 @@ pub(crate) fn after_control(state: &State) -> u16
     }
 }
 
+/// The serial behind a message in so many packets, each of which takes one: it leaves the last one before the limit to a unit.
+pub fn after_packets(state: &State, count: usize) -> u16
+    ensures { result ≡ rule.after_packets state.now count }
+{
+    let gone = gap(state.mark, state.next);
+    if gone >= FAR - 1 {
+        return state.next;
+    }
+    let taken = count.min(usize::from(FAR - 1 - gone)) as u16;
+    state.next.wrapping_add(taken)
+}
+
 /// A first sending now.
 pub fn begun(state: &State) -> Wait
     ensures { result ≡ rule.begun state.now }

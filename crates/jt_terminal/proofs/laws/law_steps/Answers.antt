@@ -1,4 +1,4 @@
-use Rattle.jt_terminal.proofs.Chaining.{sends-append, holds_after-append, holds_after-told, holds_after-untold}
+use Rattle.jt_terminal_steps.proofs.Chaining.{sends-append, holds_after-append, holds_after-told, holds_after-untold}
 use Rattle.jt_terminal.proofs.laws.law_steps.Goals as goal
 
 pub returns-clause-sends : goal.returns-clause-sends

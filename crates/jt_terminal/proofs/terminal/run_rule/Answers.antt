@@ -1,4 +1,4 @@
-use Rattle.jt_terminal.proofs.Keeping.{sound_down, sound_opened, sound_reopened}
+use Rattle.jt_terminal_steps.proofs.Keeping.{sound_down, sound_opened, sound_reopened}
 use Rattle.jt_terminal.proofs.terminal.run_rule.Goals as goal
 
 pub returns-in_err-opened-in-Opened-clause-sound : goal.returns-in_err-opened-in-Opened-clause-sound

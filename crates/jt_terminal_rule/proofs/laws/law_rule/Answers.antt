@@ -1,14 +1,25 @@
-use Rattle.jt_terminal_rule.specs.Rule.{response, rule}
+use Rattle.jt_terminal_rule.specs.Rule.{heard, response, rule}
+use Rattle.jt_terminal_rule.specs.Law.{response_heard}
 use Rattle.jt_terminal_rule.proofs.Cutting.{cut_steps}
 use Rattle.jt_terminal_rule.proofs.Batches.{unit_carries}
-use Rattle.jt_terminal_rule.proofs.Controlling.{last_place}
-use Rattle.jt_terminal_rule.proofs.Ruling.{rule_steps}
+use Rattle.jt_terminal_rule.proofs.Controlling.{last_place, packets_place}
+use Rattle.jt_terminal_rule.proofs.Ruling.{heard_steps, rule_steps}
 use Rattle.jt_terminal_rule.proofs.Telling.{rule_tells}
 use Rattle.jt_terminal_rule.proofs.Starting.{first_start, noted_is_a_step, start_is_a_restart}
 use Rattle.jt_terminal_rule.proofs.laws.law_rule.Goals as goal
 
 pub returns-clause-control : goal.returns-clause-control
 returns-clause-control c = last_place
+
+pub returns-clause-packets : goal.returns-clause-packets
+returns-clause-packets c = packets_place
+
+pub returns-clause-heard : goal.returns-clause-heard
+returns-clause-heard c = heard_steps (unit_carries c.law_fixes.ensures)
+
+pub returns-clause-heard_cut : goal.returns-clause-heard_cut
+returns-clause-heard_cut c = λ held s x good o a.
+    cut_steps held s (response_heard x) (heard s x).steps (heard_steps (unit_carries c.law_fixes.ensures) held s x good o a).may
 
 pub returns-clause-steps : goal.returns-clause-steps
 returns-clause-steps c = rule_steps (unit_carries c.law_fixes.ensures)

@@ -1,0 +1,19 @@
+-- What is said of waits holds after each event, and where a line is given up all waits have passed.
+use Rattle.std.proofs.Common.{◌≡◌, ℕ, Option, Some, sym, ap, ◌∙◌, subst}
+use Rattle.jt_terminal_rule.specs.declared.state.State.{State}
+use Rattle.jt_terminal_rule.specs.declared.state.Event.{Event}
+use Rattle.jt_terminal_rule.specs.declared.state.Event.TheVariants.{Tick}
+use Rattle.jt_terminal_rule.specs.declared.state.GiveUp.{GiveUp}
+use Rattle.jt_terminal_rule.specs.declared.state.GiveUp.TheVariants.{TimedOut}
+use Rattle.jt_terminal_rule.specs.Rule.{down, rule}
+use Rattle.jt_terminal_rule.specs.Waits.{IsLate, IsTimed}
+use Rattle.jt_terminal_rule.proofs.Lasting.{passes_all_waits}
+
+pub timed_after : (s now : State) (event : Event) → now ≡ (rule s event).state → IsTimed s → IsTimed now
+timed_after s now event is timed = subst IsTimed (sym is) (passes_all_waits.kept s event timed)
+
+pub timed_down : (s now : State) → now ≡ down s → IsTimed now
+timed_down s now is = subst IsTimed (sym is) (passes_all_waits.lost s)
+
+pub late_of : (s : State) (event : Event) (end : Option GiveUp) (now since at : ℕ) → IsTimed s → event ≡ Tick now → end ≡ (rule s event).end → end ≡ Some (TimedOut since at) → IsLate s now since at
+late_of s event end now since at timed tick is e = passes_all_waits.late s now since at timed (ap (λ (x : Event). (rule s x).end) (sym tick) ∙ (sym is ∙ e))

@@ -1,4 +1,0 @@
-use Rattle.jt_terminal.proofs.window.+fill.Given as goal
-
-abbrev pub decreases-fill : goal.decreases-fill
-decreases-fill g l = l.room

@@ -1,0 +1,49 @@
+//! Which unit's acceptance a message tells.
+
+ghost use Rattle.std.specs.Prelude.{◌≡◌};
+ghost use Rattle.jt_terminal_rule.specs.Rule as rule;
+
+use jt_codec::Message;
+use jt_store::Unit;
+use jt_terminal_rule::{Acknowledgement, Queue, State};
+use jt_terminal_steps::{is_acceptance, names};
+
+// How many units stand before the first of those sent on this line that the response names.
+fn first_named(ack: Acknowledgement, sent: usize, units: &Queue<Unit>) -> Option<u64>
+    ensures { result ≡ rule.first_named ack sent units.now }
+{
+    for place in 0..sent {
+        let Some(unit) = units.get(place) else {
+            return None;
+        };
+        if names(ack, unit) {
+            return Some(place as u64);
+        }
+    }
+    None
+}
+
+// How many units stand before the one whose acceptance this message tells, if it tells one.
+pub(crate) fn told_by(state: &State, message: &Message) -> Option<u64>
+    ensures { result ≡ rule.told state.now (rule.response_in message.now) }
+{
+    match message {
+        Message::PlatformAck {
+            reply,
+            id,
+            result: answer,
+        } => {
+            let ack = Acknowledgement {
+                reply: *reply,
+                id: *id,
+                result: *answer,
+            };
+            if is_acceptance(ack) {
+                first_named(ack, state.sent, &state.units)
+            } else {
+                None
+            }
+        }
+        _ => None,
+    }
+}

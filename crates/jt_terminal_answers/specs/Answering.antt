@@ -1,0 +1,21 @@
+-- What the calls that answer make of a terminal's state.
+use Rattle.std.specs.Prelude.{◌≡◌, Bool, true, false, List, Some, None}
+use Rattle.jt_params.specs.declared.param.Param.{Param}
+use Rattle.jt_regions.specs.declared.change.RegionChange.{RegionChange}
+use Rattle.jt_terminal_rule.specs.declared.state.State.{State}
+use Rattle.jt_terminal_rule.specs.Answers.{timing_after}
+use Rattle.jt_terminal_rule.specs.Tables.{params_after, regions_after}
+
+-- nothing but times and tables is another
+abbrev pub OnlyTables : State → State → Type 0
+OnlyTables old now = now ≡ record old { timing = now.timing; params = now.params; regions = now.regions }
+
+-- the table took the parameters, and with them the times, or would have had too many
+abbrev pub TookParams : Bool → State → List Param → State → Type 0
+TookParams true old params now = (params_after params old.params ≡ Some now.params) × (now ≡ record old { timing = timing_after params old.timing; params = now.params })
+TookParams false old params now = (params_after params old.params ≡ None) × (now ≡ old)
+
+-- the table took the change, or did not
+abbrev pub TookChange : Bool → State → RegionChange → State → Type 0
+TookChange true old change now = (regions_after change old.regions ≡ Some now.regions) × (now ≡ record old { regions = now.regions })
+TookChange false old change now = (regions_after change old.regions ≡ None) × (now ≡ old)

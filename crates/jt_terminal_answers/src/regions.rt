@@ -1,0 +1,50 @@
+//! Regions: changed by the platform.
+
+ghost use Rattle.std.specs.Prelude.{◌≡◌, ◌++◌, IfOk, OnErr, OnOk};
+ghost use Rattle.jt_regions.specs.Tables.{AtMost};
+ghost use Rattle.jt_terminal_rule.specs.Messages.{AreSettings, BeginsWith};
+ghost use Rattle.jt_terminal_rule.specs.Answers as table;
+ghost use Rattle.jt_terminal_rule.specs.Rule as rule;
+ghost use Rattle.jt_terminal_answers.specs.Answering.{OnlyTables, TookChange};
+
+use crate::saying::{FAILURE, SUCCESS, respond};
+use jt_header::Header;
+use jt_regions::{RegionChange, RegionError};
+use jt_terminal_rule::State;
+use jt_value::{Memory, Octets, Seq};
+use std::alloc::Global;
+
+// Whether the table took the change.
+fn take_change(state: &mut State, change: &RegionChange) -> Result<bool, Memory>
+    requires { AtMost 65535 change.now }
+    ensures ok { IfOk result (λ taken. TookChange taken state.old change.now state.new) }
+    ensures err { OnErr result (state.new ≡ state.old) }
+{
+    match state.regions.apply(change) {
+        Ok(()) => Ok(true),
+        Err(RegionError::Memory) => Err(Memory),
+        Err(_) => Ok(false),
+    }
+}
+
+// Changes the regions, and responds.
+pub(crate) fn change_regions(
+    alloc: Global,
+    state: &mut State,
+    header: &Header,
+    change: &RegionChange,
+    out: &mut Seq<Octets>,
+) -> Result<(), Memory>
+    requires good { AreSettings state.old.settings }
+    requires few { AtMost 65535 change.now }
+    ensures state { OnOk result (state.new ≡ (rule.answers state.old (table.takes_change state.old header.now change.now)).state) }
+    ensures out { OnOk result (out.new ≡ out.old ++ rule.sends state.old.settings (rule.answers state.old (table.takes_change state.old header.now change.now)).steps) }
+    ensures err { OnErr result (OnlyTables state.old state.new) }
+    ensures params { state.new.params ≡ state.old.params }
+    ensures kept { BeginsWith out.new out.old }
+{
+    if take_change(state, change)? {
+        return respond(alloc, state, header, SUCCESS, out);
+    }
+    respond(alloc, state, header, FAILURE, out)
+}

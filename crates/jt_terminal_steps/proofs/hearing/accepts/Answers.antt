@@ -1,0 +1,12 @@
+use Rattle.std.proofs.Common.{refl}
+use Rattle.std.proofs.lemmas.Result.{on_err_weaker, on_ok_weaker}
+use Rattle.jt_terminal_steps.proofs.Chaining.{accepted_ran, accepted_cut}
+use Rattle.jt_terminal_steps.proofs.hearing.accepts.Goals as goal
+
+pub returns-clause-ok : goal.returns-clause-ok
+returns-clause-ok g c =
+    on_ok_weaker c.fills.result (accepted_ran c.args.state.now c.args.state.now.units c.accept.new.state _ _ _ _ _ _ _ c.requires.some c.in_ok-accept.ensures.ok.0 c.in_ok-accept.ensures.ok.1 refl c.in_ok-accept.ensures.same.settings) c.fills.ensures.ok
+
+pub returns-clause-err : goal.returns-clause-err
+returns-clause-err g c =
+    on_err_weaker c.fills.result (accepted_cut c.args.state.now c.args.state.now.units c.accept.new.state _ _ _ c.requires.some c.in_ok-accept.ensures.ok.0 c.in_ok-accept.ensures.ok.1) c.fills.ensures.err

@@ -1,0 +1,25 @@
+use Rattle.std.proofs.Common.{None, refl, sym}
+use Rattle.std.proofs.lemmas.Result.{on_err_weaker, on_ok_weaker}
+use Rattle.jt_terminal_rule.specs.Answers.{answer_to}
+use Rattle.jt_terminal_rule.specs.Rule.{answers, fills}
+use Rattle.jt_terminal_steps.proofs.Keeping.{answers_settings, sound_answers, sound_tables}
+use Rattle.jt_terminal_steps.proofs.Chaining.{cut_then, quiet_answers, ran_then}
+use Rattle.jt_terminal_steps.proofs.hearing.answers_and_fills.Goals as goal
+
+pub fills-requires : goal.fills-requires
+fills-requires g c = record {
+  sound = sound_answers (g.V.Vault.holds c.args.vault.now) c.args.state.now c.answer.new.state (answer_to c.args.state.now c.args.header.now c.args.message.now) c.in_ok-answer.ensures.state c.in_ok-answer.ensures.octets c.requires.sound;
+}
+
+pub returns-clause-ok : goal.returns-clause-ok
+returns-clause-ok g c =
+    on_ok_weaker c.fills.result (ran_then c.args.state.now.settings (answers c.args.state.now (answer_to c.args.state.now c.args.header.now c.args.message.now)) fills c.answer.new.state _ _ _ _ _ _ _ None c.in_ok-answer.ensures.state
+    (sym (quiet_answers c.args.state.now (answer_to c.args.state.now c.args.header.now c.args.message.now) (g.V.Vault.holds c.args.vault.now))) c.in_ok-answer.ensures.out (answers_settings c.args.state.now c.answer.new.state (answer_to c.args.state.now c.args.header.now c.args.message.now) c.in_ok-answer.ensures.state)) c.fills.ensures.ok
+
+pub returns-clause-err : goal.returns-clause-err
+returns-clause-err g c =
+    on_err_weaker c.fills.result (cut_then (answers c.args.state.now (answer_to c.args.state.now c.args.header.now c.args.message.now)) fills c.answer.new.state (g.V.Vault.holds c.args.vault.now) (g.V.Vault.holds c.args.vault.now) _ c.in_ok-answer.ensures.state
+    (sym (quiet_answers c.args.state.now (answer_to c.args.state.now c.args.header.now c.args.message.now) (g.V.Vault.holds c.args.vault.now)))) c.fills.ensures.err
+
+pub returns-in_err-answer-clause-sound : goal.returns-in_err-answer-clause-sound
+returns-in_err-answer-clause-sound g c = sound_tables (g.V.Vault.holds c.args.vault.now) c.args.state.now c.answer.new.state c.in_err-answer.ensures.err c.in_err-answer.ensures.octets c.requires.sound

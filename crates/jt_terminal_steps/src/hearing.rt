@@ -1,0 +1,496 @@
+//! What a terminal does at the platform's messages.
+
+ghost use Rattle.std.specs.Prelude.{◌≡◌, ◌≤◌, ◌<◌, IfOk, OnOk, OnErr, None, Some, length};
+ghost use Rattle.jt_codec.specs.Bodies.{Fits, body_octets};
+ghost use Rattle.jt_store.specs.Vaults.{Accepts, changed};
+ghost use Rattle.jt_terminal_rule.specs.Messages as messages;
+ghost use Rattle.jt_terminal_rule.specs.Answers as table;
+ghost use Rattle.jt_terminal_rule.specs.Rule as rule;
+ghost use Rattle.jt_terminal_steps.specs.Running.{CutShort, IsSame, IsSound, Outside, Ran, accepts_oldest, oldest_is, took};
+ghost use Rattle.jt_terminal_rule.specs.declared.state.GiveUp.TheVariants.{Denied};
+
+use crate::error::{TerminalError, trouble};
+use crate::window::fills;
+use jt_codec::{Message, write_body};
+use jt_header::Header;
+use jt_register::RegisterReply;
+use jt_store::{Unit, Vault};
+use jt_terminal_answers::{answer, answer_lack, answer_refused};
+use jt_terminal_rule::{
+    AUTH, Acknowledgement, GiveUp, Phase, State, begun, lose, now_in, say_auth,
+};
+use jt_value::{Edition, Memory, Octets, Seq};
+use std::alloc::Global;
+
+/// The most octets of a code.
+const CODE_LIMIT: usize = 255;
+
+// The line is given up, since the platform answered so.
+fn denied(
+    alloc: Global,
+    state: &mut State,
+    edition: Edition,
+    message: &Message,
+) -> Result<Option<GiveUp>, Memory>
+    requires { Fits edition message.now }
+    ensures ok { IfOk result (λ end. end ≡ Some (Denied (body_octets edition message.now))) }
+    ensures state { OnOk result (state.new ≡ rule.down state.old) }
+    ensures err { OnErr result (state.new ≡ state.old) }
+{
+    let octets = write_body(alloc, edition, message)?;
+    lose(state);
+    Ok(Some(GiveUp::Denied(octets)))
+}
+
+// Whether the code of a reply may be stored.
+fn is_registered(reply: &RegisterReply) -> bool
+    ensures { result ≡ rule.is_registered reply.now }
+{
+    reply.result == 0 && reply.code.len() <= CODE_LIMIT
+}
+
+// The platform gave a code: it is committed, and the terminal authenticates itself.
+fn coded<V: Vault>(
+    alloc: Global,
+    vault: &mut V,
+    state: &mut State,
+    out: &mut Seq<Octets>,
+    code: &Octets,
+) -> Result<(), TerminalError>
+    requires short { length code.now ≤ 255 }
+    requires sound { IsSound (V.holds vault.old) state.old }
+    ensures ok { OnOk result (Ran state.old.settings (rule.coded state.old code.now) state.new (V.holds vault.old) (V.holds vault.new) out.old out.new None) }
+    ensures err { OnErr result (CutShort (rule.coded state.old code.now).steps (V.holds vault.old) (V.holds vault.new)) }
+    ensures sound { IsSound (V.holds vault.new) state.new }
+    ensures same { IsSame state.old state.new }
+    ensures outside { Outside (V.faults vault.old) (V.faults vault.new) (V.limit vault.old) (V.limit vault.new) (V.may_fail vault.old) (V.may_fail vault.new) result }
+{
+    let copy = code.copy(alloc)?;
+    say_auth(alloc, &state.settings, state.next, code.as_slice(), out)?;
+    match vault.set_code(alloc, Some(code.as_slice())) {
+        Ok(()) => {
+            state.code = Some(copy);
+            now_in(state, Phase::Authenticating(state.next));
+            Ok(())
+        }
+        Err(error) => Err(trouble(error)),
+    }
+}
+
+// The reply to the registration.
+fn replied<V: Vault>(
+    alloc: Global,
+    vault: &mut V,
+    state: &mut State,
+    out: &mut Seq<Octets>,
+    reply: &RegisterReply,
+    edition: Edition,
+    message: &Message,
+) -> Result<Option<GiveUp>, TerminalError>
+    requires fits { Fits edition message.now }
+    requires sound { IsSound (V.holds vault.old) state.old }
+    ensures ok { IfOk result (λ end. Ran state.old.settings (rule.replied state.old reply.now (body_octets edition message.now)) state.new (V.holds vault.old) (V.holds vault.new) out.old out.new end) }
+    ensures err { OnErr result (CutShort (rule.replied state.old reply.now (body_octets edition message.now)).steps (V.holds vault.old) (V.holds vault.new)) }
+    ensures sound { IsSound (V.holds vault.new) state.new }
+    ensures same { IsSame state.old state.new }
+    ensures outside { Outside (V.faults vault.old) (V.faults vault.new) (V.limit vault.old) (V.limit vault.new) (V.may_fail vault.old) (V.may_fail vault.new) result }
+{
+    if is_registered(reply) {
+        coded(alloc, vault, state, out, &reply.code)?;
+        return Ok(None);
+    }
+    Ok(denied(alloc, state, edition, message)?)
+}
+
+// The code is removed, and the line given up.
+fn forgets<V: Vault>(
+    alloc: Global,
+    vault: &mut V,
+    state: &mut State,
+    out: &Seq<Octets>,
+    edition: Edition,
+    message: &Message,
+) -> Result<Option<GiveUp>, TerminalError>
+    requires fits { Fits edition message.now }
+    requires sound { IsSound (V.holds vault.old) state.old }
+    ensures ok { IfOk result (λ end. Ran state.old.settings (rule.forgets state.old (body_octets edition message.now)) state.new (V.holds vault.old) (V.holds vault.new) out.now out.now end) }
+    ensures err { OnErr result (CutShort (rule.forgets state.old (body_octets edition message.now)).steps (V.holds vault.old) (V.holds vault.new)) }
+    ensures sound { IsSound (V.holds vault.new) state.new }
+    ensures same { IsSame state.old state.new }
+    ensures outside { Outside (V.faults vault.old) (V.faults vault.new) (V.limit vault.old) (V.limit vault.new) (V.may_fail vault.old) (V.may_fail vault.new) result }
+{
+    let _frames = out;
+    let octets = write_body(alloc, edition, message)?;
+    match vault.set_code(alloc, None) {
+        Ok(()) => {
+            state.code = None;
+            lose(state);
+            Ok(Some(GiveUp::Denied(octets)))
+        }
+        Err(error) => Err(trouble(error)),
+    }
+}
+
+// The response to the authentication of this serial.
+fn authenticated<V: Vault>(
+    alloc: Global,
+    vault: &mut V,
+    state: &mut State,
+    out: &mut Seq<Octets>,
+    serial: u16,
+    answer: u8,
+    edition: Edition,
+    message: &Message,
+) -> Result<Option<GiveUp>, TerminalError>
+    requires fits { Fits edition message.now }
+    requires sound { IsSound (V.holds vault.old) state.old }
+    ensures ok { IfOk result (λ end. Ran state.old.settings (rule.authenticated state.old serial answer (body_octets edition message.now)) state.new (V.holds vault.old) (V.holds vault.new) out.old out.new end) }
+    ensures err { OnErr result (CutShort (rule.authenticated state.old serial answer (body_octets edition message.now)).steps (V.holds vault.old) (V.holds vault.new)) }
+    ensures sound { IsSound (V.holds vault.new) state.new }
+    ensures same { IsSame state.old state.new }
+    ensures outside { Outside (V.faults vault.old) (V.faults vault.new) (V.limit vault.old) (V.limit vault.new) (V.may_fail vault.old) (V.may_fail vault.new) result }
+{
+    if answer == 0 {
+        state.phase = Phase::Live(serial);
+        fills(alloc, vault, state, out)?;
+        return Ok(None);
+    }
+    forgets(alloc, vault, state, out, edition, message)
+}
+
+/// Whether the response names the unit.
+pub fn names(ack: Acknowledgement, unit: &Unit) -> bool
+    ensures { result ≡ rule.names ack unit.now }
+{
+    ack.reply == unit.serial && ack.id == unit.id
+}
+
+/// Whether the response accepts what it names.
+pub fn is_acceptance(ack: Acknowledgement) -> bool
+    ensures { result ≡ messages.is_acceptance ack }
+{
+    ack.result == 0 || ack.result == 4
+}
+
+// Whether the response names the oldest unit, which was sent on this line.
+fn names_oldest(state: &State, ack: Acknowledgement) -> bool
+    ensures { result ≡ oldest_is state.now ack state.now.units }
+{
+    match state.units.get(0) {
+        Some(unit) => state.sent > 0 && names(ack, unit),
+        None => false,
+    }
+}
+
+// The oldest unit, if there is one, is accepted.
+fn oldest_accepted(state: &mut State)
+    ensures { state.new ≡ took state.old state.old.units }
+{
+    if let Some(unit) = state.units.pop_front() {
+        let Unit { serial, count, .. } = &unit;
+        state.mark = *serial;
+        state.sent = state.sent.saturating_sub(1);
+        state.wait = begun(state);
+        state.accepted = state.accepted.saturating_add(u64::from(*count));
+    }
+}
+
+// The vault accepts the oldest unit.
+fn accept<V: Vault>(alloc: Global, vault: &mut V, state: &mut State) -> Result<(), TerminalError>
+    requires some { 0 < length state.old.units }
+    requires sound { IsSound (V.holds vault.old) state.old }
+    ensures ok { OnOk result ((state.new ≡ took state.old state.old.units) × (V.holds vault.new ≡ changed Accepts (V.holds vault.old))) }
+    ensures err { OnErr result ((state.new ≡ state.old) × (V.holds vault.new ≡ V.holds vault.old)) }
+    ensures sound { IsSound (V.holds vault.new) state.new }
+    ensures same { IsSame state.old state.new }
+    ensures outside { Outside (V.faults vault.old) (V.faults vault.new) (V.limit vault.old) (V.limit vault.new) (V.may_fail vault.old) (V.may_fail vault.new) result }
+{
+    match vault.accept(alloc) {
+        Ok(()) => {
+            oldest_accepted(state);
+            Ok(())
+        }
+        Err(error) => Err(trouble(error)),
+    }
+}
+
+// The oldest unit is accepted, and the window is filled.
+fn accepts<V: Vault>(
+    alloc: Global,
+    vault: &mut V,
+    state: &mut State,
+    out: &mut Seq<Octets>,
+) -> Result<(), TerminalError>
+    requires some { 0 < length state.old.units }
+    requires sound { IsSound (V.holds vault.old) state.old }
+    ensures ok { OnOk result (Ran state.old.settings (accepts_oldest state.old state.old.units) state.new (V.holds vault.old) (V.holds vault.new) out.old out.new None) }
+    ensures err { OnErr result (CutShort (accepts_oldest state.old state.old.units).steps (V.holds vault.old) (V.holds vault.new)) }
+    ensures sound { IsSound (V.holds vault.new) state.new }
+    ensures same { IsSame state.old state.new }
+    ensures outside { Outside (V.faults vault.old) (V.faults vault.new) (V.limit vault.old) (V.limit vault.new) (V.may_fail vault.old) (V.may_fail vault.new) result }
+{
+    accept(alloc, vault, state)?;
+    fills(alloc, vault, state, out)
+}
+
+// A response while the terminal is Live.
+fn answered<V: Vault>(
+    alloc: Global,
+    vault: &mut V,
+    state: &mut State,
+    out: &mut Seq<Octets>,
+    ack: Acknowledgement,
+    edition: Edition,
+    message: &Message,
+) -> Result<Option<GiveUp>, TerminalError>
+    requires fits { Fits edition message.now }
+    requires sound { IsSound (V.holds vault.old) state.old }
+    ensures ok { IfOk result (λ end. Ran state.old.settings (rule.answered state.old state.old.units ack (body_octets edition message.now)) state.new (V.holds vault.old) (V.holds vault.new) out.old out.new end) }
+    ensures err { OnErr result (CutShort (rule.answered state.old state.old.units ack (body_octets edition message.now)).steps (V.holds vault.old) (V.holds vault.new)) }
+    ensures sound { IsSound (V.holds vault.new) state.new }
+    ensures same { IsSame state.old state.new }
+    ensures outside { Outside (V.faults vault.old) (V.faults vault.new) (V.limit vault.old) (V.limit vault.new) (V.may_fail vault.old) (V.may_fail vault.new) result }
+{
+    if !names_oldest(state, ack) {
+        fills(alloc, vault, state, out)?;
+        return Ok(None);
+    }
+    if is_acceptance(ack) {
+        accepts(alloc, vault, state, out)?;
+        return Ok(None);
+    }
+    Ok(denied(alloc, state, edition, message)?)
+}
+
+// A response, by the phase.
+fn responded<V: Vault>(
+    alloc: Global,
+    vault: &mut V,
+    state: &mut State,
+    out: &mut Seq<Octets>,
+    ack: Acknowledgement,
+    edition: Edition,
+    message: &Message,
+) -> Result<Option<GiveUp>, TerminalError>
+    requires fits { Fits edition message.now }
+    requires sound { IsSound (V.holds vault.old) state.old }
+    ensures ok { IfOk result (λ end. Ran state.old.settings (rule.responded state.old.phase state.old ack (body_octets edition message.now)) state.new (V.holds vault.old) (V.holds vault.new) out.old out.new end) }
+    ensures err { OnErr result (CutShort (rule.responded state.old.phase state.old ack (body_octets edition message.now)).steps (V.holds vault.old) (V.holds vault.new)) }
+    ensures sound { IsSound (V.holds vault.new) state.new }
+    ensures same { IsSame state.old state.new }
+    ensures outside { Outside (V.faults vault.old) (V.faults vault.new) (V.limit vault.old) (V.limit vault.new) (V.may_fail vault.old) (V.may_fail vault.new) result }
+{
+    match state.phase {
+        Phase::Down | Phase::Registering(_) => Ok(None),
+        Phase::Authenticating(serial) => {
+            if ack.id == AUTH && ack.reply == serial {
+                return authenticated(
+                    alloc, vault, state, out, serial, ack.result, edition, message,
+                );
+            }
+            Ok(None)
+        }
+        Phase::Live(_) => answered(alloc, vault, state, out, ack, edition, message),
+    }
+}
+
+// A reply to a registration, by the phase.
+fn registered<V: Vault>(
+    alloc: Global,
+    vault: &mut V,
+    state: &mut State,
+    out: &mut Seq<Octets>,
+    reply: &RegisterReply,
+    edition: Edition,
+    message: &Message,
+) -> Result<Option<GiveUp>, TerminalError>
+    requires fits { Fits edition message.now }
+    requires sound { IsSound (V.holds vault.old) state.old }
+    ensures ok { IfOk result (λ end. Ran state.old.settings (rule.registered state.old.phase state.old reply.now (body_octets edition message.now)) state.new (V.holds vault.old) (V.holds vault.new) out.old out.new end) }
+    ensures err { OnErr result (CutShort (rule.registered state.old.phase state.old reply.now (body_octets edition message.now)).steps (V.holds vault.old) (V.holds vault.new)) }
+    ensures sound { IsSound (V.holds vault.new) state.new }
+    ensures same { IsSame state.old state.new }
+    ensures outside { Outside (V.faults vault.old) (V.faults vault.new) (V.limit vault.old) (V.limit vault.new) (V.may_fail vault.old) (V.may_fail vault.new) result }
+{
+    match state.phase {
+        Phase::Registering(serial) => {
+            if reply.reply == serial {
+                return replied(alloc, vault, state, out, reply, edition, message);
+            }
+            Ok(None)
+        }
+        Phase::Live(_) => {
+            fills(alloc, vault, state, out)?;
+            Ok(None)
+        }
+        Phase::Down | Phase::Authenticating(_) => Ok(None),
+    }
+}
+
+// A Live terminal answers a message, and fills its window.
+fn answers_and_fills<V: Vault>(
+    alloc: Global,
+    vault: &mut V,
+    state: &mut State,
+    out: &mut Seq<Octets>,
+    header: &Header,
+    message: &Message,
+) -> Result<(), TerminalError>
+    requires fits { Fits header.now.edition message.now }
+    requires sound { IsSound (V.holds vault.old) state.old }
+    ensures ok { OnOk result (Ran state.old.settings (rule.and_then (rule.answers state.old (table.answer_to state.old header.now message.now)) rule.fills) state.new (V.holds vault.old) (V.holds vault.new) out.old out.new None) }
+    ensures err { OnErr result (CutShort (rule.and_then (rule.answers state.old (table.answer_to state.old header.now message.now)) rule.fills).steps (V.holds vault.old) (V.holds vault.new)) }
+    ensures sound { IsSound (V.holds vault.new) state.new }
+    ensures same { IsSame state.old state.new }
+    ensures outside { Outside (V.faults vault.old) (V.faults vault.new) (V.limit vault.old) (V.limit vault.new) (V.may_fail vault.old) (V.may_fail vault.new) result }
+{
+    answer(alloc, state, header, message, out)?;
+    fills(alloc, vault, state, out)
+}
+
+// A message that is answered by a terminal that is Live alone.
+fn answers_if_live<V: Vault>(
+    alloc: Global,
+    vault: &mut V,
+    state: &mut State,
+    out: &mut Seq<Octets>,
+    header: &Header,
+    message: &Message,
+) -> Result<(), TerminalError>
+    requires fits { Fits header.now.edition message.now }
+    requires sound { IsSound (V.holds vault.old) state.old }
+    ensures ok { OnOk result (Ran state.old.settings (rule.answers_if_live state.old.phase state.old (table.answer_to state.old header.now message.now)) state.new (V.holds vault.old) (V.holds vault.new) out.old out.new None) }
+    ensures err { OnErr result (CutShort (rule.answers_if_live state.old.phase state.old (table.answer_to state.old header.now message.now)).steps (V.holds vault.old) (V.holds vault.new)) }
+    ensures sound { IsSound (V.holds vault.new) state.new }
+    ensures same { IsSame state.old state.new }
+    ensures outside { Outside (V.faults vault.old) (V.faults vault.new) (V.limit vault.old) (V.limit vault.new) (V.may_fail vault.old) (V.may_fail vault.new) result }
+{
+    match state.phase {
+        Phase::Live(_) => answers_and_fills(alloc, vault, state, out, header, message),
+        Phase::Down | Phase::Registering(_) | Phase::Authenticating(_) => Ok(()),
+    }
+}
+
+// A Live terminal answers a body that is refused or a packet of too many, and fills its window.
+fn refuses_and_fills<V: Vault>(
+    alloc: Global,
+    vault: &mut V,
+    state: &mut State,
+    out: &mut Seq<Octets>,
+    header: &Header,
+) -> Result<(), TerminalError>
+    requires sound { IsSound (V.holds vault.old) state.old }
+    ensures ok { OnOk result (Ran state.old.settings (rule.and_then (rule.answers state.old (table.answer_to_refused state.old header.now)) rule.fills) state.new (V.holds vault.old) (V.holds vault.new) out.old out.new None) }
+    ensures err { OnErr result (CutShort (rule.and_then (rule.answers state.old (table.answer_to_refused state.old header.now)) rule.fills).steps (V.holds vault.old) (V.holds vault.new)) }
+    ensures sound { IsSound (V.holds vault.new) state.new }
+    ensures same { IsSame state.old state.new }
+    ensures outside { Outside (V.faults vault.old) (V.faults vault.new) (V.limit vault.old) (V.limit vault.new) (V.may_fail vault.old) (V.may_fail vault.new) result }
+{
+    answer_refused(alloc, state, header, out)?;
+    fills(alloc, vault, state, out)
+}
+
+/// A body that is refused or a packet of too many, which is answered by a terminal that is Live alone.
+pub fn refuses_if_live<V: Vault>(
+    alloc: Global,
+    vault: &mut V,
+    state: &mut State,
+    out: &mut Seq<Octets>,
+    header: &Header,
+) -> Result<(), TerminalError>
+    requires sound { IsSound (V.holds vault.old) state.old }
+    ensures ok { OnOk result (Ran state.old.settings (rule.answers_if_live state.old.phase state.old (table.answer_to_refused state.old header.now)) state.new (V.holds vault.old) (V.holds vault.new) out.old out.new None) }
+    ensures err { OnErr result (CutShort (rule.answers_if_live state.old.phase state.old (table.answer_to_refused state.old header.now)).steps (V.holds vault.old) (V.holds vault.new)) }
+    ensures sound { IsSound (V.holds vault.new) state.new }
+    ensures same { IsSame state.old state.new }
+    ensures outside { Outside (V.faults vault.old) (V.faults vault.new) (V.limit vault.old) (V.limit vault.new) (V.may_fail vault.old) (V.may_fail vault.new) result }
+{
+    match state.phase {
+        Phase::Live(_) => refuses_and_fills(alloc, vault, state, out, header),
+        Phase::Down | Phase::Registering(_) | Phase::Authenticating(_) => Ok(()),
+    }
+}
+
+// A Live terminal answers the last packet of a message whose others lack, and fills its window.
+fn asks_and_fills<V: Vault>(
+    alloc: Global,
+    vault: &mut V,
+    state: &mut State,
+    out: &mut Seq<Octets>,
+    first: u16,
+    numbers: Seq<u16>,
+) -> Result<(), TerminalError>
+    requires sound { IsSound (V.holds vault.old) state.old }
+    requires few { length numbers ≤ 255 }
+    ensures ok { OnOk result (Ran state.old.settings (rule.and_then (rule.answers state.old (table.answer_to_lack state.old state.old.settings.phone.edition first numbers)) rule.fills) state.new (V.holds vault.old) (V.holds vault.new) out.old out.new None) }
+    ensures err { OnErr result (CutShort (rule.and_then (rule.answers state.old (table.answer_to_lack state.old state.old.settings.phone.edition first numbers)) rule.fills).steps (V.holds vault.old) (V.holds vault.new)) }
+    ensures sound { IsSound (V.holds vault.new) state.new }
+    ensures same { IsSame state.old state.new }
+    ensures outside { Outside (V.faults vault.old) (V.faults vault.new) (V.limit vault.old) (V.limit vault.new) (V.may_fail vault.old) (V.may_fail vault.new) result }
+{
+    answer_lack(alloc, state, first, numbers, out)?;
+    fills(alloc, vault, state, out)
+}
+
+/// The last packet of a message whose others lack, which is answered by a terminal that is Live alone.
+pub fn asks_if_live<V: Vault>(
+    alloc: Global,
+    vault: &mut V,
+    state: &mut State,
+    out: &mut Seq<Octets>,
+    first: u16,
+    numbers: Seq<u16>,
+) -> Result<(), TerminalError>
+    requires sound { IsSound (V.holds vault.old) state.old }
+    requires few { length numbers ≤ 255 }
+    ensures ok { OnOk result (Ran state.old.settings (rule.answers_if_live state.old.phase state.old (table.answer_to_lack state.old state.old.settings.phone.edition first numbers)) state.new (V.holds vault.old) (V.holds vault.new) out.old out.new None) }
+    ensures err { OnErr result (CutShort (rule.answers_if_live state.old.phase state.old (table.answer_to_lack state.old state.old.settings.phone.edition first numbers)).steps (V.holds vault.old) (V.holds vault.new)) }
+    ensures sound { IsSound (V.holds vault.new) state.new }
+    ensures same { IsSame state.old state.new }
+    ensures outside { Outside (V.faults vault.old) (V.faults vault.new) (V.limit vault.old) (V.limit vault.new) (V.may_fail vault.old) (V.may_fail vault.new) result }
+{
+    match state.phase {
+        Phase::Live(_) => asks_and_fills(alloc, vault, state, out, first, numbers),
+        Phase::Down | Phase::Registering(_) | Phase::Authenticating(_) => Ok(()),
+    }
+}
+
+/// A message of the platform.
+pub fn received<V: Vault>(
+    alloc: Global,
+    vault: &mut V,
+    state: &mut State,
+    out: &mut Seq<Octets>,
+    header: &Header,
+    message: &Message,
+) -> Result<Option<GiveUp>, TerminalError>
+    requires fits { Fits header.now.edition message.now }
+    requires sound { IsSound (V.holds vault.old) state.old }
+    ensures ok { IfOk result (λ end. Ran state.old.settings (rule.received state.old header.now message.now) state.new (V.holds vault.old) (V.holds vault.new) out.old out.new end) }
+    ensures err { OnErr result (CutShort (rule.received state.old header.now message.now).steps (V.holds vault.old) (V.holds vault.new)) }
+    ensures sound { IsSound (V.holds vault.new) state.new }
+    ensures same { IsSame state.old state.new }
+    ensures outside { Outside (V.faults vault.old) (V.faults vault.new) (V.limit vault.old) (V.limit vault.new) (V.may_fail vault.old) (V.may_fail vault.new) result }
+{
+    match message {
+        Message::PlatformAck {
+            reply,
+            id,
+            result: answer,
+        } => {
+            let ack = Acknowledgement {
+                reply: *reply,
+                id: *id,
+                result: *answer,
+            };
+            responded(alloc, vault, state, out, ack, header.edition, message)
+        }
+        Message::RegisterReply(reply) => {
+            registered(alloc, vault, state, out, reply, header.edition, message)
+        }
+        _ => {
+            answers_if_live(alloc, vault, state, out, header, message)?;
+            Ok(None)
+        }
+    }
+}

@@ -1,0 +1,11 @@
+//! What a terminal does over its vault: the messages of the platform, time, and the window.
+#![tactic(auto)]
+
+mod error;
+mod hearing;
+mod ticking;
+mod window;
+
+pub use error::TerminalError;
+pub use hearing::{asks_if_live, is_acceptance, names, received, refuses_if_live};
+pub use ticking::{beaten, ticked};
