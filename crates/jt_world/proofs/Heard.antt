@@ -1,5 +1,5 @@
 -- How the world hears a line of a script.
-use Rattle.std.proofs.Common.{◌≡◌, ◌+◌, ℕ, true, false, IsTrue, Some, None, List, [], ◌∷◌, ◌++◌, length, refl, sym, ap, ◌∙◌, inl, inr, append-nil}
+use Rattle.std.proofs.Common.{◌≡◌, ◌+◌, ℕ, true, false, IsTrue, List, [], ◌++◌, length, refl, sym, ap, ◌∙◌, inl, inr, append-nil}
 use Rattle.std.proofs.lemmas.Bool.{cases_Bool}
 use Rattle.std.proofs.lemmas.Bool.Decides.{Decides-ltb, Decides-eqb}
 use Rattle.std.specs.Bool.{Decides}
@@ -11,7 +11,7 @@ use Rattle.jt_script.specs.declared.script.ScriptLine.TheVariants.{Passed, Event
 use Rattle.jt_script.specs.Said.{said}
 use Rattle.jt_script.specs.Text.{is_within}
 use Rattle.jt_runner.specs.Lines.{Outcome, HearsOn, HearsBad}
-use Rattle.jt_world.specs.Rehearsal.{Rehearsal, is_allowed, meaning, led, heard, rehearsed, outcome_of, entry_line}
+use Rattle.jt_world.specs.Rehearsal.{is_allowed, meaning, led, heard, rehearsed, outcome_of, entry_line}
 use Rattle.jt_world.specs.Script.{IsAllowed, fix_limit, entries_between, world_after}
 use Rattle.jt_world.specs.World.{World}
 

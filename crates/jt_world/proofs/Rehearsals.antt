@@ -1,10 +1,9 @@
 -- A rehearsal over a source and a sink, from the run of its lines.
-use Rattle.std.proofs.Common.{◌≡◌, ◌⊎◌, ◌+◌, ◌<◌, ℕ, IsTrue, List, [], ◌++◌, Option, Some, None, IfSome, length, refl, sym, ap, subst, ◌∙◌, inl, inr, arith}
+use Rattle.std.proofs.Common.{◌≡◌, ◌⊎◌, ℕ, List, [], ◌++◌, Option, Some, None, IfSome, refl, sym, ap, subst, ◌∙◌, inl, inr, arith}
 use Rattle.std.proofs.KnownBytes.{Appends-nil, Consumes-nil}
 use Rattle.std.specs.Io.KnownBytes.{Appends, IsAtEnd}
 use Rattle.jt_io.proofs.Prefixes.{AppendsPrefix-all}
 use Rattle.jt_script.specs.Cutter.{Held, begun_of}
-use Rattle.jt_script.specs.Text.{lines_of, is_within}
 use Rattle.jt_runner.specs.Answer.{IsFault, Answers, AnswersWhole, RunsTelling, ReadsNoFurther, StopsAtWrite}
 use Rattle.jt_runner.specs.Answer as answer
 use Rattle.jt_runner.specs.Lines.{Outcome, HasHeard, HasClosed, answer_of}

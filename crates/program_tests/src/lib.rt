@@ -4,8 +4,6 @@
 #[cfg(test)]
 mod cli;
 #[cfg(test)]
-mod order;
-#[cfg(test)]
 mod view;
 #[cfg(test)]
 mod world;
