@@ -1,6 +1,6 @@
-use jt_platform_command::platform;
 use jt_io::{MemSink, MemSource};
 use jt_link::{ScriptLink, ScriptListen};
+use jt_platform_command::platform;
 use jt_runner::Status;
 use jt_store::MemKeeper;
 use jt_value::{Memory, Octets, Seq};
@@ -18,10 +18,12 @@ const REFUSED: &[u8] =
     b"\x7e\x80\x01\x00\x05\x01\x39\x12\x34\x56\x78\x00\x00\x00\x00\x00\x02\x01\xb7\x7e";
 
 /// Five first packets of three, each of a message of its own.
-const PACKETS: &[u8] = b"\x7e\x01\x04\x20\x02\x01\x39\x12\x34\x56\x78\x00\x00\x00\x03\x00\x01\x00\x07\x12\x7e\x7e\x01\x04\x20\x02\x01\x39\x12\x34\x56\x78\x00\x0a\x00\x03\x00\x01\x00\x07\x18\x7e\x7e\x01\x04\x20\x02\x01\x39\x12\x34\x56\x78\x00\x14\x00\x03\x00\x01\x00\x07\x06\x7e\x7e\x01\x04\x20\x02\x01\x39\x12\x34\x56\x78\x00\x1e\x00\x03\x00\x01\x00\x07\x0c\x7e\x7e\x01\x04\x20\x02\x01\x39\x12\x34\x56\x78\x00\x28\x00\x03\x00\x01\x00\x07\x3a\x7e";
+const PACKETS: &[u8] =
+    b"\x7e\x01\x04\x20\x02\x01\x39\x12\x34\x56\x78\x00\x00\x00\x03\x00\x01\x00\x07\x12\x7e\x7e\x01\x04\x20\x02\x01\x39\x12\x34\x56\x78\x00\x0a\x00\x03\x00\x01\x00\x07\x18\x7e\x7e\x01\x04\x20\x02\x01\x39\x12\x34\x56\x78\x00\x14\x00\x03\x00\x01\x00\x07\x06\x7e\x7e\x01\x04\x20\x02\x01\x39\x12\x34\x56\x78\x00\x1e\x00\x03\x00\x01\x00\x07\x0c\x7e\x7e\x01\x04\x20\x02\x01\x39\x12\x34\x56\x78\x00\x28\x00\x03\x00\x01\x00\x07\x3a\x7e";
 
 /// A registration, an authentication and two positions of the same phone.
-const TERMINAL: &[u8] = b"\x7e\x01\x00\x00\x2a\x01\x39\x12\x34\x56\x78\x00\x00\x00\x00\x00\x00\x00\x00\x00\x00\x00\x00\x00\x00\x00\x00\x00\x00\x00\x00\x00\x00\x00\x00\x00\x00\x00\x00\x00\x00\x00\x31\x32\x33\x34\x35\x36\x37\x01\x4a\x54\x38\x30\x38\x04\x7e\x7e\x01\x02\x00\x10\x01\x39\x12\x34\x56\x78\x00\x01\x33\x31\x61\x39\x39\x62\x38\x34\x65\x34\x63\x30\x38\x65\x65\x30\x25\x7e\x7e\x02\x00\x00\x1c\x01\x39\x12\x34\x56\x78\x00\x02\x00\x00\x00\x00\x00\x00\x00\x03\x00\x00\x00\x00\x06\xbc\x3e\x40\x00\x00\x00\x00\x00\x00\x24\x01\x01\x00\x00\x00\xcf\x7e\x7e\x02\x00\x00\x1c\x01\x39\x12\x34\x56\x78\x00\x03\x00\x00\x00\x00\x00\x00\x00\x03\x00\x00\x00\x01\x06\xbc\x3e\x40\x00\x00\x00\x00\x00\x00\x24\x01\x01\x00\x00\x00\xcf\x7e";
+const TERMINAL: &[u8] =
+    b"\x7e\x01\x00\x00\x2a\x01\x39\x12\x34\x56\x78\x00\x00\x00\x00\x00\x00\x00\x00\x00\x00\x00\x00\x00\x00\x00\x00\x00\x00\x00\x00\x00\x00\x00\x00\x00\x00\x00\x00\x00\x00\x00\x31\x32\x33\x34\x35\x36\x37\x01\x4a\x54\x38\x30\x38\x04\x7e\x7e\x01\x02\x00\x10\x01\x39\x12\x34\x56\x78\x00\x01\x33\x31\x61\x39\x39\x62\x38\x34\x65\x34\x63\x30\x38\x65\x65\x30\x25\x7e\x7e\x02\x00\x00\x1c\x01\x39\x12\x34\x56\x78\x00\x02\x00\x00\x00\x00\x00\x00\x00\x03\x00\x00\x00\x00\x06\xbc\x3e\x40\x00\x00\x00\x00\x00\x00\x24\x01\x01\x00\x00\x00\xcf\x7e\x7e\x02\x00\x00\x1c\x01\x39\x12\x34\x56\x78\x00\x03\x00\x00\x00\x00\x00\x00\x00\x03\x00\x00\x00\x01\x06\xbc\x3e\x40\x00\x00\x00\x00\x00\x00\x24\x01\x01\x00\x00\x00\xcf\x7e";
 
 /// The fleet of that terminal.
 const FLEET: &str = "# one vehicle\nsecret 3132\nplate 4a54383038\n\nterminal 31323334353637\n";
@@ -83,7 +85,15 @@ fn ran<R: Threads + Wait + Sync>(
         port: 9000,
         sessions: scene.sessions.max(1),
     };
-    let ended = platform(rt, alloc, &mut source, &mut sink, &mut listen, keeper, words);
+    let ended = platform(
+        rt,
+        alloc,
+        &mut source,
+        &mut sink,
+        &mut listen,
+        keeper,
+        words,
+    );
     let written = match listen.links_back().first() {
         Some(link) => octets(alloc, link.written())?,
         None => Octets::new(alloc),
@@ -95,7 +105,10 @@ fn ran<R: Threads + Wait + Sync>(
 fn a_heartbeat(rt: HostRuntime) -> Result<(), Fail> {
     let (status, printed, written) = ran(&rt, rt.alloc(), &calm("secret 3132", HEARTBEAT))?;
     assert_eq!(rt; written.as_slice(), REFUSED);
-    assert_eq!(rt; printed.as_slice(), b"session 1 ended read=15 written=20 frames=1 refused=0 dropped=0\nentries=2 stored=0 repeat=0 renumbered=0\n".as_slice());
+    assert_eq!(rt;
+        printed.as_slice(),
+        b"session 1 ended read=15 written=20 frames=1 refused=0 dropped=0\nentries=2 stored=0 repeat=0 renumbered=0\n".as_slice()
+    );
     assert_eq!(rt; status, Status::Done);
     Ok(())
 }
@@ -132,15 +145,47 @@ fn what_is_printed(rt: HostRuntime) -> Result<(), Fail> {
         ..calm(FLEET, TERMINAL)
     };
     let rows = [
-        (two, "session 1 ended read=0 written=0 frames=0 refused=0 dropped=0\nentries=1 stored=0 repeat=0 renumbered=0\n", Status::Done),
-        (read_fails, "session 1 link-fault read=15 written=20 frames=1 refused=0 dropped=0\nentries=2 stored=0 repeat=0 renumbered=0\n", Status::Done),
-        (write_fails, "session 1 link-fault read=15 written=0 frames=1 refused=0 dropped=0\nentries=2 stored=0 repeat=0 renumbered=0\n", Status::Done),
-        (accept_fails, "session 1 ended read=15 written=20 frames=1 refused=0 dropped=0\nentries=2 stored=0 repeat=0 renumbered=0\nlisten fault\n", Status::NetFault),
+        (
+            two,
+            "session 1 ended read=0 written=0 frames=0 refused=0 dropped=0\nentries=1 stored=0 repeat=0 renumbered=0\n",
+            Status::Done,
+        ),
+        (
+            read_fails,
+            "session 1 link-fault read=15 written=20 frames=1 refused=0 dropped=0\nentries=2 stored=0 repeat=0 renumbered=0\n",
+            Status::Done,
+        ),
+        (
+            write_fails,
+            "session 1 link-fault read=15 written=0 frames=1 refused=0 dropped=0\nentries=2 stored=0 repeat=0 renumbered=0\n",
+            Status::Done,
+        ),
+        (
+            accept_fails,
+            "session 1 ended read=15 written=20 frames=1 refused=0 dropped=0\nentries=2 stored=0 repeat=0 renumbered=0\nlisten fault\n",
+            Status::NetFault,
+        ),
         (start_fails, "listen fault\n", Status::NetFault),
-        (calm("secret 3132", PACKETS), "session 1 ended read=105 written=0 frames=5 refused=0 dropped=1\nentries=1 stored=0 repeat=0 renumbered=0\n", Status::Done),
-        (full, "session 1 list-full read=174 written=74 frames=4 refused=0 dropped=0\nentries=4 stored=1 repeat=0 renumbered=0\nlist full at 1\n", Status::StoreFault),
-        (store_fails, "session 1 store-fault read=174 written=0 frames=1 refused=0 dropped=0\nentries=1 stored=0 repeat=0 renumbered=0\nstore fault\n", Status::StoreFault),
-        (calm(FLEET, TERMINAL), "session 1 ended read=174 written=94 frames=4 refused=0 dropped=0\nentries=5 stored=2 repeat=0 renumbered=0\n", Status::Done),
+        (
+            calm("secret 3132", PACKETS),
+            "session 1 ended read=105 written=0 frames=5 refused=0 dropped=1\nentries=1 stored=0 repeat=0 renumbered=0\n",
+            Status::Done,
+        ),
+        (
+            full,
+            "session 1 list-full read=174 written=74 frames=4 refused=0 dropped=0\nentries=4 stored=1 repeat=0 renumbered=0\nlist full at 1\n",
+            Status::StoreFault,
+        ),
+        (
+            store_fails,
+            "session 1 store-fault read=174 written=0 frames=1 refused=0 dropped=0\nentries=1 stored=0 repeat=0 renumbered=0\nstore fault\n",
+            Status::StoreFault,
+        ),
+        (
+            calm(FLEET, TERMINAL),
+            "session 1 ended read=174 written=94 frames=4 refused=0 dropped=0\nentries=5 stored=2 repeat=0 renumbered=0\n",
+            Status::Done,
+        ),
     ];
     for (scene, text, status) in rows {
         let (ended, printed, _) = ran(&rt, rt.alloc(), &scene)?;

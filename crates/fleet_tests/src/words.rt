@@ -62,7 +62,10 @@ fn words_of_no_platform(rt: HostRuntime) -> Result<(), Fail> {
     ];
     for text in rows {
         let words = words(rt.alloc(), text)?;
-        assert!(rt; PlatformWords::from_words(words.as_slice()).is_none(), "{text}");
+        assert!(rt;
+            PlatformWords::from_words(words.as_slice()).is_none(),
+            "{text}"
+        );
     }
     Ok(())
 }

@@ -13,6 +13,7 @@ use std::{env, io};
 
 // How many rows a phone may have, and how many fixes may wait, in the stores (this project's own limits).
 const ROW_LIMIT: u64 = 1_000_000_000;
+
 const FIX_LIMIT: u64 = 100_000;
 
 // The words after the program's name. A word that is not UTF-8 makes the command line faulty, as no words do.

@@ -8,12 +8,12 @@ mod task;
 mod top;
 mod usage;
 
+pub use alone::run_alone;
 pub use jt_runner::Status;
 pub use jt_text::{refusal_line, view_line};
 pub use jt_view::{
     Closing, Command, Encoding, Report, law_octets_of_front, law_wrong_stays, report,
 };
-pub use alone::run_alone;
 pub use outside::{Ended, Outside};
 pub use playing::play;
 pub use task::Task;

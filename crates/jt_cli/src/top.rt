@@ -34,7 +34,16 @@ use std::sync::Wait;
 use std::thread::Threads;
 
 // Serves links, and leaves all that `platform` does not need as it is.
-fn run_platform<R: Threads + Wait + Sync, S: Source, K: Sink, D, L: Listen, C, P: Keeper + Send + Drop, V>(
+fn run_platform<
+    R: Threads + Wait + Sync,
+    S: Source,
+    K: Sink,
+    D,
+    L: Listen,
+    C,
+    P: Keeper + Send + Drop,
+    V,
+>(
     rt: &R,
     alloc: Global,
     words: PlatformWords,
@@ -65,7 +74,15 @@ where
         keeper,
         vault,
     } = outside;
-    let ran = platform(rt, alloc, &mut source, &mut sink, &mut listen, keeper, words);
+    let ran = platform(
+        rt,
+        alloc,
+        &mut source,
+        &mut sink,
+        &mut listen,
+        keeper,
+        words,
+    );
     let PlatformRun {
         status,
         keeper,
@@ -95,7 +112,16 @@ where
 /// reported, and of a script or of a fleet at most 10,000,000 lines of at most 4,096 octets are heard.
 ///
 /// `platform` may wait for peers; its promises hold where it returns. All other words are left to `run_alone`.
-pub fn run<R: Threads + Wait + Sync, S: Source, K: Sink, D, L: Listen, C, P: Keeper + Send + Drop, V>(
+pub fn run<
+    R: Threads + Wait + Sync,
+    S: Source,
+    K: Sink,
+    D,
+    L: Listen,
+    C,
+    P: Keeper + Send + Drop,
+    V,
+>(
     rt: &R,
     alloc: Global,
     words: &Vec<String>,

@@ -3,17 +3,17 @@ use Rattle.std.proofs.Math.Dec.{leb}
 use Rattle.std.proofs.lemmas.Bool.{leb-true}
 use Rattle.std.proofs.Common.{◌≤◌, ◌&&◌, inl, inr, Bool, ◌≡◌, ◌++◌, ◌+◌, ℕ, true, false, List, [], ◌∷◌, length, Option, Some, None, IsTrue, refl, sym, ap, subst, ◌∙◌, append_assoc, append-nil, length-append, arith}
 use Rattle.std.specs.Io.KnownBytes.{Consumes, IsAtEnd}
-use Rattle.std.proofs.KnownBytes.{Consumes-nil, Consumes-trans}
+use Rattle.std.proofs.KnownBytes.{Consumes-trans}
 use Rattle.jt_script.specs.Text.{Cuts, lines_of, is_within}
 use Rattle.jt_script.specs.Cutter.{begun_of}
-use Rattle.jt_lines.specs.Lines.{Reading, HasTold, IsBeyond, Goes}
+use Rattle.jt_lines.specs.Lines.{Reading, HasTold, Goes}
 use Rattle.jt_lines.specs.declared.line_reader.NextLine.TheVariants as next
 use Rattle.jt_fleet.specs.FleetLines.{said_by}
-use Rattle.jt_fleet.specs.FleetText.{Named, FleetIn, BadLine, FleetOf, nothing_named, named_by, named_with, or_bad, at_end, fleet_from, fleet_in}
+use Rattle.jt_fleet.specs.FleetText.{Named, FleetIn, BadLine, nothing_named, named_by, named_with, or_bad, at_end, fleet_from, fleet_in}
 use Rattle.jt_fleet.specs.declared.fleet_reader.FleetRead.{FleetRead}
 use Rattle.jt_fleet.specs.declared.fleet_reader.FleetRead.TheVariants as told
 use Rattle.jt_fleet.specs.Naming.{IsNamed, GoesOn, Ends}
-use Rattle.jt_fleet.specs.Reading.{ReadsFleet, Answers, IsSettled}
+use Rattle.jt_fleet.specs.Reading.{ReadsFleet, Answers}
 
 -- a line within the limits names what it says
 with_is : (named : Named) (number : ℕ) (line : List ℕ) → IsTrue (is_within number line) → named_with named number line ≡ named_by named.secret named.fleet (said_by line)
@@ -86,10 +86,10 @@ ends_bad law old now named number left mid left_now h goes said =
     let line = now.held.line in
     let no : named_with named number line ≡ None = with_is named number line (subst (λ (n : ℕ). IsTrue (is_within n line)) (sym h.count) goes.tells.1) ∙ said in
     bad_whatever left left_now (h.text ++ goes.more) number (Consumes-trans left mid left_now h.text goes.more h.consumed goes.consumed) (λ rest.
-        let more = lines_of (begun_of now.held ++ (now.ahead ++ rest)) in
-        fleet_is ((h.text ++ goes.more) ++ rest) (h.lines ++ line ∷ more)
-        (lines_on law now (h.text ++ goes.more) (h.lines ++ line ∷ []) goes.tells.0 rest ∙ append_assoc h.lines (line ∷ []) more)
-        ∙ bad_from named number h.lines line h.stands no more)
+    let more = lines_of (begun_of now.held ++ (now.ahead ++ rest)) in
+    fleet_is ((h.text ++ goes.more) ++ rest) (h.lines ++ line ∷ more)
+    (lines_on law now (h.text ++ goes.more) (h.lines ++ line ∷ []) goes.tells.0 rest ∙ append_assoc h.lines (line ∷ []) more)
+    ∙ bad_from named number h.lines line h.stands no more)
 
 -- the next line is beyond the limits
 pub ends_beyond : (old now : Reading) (named : Named) (number found : ℕ) (left mid left_now : Option (List ℕ)) (h : GoesOn old named number left mid)
@@ -97,10 +97,10 @@ pub ends_beyond : (old now : Reading) (named : Named) (number found : ℕ) (left
 ends_beyond old now named number found left mid left_now h goes =
     let same : number ≡ found = h.count ∙ sym goes.tells.0 in
     subst (λ (n : ℕ). ReadsFleet (told.Bad n) left left_now) same (
-      bad_whatever left left_now (h.text ++ goes.more) number (Consumes-trans left mid left_now h.text goes.more h.consumed goes.consumed) (λ rest.
-          let b = goes.tells.1 rest in
-          fleet_is ((h.text ++ goes.more) ++ rest) (h.lines ++ b.0 ∷ b.1) b.2
-          ∙ bad_from named number h.lines b.0 h.stands (beyond_is named number b.0 (subst (λ (n : ℕ). is_within n b.0 ≡ false) (sym h.count) b.3)) b.1))
+    bad_whatever left left_now (h.text ++ goes.more) number (Consumes-trans left mid left_now h.text goes.more h.consumed goes.consumed) (λ rest.
+    let b = goes.tells.1 rest in
+    fleet_is ((h.text ++ goes.more) ++ rest) (h.lines ++ b.0 ∷ b.1) b.2
+    ∙ bad_from named number h.lines b.0 h.stands (beyond_is named number b.0 (subst (λ (n : ℕ). is_within n b.0 ≡ false) (sym h.count) b.3)) b.1))
 
 -- the text ends
 at_the_end : (answer : FleetRead) (text : List ℕ) (left : Option (List ℕ)) (named : FleetIn) → fleet_in text ≡ named → IsAtEnd left → Ends answer named → Answers answer text left

@@ -1,8 +1,7 @@
 -- What the reading of a fleet answers. To be believed.
 use Rattle.std.specs.Prelude.{◌≡◌, ◌⊎◌, ℕ, List, ◌++◌, Option}
 use Rattle.std.specs.Io.KnownBytes.{Consumes, IsAtEnd}
-use Rattle.jt_platform.specs.declared.request.Fleet.{Fleet}
-use Rattle.jt_fleet.specs.FleetText.{FleetIn, BadLine, FleetOf, fleet_in}
+use Rattle.jt_fleet.specs.FleetText.{BadLine, FleetOf, fleet_in}
 use Rattle.jt_fleet.specs.declared.fleet_reader.FleetRead.{FleetRead}
 use Rattle.jt_fleet.specs.declared.fleet_reader.FleetRead.TheVariants as told
 

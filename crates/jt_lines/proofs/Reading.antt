@@ -1,14 +1,14 @@
 -- What a reader has told, through cuts and reads.
 use Rattle.std.proofs.lemmas.List.{take-append-drop, length-take, length-drop}
-use Rattle.std.proofs.Common.{◌≤◌, ◌-◌, take, drop, arith, ◌≡◌, ◌++◌, ◌+◌, ℕ, true, false, List, [], ◌∷◌, length, Option, IsTrue, refl, sym, ap, subst, ◌∙◌, append_assoc, append-nil, length-append}
-use Rattle.std.specs.Io.KnownBytes.{Consumes, Keeps, IsAtEnd}
-use Rattle.std.proofs.KnownBytes.{Consumes-nil, Consumes-trans, Consumes-kept}
+use Rattle.std.proofs.Common.{◌≤◌, take, drop, arith, ◌≡◌, ◌++◌, ◌+◌, ℕ, false, List, [], ◌∷◌, length, Option, IsTrue, refl, sym, ap, subst, ◌∙◌, append_assoc, append-nil, length-append}
+use Rattle.std.specs.Io.KnownBytes.{Consumes, IsAtEnd}
+use Rattle.std.proofs.KnownBytes.{Consumes-trans}
 use Rattle.jt_script.specs.Text.{Cuts, lines_of, is_within}
 use Rattle.jt_script.specs.Cutter.{Held, Takes, begun_of, room_of, told, IsBeyond as IsBeyondHeld}
 use Rattle.jt_script.specs.declared.line_cutter.Cut.{Cut}
 use Rattle.jt_script.specs.declared.line_cutter.Cut.TheVariants as cut
 use Rattle.jt_lines.specs.Lines.{Reading, HasTold, IsBeyond}
-use Rattle.jt_lines.specs.Lines.{Goes, Tells}
+use Rattle.jt_lines.specs.Lines.{Tells}
 use Rattle.jt_lines.specs.declared.line_reader.NextLine.{NextLine}
 use Rattle.jt_lines.specs.declared.line_reader.NextLine.TheVariants as next
 use Rattle.jt_lines.specs.Cutting.{CutsOn, Ends, ReadsOn}

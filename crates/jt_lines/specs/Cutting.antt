@@ -1,5 +1,5 @@
 -- What the parts of a call do. Step functions for the proofs.
-use Rattle.std.specs.Prelude.{◌≡◌, ◌≤◌, ◌<◌, ℕ, ◌+◌, List, [], ◌∷◌, ◌++◌, length, take, Option, IsTrue, IfSome}
+use Rattle.std.specs.Prelude.{◌≡◌, ◌≤◌, ◌<◌, ℕ, ◌+◌, List, [], ◌∷◌, ◌++◌, length, Option, IsTrue}
 use Rattle.std.specs.Io.KnownBytes.{Consumes, Keeps, IsAtEnd}
 use Rattle.jt_io.specs.declared.source.Got.{Got}
 use Rattle.jt_io.specs.declared.source.Got.TheVariants.{Bytes, End, Failed}

@@ -121,13 +121,7 @@ where
 /// writes a line for each session, the line of the totals, and the last one, if there is one.
 ///
 /// A bad line of the source is told before anything is listened to. It may wait for peers, and its promises hold where it returns.
-pub fn platform<
-    R: Threads + Wait + Sync,
-    S: Source,
-    K: Sink,
-    L: Listen,
-    P: Keeper + Send + Drop,
->(
+pub fn platform<R: Threads + Wait + Sync, S: Source, K: Sink, L: Listen, P: Keeper + Send + Drop>(
     rt: &R,
     alloc: Global,
     source: &mut S,

@@ -44,7 +44,10 @@ fn push_session_counts(
 ) -> Result<(), AllocError>
     ensures { OnOk result (string_bytes text.new ≡ string_bytes text.old ++ session_counts frames refused dropped) }
 {
-    write!(text, " frames={frames} refused={refused} dropped={dropped}\n")
+    write!(
+        text,
+        " frames={frames} refused={refused} dropped={dropped}\n"
+    )
 }
 
 #[tactic(auto, using(std::proofs::Common::append_assoc), unfolding(crate::specs::Platform::session_line))]
@@ -128,7 +131,10 @@ fn push_totals(text: &mut String, entries: usize, totals: Totals) -> Result<(), 
         repeat,
         renumbered,
     } = totals;
-    write!(text, "entries={entries} stored={stored} repeat={repeat} renumbered={renumbered}\n")
+    write!(
+        text,
+        "entries={entries} stored={stored} repeat={repeat} renumbered={renumbered}\n"
+    )
 }
 
 /// The line of the totals of a history.
@@ -180,7 +186,11 @@ impl Ends {
     }
 }
 
-fn push_store_line(text: &mut String, store_fault: bool, limit: Option<u64>) -> Result<(), AllocError>
+fn push_store_line(
+    text: &mut String,
+    store_fault: bool,
+    limit: Option<u64>,
+) -> Result<(), AllocError>
     ensures { OnOk result (string_bytes text.new ≡ string_bytes text.old ++ (store_reply store_fault limit).text) }
 {
     if store_fault {

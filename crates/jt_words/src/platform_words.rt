@@ -18,8 +18,11 @@ pub struct PlatformWords {
 }
 
 const PORT: &[u8] = b"port";
+
 const SESSIONS: &[u8] = b"sessions";
+
 const PORT_MOST: u32 = 65_535;
+
 const SESSIONS_MOST: u32 = 1_024;
 
 // The values of the port and of the number of sessions.

@@ -1,4 +1,4 @@
-use Rattle.std.proofs.Common.{◌≡◌, ◌+◌, ℕ, Bool, true, false, length, List, Option, Some, None, refl, sym, ap, subst, ◌∙◌, arith}
+use Rattle.std.proofs.Common.{◌+◌, length, arith}
 use Rattle.jt_fleet.proofs.Hearing.{goes_on, ends_bad, ends_beyond, ends_last, ends_last_bad, ends_here, ends_failed, ends_memory, ends_last_memory, few_lines, good_is, bad_is}
 use Rattle.jt_fleet.proofs.fleet_reader.read_fleet.Goals as goal
 

@@ -1,4 +1,4 @@
-use Rattle.std.proofs.Common.{◌≡◌, ◌≤◌, ◌-◌, ℕ, List}
+use Rattle.std.proofs.Common.{◌≤◌, ◌-◌}
 use Rattle.jt_fleet.specs.Naming.{GoesOn}
 use Rattle.jt_fleet.proofs.fleet_reader.read_fleet.Given as goal
 

@@ -1,4 +1,4 @@
-use Rattle.std.proofs.Common.{◌≡◌, ◌+◌, ◌-◌, ℕ, List, [], map, take, drop, length, string_bytes, refl, sym, ap, ◌∙◌, subst, arith}
+use Rattle.std.proofs.Common.{[], map, take, drop, string_bytes, subst, arith}
 use Rattle.jt_words.specs.OptionWords.{IsOption}
 use Rattle.jt_words.proofs.Pairs.{back_is, all_rest, parted, both_lengths}
 use Rattle.jt_words.proofs.option_words.option_pair.Goals as goal

@@ -1,4 +1,4 @@
-use Rattle.std.proofs.Common.{◌≡◌, ◌++◌, [], ◌∷◌, ◌⊎◌, inl, inr, ℕ, List, length, map, nat_eq, string_bytes, codes, refl, sym, ap, ◌∙◌}
+use Rattle.std.proofs.Common.{string_bytes, sym, ◌∙◌}
 use Rattle.jt_words.proofs.Pairs.{first_is, rest_is_one, no_value, one_value}
 use Rattle.jt_words.proofs.option_words.option_value.Goals as goal
 

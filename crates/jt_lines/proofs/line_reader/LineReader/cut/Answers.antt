@@ -1,6 +1,6 @@
-use Rattle.std.proofs.Common.{◌≡◌, ◌+◌, ℕ, List, take, drop, refl, sym, ap, subst, ◌∙◌, arith}
-use Rattle.std.proofs.lemmas.List.{drop-drop, length-take, length-drop}
-use Rattle.jt_script.specs.Cutter.{Takes, IsBeyond, told}
+use Rattle.std.proofs.Common.{◌+◌, ℕ, List, take, drop, sym, subst}
+use Rattle.std.proofs.lemmas.List.{drop-drop}
+use Rattle.jt_script.specs.Cutter.{IsBeyond}
 use Rattle.jt_lines.specs.Lines.{Reading}
 use Rattle.jt_lines.specs.Cutting.{CutsOn}
 use Rattle.jt_lines.proofs.Reading.{cuts_on}

@@ -1,5 +1,5 @@
-use Rattle.std.proofs.Common.{◌≡◌, ◌++◌, ◌+◌, [], ◌∷◌, ℕ, List, IsTrue, refl, sym, ap, subst, ◌∙◌, append-nil}
-use Rattle.jt_script.specs.Text.{Cuts, lines_of, is_within}
+use Rattle.std.proofs.Common.{◌≡◌, ◌++◌, ◌+◌, [], ◌∷◌, ℕ, List, IsTrue, sym, ap, subst, ◌∙◌, append-nil}
+use Rattle.jt_script.specs.Text.{Cuts, is_within}
 use Rattle.jt_script.specs.Cutter.{Held, begun_of}
 use Rattle.jt_lines.specs.Lines.{Reading}
 use Rattle.jt_lines.proofs.line_reader.LineReader.end.Goals as goal

@@ -1,8 +1,7 @@
-use Rattle.std.proofs.Common.{◌≡◌, ◌++◌, ◌+◌, [], ◌∷◌, ℕ, List, Option, refl, sym, ap, subst, ◌∙◌, arith, append-nil}
+use Rattle.std.proofs.Common.{◌++◌, refl, ap, arith}
 use Rattle.std.proofs.KnownBytes.{Consumes-kept}
-use Rattle.jt_script.specs.Cutter.{Held}
 use Rattle.jt_script.specs.declared.line_cutter.Cut.TheVariants as cut
-use Rattle.jt_lines.specs.Lines.{Reading, HasTold, Goes, Tells}
+use Rattle.jt_lines.specs.Lines.{Reading}
 use Rattle.jt_lines.proofs.Reading.{after_cut, after_more, after_none, line_within, bad_line, reads_on, at_end}
 use Rattle.jt_lines.proofs.line_reader.LineReader.next.Goals as goal
 

@@ -1,4 +1,4 @@
-use Rattle.std.proofs.Common.{◌≡◌, ◌≢◌, ◌≤◌, ◌+◌, ◌*◌, [], ℕ, List, Bool, true, false, length, nat_eq, if◌then◌else◌}
+use Rattle.std.proofs.Common.{◌≤◌, ◌+◌, ◌*◌, length, nat_eq, if◌then◌else◌}
 use Rattle.jt_script.specs.Cutter.{room_of}
 use Rattle.jt_lines.specs.Cutting.{ReadsOn}
 use Rattle.jt_lines.proofs.line_reader.LineReader.next.Given as goal

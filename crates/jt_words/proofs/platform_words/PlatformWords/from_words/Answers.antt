@@ -1,4 +1,4 @@
-use Rattle.std.proofs.Common.{◌≡◌, ℕ, List, map, drop, string_bytes, refl, sym, ap, ◌∙◌, subst}
+use Rattle.std.proofs.Common.{◌≡◌, map, string_bytes, sym, ap, subst}
 use Rattle.std.specs.Fmt.{decimal}
 use Rattle.jt_words.specs.Platform.{AreOptions}
 use Rattle.jt_words.proofs.platform_words.PlatformWords.from_words.Goals as goal
