@@ -1,7 +1,9 @@
-//! Tests of the command `platform`: its words, its fleet, its text and its statuses.
+//! Tests of the words of `platform`, of lines that are read one after the other, and of the fleet that a source names.
 #![tactic(auto)]
 
 #[cfg(test)]
-mod rows;
+mod fleets;
+#[cfg(test)]
+mod lines;
 #[cfg(test)]
 mod words;

@@ -10,7 +10,7 @@ const USAGE: &str = "usage: jt808 view|check|rehearse|make|platform|report\n";
 
 const HEARTBEAT: &[u8] = b"\x7e\x00\x02\x00\x00\x01\x39\x12\x34\x56\x78\x00\x00\x32\x7e";
 
-fn words_of(alloc: Global, words: &[&str]) -> Result<Vec<String>, AllocError> {
+pub(crate) fn words_of(alloc: Global, words: &[&str]) -> Result<Vec<String>, AllocError> {
     let mut all = Vec::new(alloc);
     for word in words {
         all.push(String::from_str(alloc, word)?)?;
@@ -19,7 +19,7 @@ fn words_of(alloc: Global, words: &[&str]) -> Result<Vec<String>, AllocError> {
 }
 
 // A source and a sink in memory. `failing` has the numbers of the read and of the write that fail, 0 for none.
-fn outside(
+pub(crate) fn outside(
     alloc: Global,
     octets: &[u8],
     failing: (u64, u64),

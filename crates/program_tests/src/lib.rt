@@ -4,6 +4,8 @@
 #[cfg(test)]
 mod cli;
 #[cfg(test)]
+mod order;
+#[cfg(test)]
 mod view;
 #[cfg(test)]
 mod world;

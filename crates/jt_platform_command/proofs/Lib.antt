@@ -1,2 +1,0 @@
-mod Folds
-mod Causes

@@ -1,3 +1,0 @@
-pub mod Platform
-pub mod Running
-pub mod Opening

@@ -1,4 +1,0 @@
-pub mod Places
-pub mod Limits
-pub mod Together
-pub mod Joins

@@ -1,0 +1,107 @@
+//! In which order a run reads and writes.
+
+ghost use Rattle.std.specs.Prelude.{None};
+
+use crate::cli::{outside, words_of};
+use jt_cli::{Outside, Status, run};
+use jt_io::{Got, Put, Sink, Source};
+use std::alloc::{AllocError, Global};
+use std::cell::Cell;
+
+// A script whose first piece prints a line, and which has 24,022 octets.
+fn long_script(alloc: Global) -> Result<Vec<u8>, AllocError> {
+    let mut script = Vec::new(alloc);
+    script.extend_from_slice(b"fix 0\ntick 0\nup 1 all\n")?;
+    for _ in 0..3000 {
+        script.extend_from_slice(b"#234567\n")?;
+    }
+    Ok(script)
+}
+
+#[test]
+fn a_failed_write_ends_the_run(rt: HostRuntime) {
+    let alloc = rt.alloc();
+    let script = long_script(alloc).expect(&rt, "a script");
+    let words = words_of(alloc, &["rehearse"]).expect(&rt, "words");
+    let outside = outside(alloc, script.as_slice(), (0, 1)).expect(&rt, "a source and a sink");
+    let mut ended = run(&(), alloc, &words, outside);
+    assert_eq!(&rt; ended.status, Status::WriteFault);
+    // One piece of 16,384 octets was read, and no more.
+    let mut rest = [0; 16_384];
+    assert_eq!(&rt; ended.outside.source.read(&mut rest), Got::Bytes(7638));
+}
+
+// A sink that sets a flag with each write.
+#[derive(Drop)]
+struct FlagSink<'a> {
+    flag: &'a Cell<bool>,
+}
+
+impl<'a> Sink for FlagSink<'a> {
+    ghost written = { λ _. None };
+
+    ghost faults = { λ _. 0 };
+
+    fn write(&mut self, buf: &[u8]) -> Put {
+        self.flag.set(true);
+        Put::Count(buf.len())
+    }
+}
+
+// A source whose first read gives a script, and whose second looks at the flag and then is at its end.
+#[derive(Drop)]
+struct FlagSource<'a> {
+    flag: &'a Cell<bool>,
+    script: &'a [u8],
+    is_read: bool,
+    was_set: bool,
+}
+
+impl<'a> Source for FlagSource<'a> {
+    ghost left = { λ _. None };
+
+    ghost faults = { λ _. 0 };
+
+    fn read(&mut self, buf: &mut [u8]) -> Got {
+        if self.is_read || self.script.is_empty() {
+            self.was_set = self.flag.get();
+            return Got::End;
+        }
+        self.is_read = true;
+        let count = self.script.len().min(buf.len());
+        buf[..count].copy_from_slice(&self.script[..count]);
+        Got::Bytes(count)
+    }
+}
+
+// Whether what the words print of the octets of the first read is written before the second.
+fn is_written_first(alloc: Global, words: &Vec<String>, octets: &[u8]) -> bool {
+    let flag = Cell::new(false);
+    let outside = Outside {
+        source: FlagSource {
+            flag: &flag,
+            script: octets,
+            is_read: false,
+            was_set: false,
+        },
+        sink: FlagSink { flag: &flag },
+    };
+    run(&(), alloc, words, outside).outside.source.was_set
+}
+
+#[test]
+fn lines_go_out_before_the_next_read(rt: HostRuntime) {
+    let alloc = rt.alloc();
+    let rehearse = words_of(alloc, &["rehearse"]).expect(&rt, "words");
+    let view = words_of(alloc, &["view"]).expect(&rt, "words");
+    assert!(&rt; is_written_first(alloc, &rehearse, b"fix 0\ntick 0\nup 1 all\n"));
+    assert!(&rt;
+        is_written_first(
+            alloc,
+            &view,
+            b"\x7e\x00\x02\x00\x00\x01\x39\x12\x34\x56\x78\x00\x00\x32\x7e"
+        )
+    );
+    // Nothing is printed of a comment, and so nothing is written.
+    assert!(&rt; !is_written_first(alloc, &rehearse, b"# fix 0\n"));
+}

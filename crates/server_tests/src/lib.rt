@@ -1,7 +1,0 @@
-//! Tests of serving a listener's links in threads.
-#![tactic(auto)]
-
-#[cfg(test)]
-mod rows;
-#[cfg(test)]
-mod waiting;
