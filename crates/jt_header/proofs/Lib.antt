@@ -1,3 +1,4 @@
+pub mod FirstRow
 pub mod Bits
 pub mod NoReason
 pub mod Pieces

@@ -1,10 +1,11 @@
 -- The law of contents: octets are one header and one body, or have one reason. To be believed.
-use Rattle.std.specs.Prelude.{◌≡◌, ◌+◌, ◌≤◌, ◌⊎◌, ℕ, List, length, None, Some, is_some}
+use Rattle.std.specs.Prelude.{◌≡◌, ◌↔◌, ◌+◌, ◌≤◌, ◌⊎◌, ℕ, List, ◌∷◌, ◌++◌, length, Option, None, Some, is_some}
+use Rattle.std.specs.List.{AllByRecursion}
 use Rattle.jt_value.specs.Octets.{AreOctets}
 use Rattle.jt_value.specs.declared.refusal.Refusal.{Refusal}
 use Rattle.jt_header.specs.Content.{Content, header_len}
 use Rattle.jt_header.specs.Fields.{body_at, header_at}
-use Rattle.jt_header.specs.Reason.{Reads, reason}
+use Rattle.jt_header.specs.Reason.{Reads, first_of, reason}
 use Rattle.jt_header.specs.declared.header.Header.{Header}
 
 -- the octets are a content
@@ -33,8 +34,17 @@ IsContentOfItsFields = (octets : List ℕ) → AreOctets octets → reason octet
 abbrev pub IsOneContent : Type 0
 IsOneContent = (h g : Header) (body other octets : List ℕ) → Content h body octets → Content g other octets → (h ≡ g) × (body ≡ other)
 
-abbrev pub IsOneReason : Type 0
-IsOneReason = (octets : List ℕ) (r s : Refusal) → reason octets ≡ Some r → reason octets ≡ Some s → r ≡ s
+-- a row that holds, with this refusal, and none before it does
+pub record IsFirstRow (rows : List (Option Refusal)) (refusal : Refusal) : Type 0 where
+  pub before : List (Option Refusal)
+  pub after : List (Option Refusal)
+  pub is_rows : rows ≡ before ++ (Some refusal ∷ after)
+  pub none_before : AllByRecursion (λ row. row ≡ None) before
+
+-- of rows, as the table of reasons has them, exactly the first that holds is told, and none exactly where none holds
+pub record IsFirstReason : Type 0 where
+  pub first : (rows : List (Option Refusal)) (refusal : Refusal) → (first_of rows ≡ Some refusal) ↔ IsFirstRow rows refusal
+  pub none : (rows : List (Option Refusal)) → (first_of rows ≡ None) ↔ AllByRecursion (λ row. row ≡ None) rows
 
 abbrev pub IsLengthOfContent : Type 0
 IsLengthOfContent =

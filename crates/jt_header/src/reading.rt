@@ -4,7 +4,7 @@ ghost use Rattle.std.specs.Prelude.{◌≡◌, ◌+◌, ◌<◌, ◌≤◌, ◌^
 ghost use Rattle.jt_value.specs.Phone.{digits_of, field_len};
 ghost use Rattle.jt_header.specs.Content.{Content};
 ghost use Rattle.jt_header.specs.Fields.{attributes_at, edition_in, header_len_in, packet_at, packet_place, phone_place, serial_place, version_at, word_at};
-ghost use Rattle.jt_header.specs.Law.{IsContentOfItsFields, IsLengthOfContent, IsNeverBoth, IsOneContent, IsOneOrTheOther, IsOneReason, IsReadBack};
+ghost use Rattle.jt_header.specs.Law.{IsContentOfItsFields, IsFirstReason, IsLengthOfContent, IsNeverBoth, IsOneContent, IsOneOrTheOther, IsReadBack};
 ghost use Rattle.jt_header.specs.Reason.{Reads, Rejects, bad_packet_number, check_mismatch, encrypted, first_of, length_mismatch, phone_digit, reason, too_short};
 ghost use Rattle.jt_header.specs.declared.header.Header.{Header};
 
@@ -219,12 +219,12 @@ pub fn read_header(content: &[u8]) -> Result<(Header, &[u8]), Refusal>
 }
 
 /// The law of contents, with nothing to run: octets are the content of one header and one body, or they have one reason,
-/// and never both.
+/// and never both. The reason is that of the first row of the table that holds.
 pub fn law_of_contents()
     ensures one_or_the_other { IsOneOrTheOther }
     ensures never_both { IsNeverBoth }
     ensures one_content { IsOneContent }
-    ensures one_reason { IsOneReason }
+    ensures first_reason { IsFirstReason }
     ensures read_back { IsReadBack }
     ensures fields { IsContentOfItsFields }
     ensures len { IsLengthOfContent }

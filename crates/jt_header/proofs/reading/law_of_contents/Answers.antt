@@ -5,6 +5,7 @@ use Rattle.jt_header.specs.Fields.{header_at, body_at}
 use Rattle.jt_value.specs.Octets.{AreOctets}
 use Rattle.jt_header.specs.Law.{HasContent, HasReason}
 use Rattle.jt_header.specs.Reason.{reason}
+use Rattle.jt_header.proofs.FirstRow as rows
 use Rattle.jt_header.proofs.NoReason.{found}
 use Rattle.jt_header.proofs.WholeContents.{content_len, only, refuted}
 use Rattle.jt_header.proofs.reading.law_of_contents.Goals as goal
@@ -31,3 +32,6 @@ returns-clause-read_back c = λ h body octets is. only h body octets is
 
 pub returns-clause-fields : goal.returns-clause-fields
 returns-clause-fields c = λ octets are none. found octets are none
+
+pub returns-clause-first_reason : goal.returns-clause-first_reason
+returns-clause-first_reason c = rows.first_reason
