@@ -10,7 +10,7 @@ use Rattle.std.specs.Map.{keys_of}
 use Rattle.std.specs.Ordering.{nat_cmp, is_eq, is_lt}
 use Rattle.jt_regions.specs.Steps.{under}
 
-found : {X : Type 0} (es : List (ℕ × X)) (id : ℕ) → find nat_cmp id es ≡ under es id
+pub found : {X : Type 0} (es : List (ℕ × X)) (id : ℕ) → find nat_cmp id es ≡ under es id
 found [] id = refl
 found (e ∷ es) id = ap (cond (is_eq (nat_cmp id e.0)) (Some e.1)) (found es id)
 

@@ -1,2 +1,3 @@
 pub mod FiniteMaps
 pub mod Filling
+pub mod ChangeLaws

@@ -1,4 +1,5 @@
 pub mod Kinds
+pub mod Law
 pub mod Steps
 pub mod Stored
 pub mod Tables

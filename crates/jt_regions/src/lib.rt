@@ -4,6 +4,7 @@
 mod change;
 mod error;
 mod identified;
+mod laws;
 mod region_table;
 mod table;
 
@@ -15,4 +16,5 @@ pub use jt_region_bodies::{
     read_circles, read_deletion, read_polygon, read_rectangles, read_route, rectangles_fit,
     write_circles, write_deletion, write_ids, write_polygon, write_rectangles, write_route,
 };
+pub use laws::law_changes;
 pub use region_table::RegionTable;
