@@ -7,7 +7,7 @@ use Rattle.jt_layout.specs.Layout.{◌>>=◌, Reading, read_times, sized, word}
 use Rattle.jt_layout.specs.Reading.{Finds}
 use Rattle.jt_layout.proofs.Laws.{bind_ok, ok_is}
 use Rattle.jt_position.specs.declared.position.Position.{Position}
-use Rattle.jt_position.specs.declared.items.PositionView.{PositionView}
+use Rattle.jt_position.specs.declared.position_view.PositionView.{PositionView}
 use Rattle.jt_position.specs.Positions.{position}
 use Rattle.jt_position.specs.BatchViews.{viewed_position, reads_positions, positions_from}
 

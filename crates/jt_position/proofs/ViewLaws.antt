@@ -1,6 +1,6 @@
 -- What is left of a position's items as they are taken one by one.
-use Rattle.std.proofs.Common.{◌≡◌, ℕ, ◌+◌, ◌-◌, ◌<◌, ◌≤◌, ltb, List, [], ◌∷◌, ◌++◌, length, take, drop, Option, Some, None, Result, Ok, Err, IsTrue, is_ok, refl, sym, ap, ◌∙◌, arith, rules}
-use Rattle.std.specs.List.{flat_map}
+use Rattle.std.proofs.Common.{◌≡◌, ℕ, ◌+◌, ◌-◌, ◌<◌, ◌≤◌, ltb, List, [], ◌∷◌, ◌++◌, length, take, drop, Option, Some, None, Result, Ok, Err, IsTrue, is_ok, refl, sym, ap, ◌∙◌, arith, rules, subst, append-nil, append_assoc}
+use Rattle.std.specs.List.{AllByRecursion, flat_map}
 use Rattle.std.proofs.lemmas.List.{drop-drop, take_at, length-drop}
 use Rattle.std.proofs.lemmas.List.Concat.{flat_map-append}
 use Rattle.std.specs.Int.{w8, from_be_bytes}
@@ -8,17 +8,18 @@ use Rattle.std.specs.Iterator.{YieldsFirstBy, MakesProgress, item_count}
 use Rattle.std.specs.Result.{result_unwrap_or, result_ok}
 use Rattle.jt_value.specs.Octets.{AreOctets}
 use Rattle.jt_value.specs.declared.refusal.Refusal.{Refusal}
-use Rattle.jt_layout.specs.Layout.{Fills, ◌>>=◌, ◌▹◌, number, octets_of, block, byte, truncated, read_to_the_end}
+use Rattle.jt_layout.specs.Layout.{Fills, ◌>>=◌, ◌▹◌, number, octets_of, block, byte, sized, truncated, read_to_the_end, word}
 use Rattle.jt_layout.specs.Reading.{Finds}
 use Rattle.jt_layout.proofs.Laws.{behind, bind_ok, guard_ok, ok_is}
 use Rattle.jt_layout.proofs.Repeats.{to_the_end_law}
 use Rattle.jt_layout.proofs.Loops.{Grows, all_next, all_none, all_stops}
 use Rattle.jt_position.specs.declared.item.Item.{Item}
 use Rattle.jt_position.specs.declared.item.Item.TheVariants.{Raw}
+use Rattle.jt_position.specs.declared.batch.Batch.{Batch}
 use Rattle.jt_position.specs.declared.position.Position.{Position}
-use Rattle.jt_position.specs.declared.view.ItemView.{ItemView}
+use Rattle.jt_position.specs.declared.item_view.ItemView.{ItemView}
 use Rattle.jt_position.specs.Items.{typed, untyped}
-use Rattle.jt_position.specs.Positions.{plain_item, item, fixed, position}
+use Rattle.jt_position.specs.Positions.{plain_item, item, fixed, position, batch}
 use Rattle.jt_position.proofs.ItemLaws.{item_law, item_some}
 use Rattle.jt_position.specs.Views.{owned, reads_from, items_from}
 
@@ -77,15 +78,15 @@ progress view left after None h = search rules
 progress view left after (Some taken) h = let shorter = ap length h in search rules
 
 -- the items take all octets that are left
-sized : (s : List ℕ) (p : ℕ) (r : Result (List Item) Refusal) → AreOctets s → p ≤ length s → read_to_the_end item.read s p ≡ r → IsTrue (is_ok r) → length (flat_map item.spell (result_unwrap_or r [])) ≡ length s - p
-sized s p (Ok items) octets le e h =
+all_left : (s : List ℕ) (p : ℕ) (r : Result (List Item) Refusal) → AreOctets s → p ≤ length s → read_to_the_end item.read s p ≡ r → IsTrue (is_ok r) → length (flat_map item.spell (result_unwrap_or r [])) ≡ length s - p
+all_left s p (Ok items) octets le e h =
     let fills = (to_the_end_law item item_law item_some).takes s p items octets le e in
     ap length (sym fills.parts) ∙ length-drop p s
-sized s p (Err r) octets le e h = absurd cc
+all_left s p (Err r) octets le e h = absurd cc
 
 pub items_size : (s : List ℕ) (p left : ℕ) (items : List Item) → AreOctets s → p + left ≡ length s → IsTrue (reads_from s p) → items_from s p ≡ items → left ≡ length (flat_map item.spell items)
 items_size s p left items octets ends h is =
-    let size = sized s p (read_to_the_end item.read s p) octets (omega arith) refl h in
+    let size = all_left s p (read_to_the_end item.read s p) octets (omega arith) refl h in
     omega (arith, size, ap (λ (xs : List Item). length (flat_map item.spell xs)) is)
 
 -- where raw values stand
@@ -97,16 +98,56 @@ raw_spell : (id : ℕ) (value : List ℕ) (rest : List ℕ) → drop 2 (item.spe
 unfolding item untyped number octets_of
 raw_spell id value rest = refl
 
-pub raw_stands : (s : List ℕ) (m : Position) → Fills position s 0 m → (before : List Item) (id : ℕ) (value : List ℕ) (after : List Item) → m.items ≡ before ++ Raw id value ∷ after → take (length value) (drop (30 + length (flat_map item.spell before)) s) ≡ value
+-- where the octets of a position stand
+raw_at : (s : List ℕ) (p : ℕ) (m : Position) (more : List ℕ) → position.Fits m → drop p s ≡ position.spell m ++ more → (before : List Item) (id : ℕ) (value : List ℕ) (after : List Item) → m.items ≡ before ++ Raw id value ∷ after
+    → take (length value) (drop (p + 30 + length (flat_map item.spell before)) s) ≡ value
 unfolding position
-raw_stands s m st before id value after items =
+raw_at s p m more fits parts before id value after items =
     let front = flat_map item.spell before in
-    let parts : drop 0 s ≡ fixed.spell m.fixed ++ flat_map item.spell m.items = st.parts in
-    let size = fixed_length m st.fits in
-    let start : 28 ≡ 0 + length (fixed.spell m.fixed) = omega arith in
-    let behind_fixed : drop 28 s ≡ flat_map item.spell m.items = ap (λ n. drop n s) start ∙ behind s (fixed.spell m.fixed) (flat_map item.spell m.items) 0 parts in
-    let split : drop 28 s ≡ front ++ (item.spell (Raw id value) ++ flat_map item.spell after) = behind_fixed ∙ ap (flat_map item.spell) items ∙ flat_map-append item.spell before (Raw id value ∷ after) in
-    let here = behind s front (item.spell (Raw id value) ++ flat_map item.spell after) 28 split in
-    let k : 28 + length front + 2 ≡ 30 + length front = omega arith in
-    let at : drop (30 + length front) s ≡ value ++ flat_map item.spell after = ap (λ n. drop n s) (sym k) ∙ sym (drop-drop 2 (28 + length front) s) ∙ ap (drop 2) here ∙ raw_spell id value (flat_map item.spell after) in
-    ap (take (length value)) at ∙ take_at value (flat_map item.spell after) (length value) refl
+    let own = item.spell (Raw id value) in
+    let others = flat_map item.spell after in
+    let size = fixed_length m fits in
+    let fields : drop p s ≡ fixed.spell m.fixed ++ (flat_map item.spell m.items ++ more) = parts ∙ append_assoc (fixed.spell m.fixed) (flat_map item.spell m.items) more in
+    let start : p + 28 ≡ p + length (fixed.spell m.fixed) = omega arith in
+    let behind_fixed : drop (p + 28) s ≡ flat_map item.spell m.items ++ more = ap (λ n. drop n s) start ∙ behind s (fixed.spell m.fixed) (flat_map item.spell m.items ++ more) p fields in
+    let halves : flat_map item.spell m.items ≡ front ++ (own ++ others) = ap (flat_map item.spell) items ∙ flat_map-append item.spell before (Raw id value ∷ after) in
+    let split : drop (p + 28) s ≡ front ++ (own ++ (others ++ more)) =
+    behind_fixed ∙ ap (λ (t : List ℕ). t ++ more) halves ∙ append_assoc front (own ++ others) more ∙ ap (λ (t : List ℕ). front ++ t) (append_assoc own others more) in
+    let here = behind s front (own ++ (others ++ more)) (p + 28) split in
+    let k : p + 28 + length front + 2 ≡ p + 30 + length front = omega arith in
+    let at : drop (p + 30 + length front) s ≡ value ++ (others ++ more) = ap (λ n. drop n s) (sym k) ∙ sym (drop-drop 2 (p + 28 + length front) s) ∙ ap (drop 2) here ∙ raw_spell id value (others ++ more) in
+    ap (take (length value)) at ∙ take_at value (others ++ more) (length value) refl
+
+pub raw_stands : (s : List ℕ) (m : Position) → Fills position s 0 m → (before : List Item) (id : ℕ) (value : List ℕ) (after : List Item) → m.items ≡ before ++ Raw id value ∷ after → take (length value) (drop (30 + length (flat_map item.spell before)) s) ≡ value
+raw_stands s m st before id value after items = raw_at s 0 m [] st.fits (st.parts ∙ sym (append-nil (position.spell m))) before id value after items
+
+-- ---- where they stand in a batch
+
+-- the value at its place has what all have
+one_of : {A : Type 0} (P : A → Type 0) (before : List A) (a : A) (after : List A) → AllByRecursion P (before ++ a ∷ after) → P a
+one_of P [] a after all = all.0
+one_of P (b ∷ before) a after all = one_of P before a after all.1
+
+head_spell : (count kind : ℕ) (rest : List ℕ) → drop 3 (word.spell count ++ (byte.spell kind ++ rest)) ≡ rest
+unfolding number
+head_spell count kind rest = refl
+
+length_spell : (count : ℕ) (body rest : List ℕ) → drop 2 ((word.spell count ++ body) ++ rest) ≡ body ++ rest
+unfolding number
+length_spell count body rest = refl
+
+pub raw_stands_in_batch : (s : List ℕ) (b : Batch) → Fills batch s 0 b → (earlier : List Position) (m : Position) (later : List Position) → b.fixes ≡ earlier ++ m ∷ later
+    → (before : List Item) (id : ℕ) (value : List ℕ) (after : List Item) → m.items ≡ before ++ Raw id value ∷ after
+    → take (length value) (drop (35 + length (flat_map (sized word position).spell earlier) + length (flat_map item.spell before)) s) ≡ value
+unfolding batch
+raw_stands_in_batch s b st earlier m later fixes before id value after items =
+    let one = (sized word position).spell in
+    let front = flat_map one earlier in
+    let others = flat_map one later in
+    let parts : drop 0 s ≡ word.spell (length b.fixes) ++ (byte.spell b.kind ++ flat_map one b.fixes) = st.parts in
+    let split : drop 3 s ≡ front ++ (one m ++ others) = ap (drop 3) parts ∙ head_spell (length b.fixes) b.kind (flat_map one b.fixes) ∙ ap (flat_map one) fixes ∙ flat_map-append one earlier (m ∷ later) in
+    let here : drop (3 + length front) s ≡ one m ++ others = behind s front (one m ++ others) 3 split in
+    let at : drop (3 + length front + 2) s ≡ position.spell m ++ others = sym (drop-drop 2 (3 + length front) s) ∙ ap (drop 2) here ∙ length_spell (length (position.spell m)) (position.spell m) others in
+    let fit : (sized word position).Fits m = one_of (sized word position).Fits earlier m later (subst (AllByRecursion (sized word position).Fits) fixes st.fits.1.1.1) in
+    let k : 3 + length front + 2 + 30 + length (flat_map item.spell before) ≡ 35 + length front + length (flat_map item.spell before) = omega arith in
+    ap (λ n. take (length value) (drop n s)) (sym k) ∙ raw_at s (3 + length front + 2) m others fit.1.0 at before id value after items

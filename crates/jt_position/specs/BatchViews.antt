@@ -3,7 +3,7 @@ use Rattle.std.specs.Prelude.{ℕ, Bool, List, [], is_ok}
 use Rattle.std.specs.Result.{result_unwrap_or}
 use Rattle.jt_layout.specs.Layout.{times, sized, word}
 use Rattle.jt_position.specs.declared.position.Position.{Position}
-use Rattle.jt_position.specs.declared.items.PositionView.{PositionView}
+use Rattle.jt_position.specs.declared.position_view.PositionView.{PositionView}
 use Rattle.jt_position.specs.Positions.{position}
 
 -- the position that a view is of

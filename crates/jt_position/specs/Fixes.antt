@@ -1,5 +1,5 @@
 -- Fixes, and the fixes of messages. To be believed.
-use Rattle.std.specs.Prelude.{◌≡◌, ℕ, ◌≤◌, ◌<◌, ◌==◌, if◌then◌else◌, List, [], ◌∷◌, length, map, Result, Ok, Err}
+use Rattle.std.specs.Prelude.{◌≡◌, ℕ, ◌≤◌, ◌<◌, ◌==◌, if◌then◌else◌, List, [], ◌∷◌, ◌++◌, length, map, Result, Ok, Err}
 use Rattle.std.specs.List.{flat_map}
 use Rattle.jt_value.specs.declared.refusal.Refusal.{Refusal}
 use Rattle.jt_layout.specs.Layout.{Fills}
@@ -49,10 +49,12 @@ fixes_of row =
 abbrev pub fixes : List (ℕ × List ℕ) → List (List ℕ)
 fixes rows = flat_map fixes_of rows
 
--- what `fixes` says of one row, in the words of the layouts
+-- what `fixes` says of one message, in the words of the layouts, and of messages one after the other
 pub record FixesAre : Type 0 where
   pub of_a_position : (body : List ℕ) (m : Position) → Fills position body 0 m → fixes_of (0x0200, body) ≡ body ∷ []
   pub of_a_batch : (body : List ℕ) (m : Batch) → Fills batch body 0 m → fixes_of (0x0704, body) ≡ map position.spell m.fixes
   pub none_of_a_refused_position : (body : List ℕ) (r : Refusal) → position.Refuses body 0 r → fixes_of (0x0200, body) ≡ []
   pub none_of_a_refused_batch : (body : List ℕ) (r : Refusal) → batch.Refuses body 0 r → fixes_of (0x0704, body) ≡ []
   pub none_of_another_id : (id : ℕ) (body : List ℕ) → (id ≡ 0x0200 → ⊥) → (id ≡ 0x0704 → ⊥) → fixes_of (id, body) ≡ []
+  pub of_one : (row : ℕ × List ℕ) → fixes (row ∷ []) ≡ fixes_of row
+  pub in_a_row : (rows more : List (ℕ × List ℕ)) → fixes (rows ++ more) ≡ fixes rows ++ fixes more

@@ -2,14 +2,15 @@
 use Rattle.std.specs.Prelude.{◌≡◌, ℕ, ◌+◌, Bool, List, [], ◌∷◌, ◌++◌, length, take, drop, is_ok}
 use Rattle.std.specs.List.{flat_map}
 use Rattle.std.specs.Result.{result_unwrap_or}
-use Rattle.jt_layout.specs.Layout.{Fills, to_the_end}
+use Rattle.jt_layout.specs.Layout.{Fills, sized, to_the_end, word}
+use Rattle.jt_position.specs.declared.batch.Batch.{Batch}
 use Rattle.jt_position.specs.declared.position.Position.{Position}
 use Rattle.jt_position.specs.Positions as layouts
-use Rattle.jt_position.specs.Positions.{position}
+use Rattle.jt_position.specs.Positions.{batch, position}
 use Rattle.jt_position.specs.declared.item.Item.{Item}
 use Rattle.jt_position.specs.declared.item.Item.TheVariants as item
-use Rattle.jt_position.specs.declared.view.ItemView.{ItemView}
-use Rattle.jt_position.specs.declared.view.ItemView.TheVariants as view
+use Rattle.jt_position.specs.declared.item_view.ItemView.{ItemView}
+use Rattle.jt_position.specs.declared.item_view.ItemView.TheVariants as view
 
 -- the item with an octet list of its own in place of the slice
 unfoldable pub owned : ItemView → Item
@@ -31,6 +32,15 @@ owned (view.Raw id value) = item.Raw id value.now
 -- length
 abbrev pub RawStands : Type 0
 RawStands = (s : List ℕ) (m : Position) → Fills position s 0 m → (before : List Item) (id : ℕ) (value : List ℕ) (after : List Item) → m.items ≡ before ++ item.Raw id value ∷ after → take (length value) (drop (30 + length (flat_map layouts.item.spell before)) s) ≡ value
+
+-- In a batch it stands so in its own position, which stands behind count and kind, the positions before it with their lengths,
+-- and its own length.
+abbrev pub RawStandsInBatch : Type 0
+RawStandsInBatch =
+    (s : List ℕ) (b : Batch) → Fills batch s 0 b
+    → (earlier : List Position) (m : Position) (later : List Position) → b.fixes ≡ earlier ++ m ∷ later
+    → (before : List Item) (id : ℕ) (value : List ℕ) (after : List Item) → m.items ≡ before ++ item.Raw id value ∷ after
+    → take (length value) (drop (35 + length (flat_map (sized word position).spell earlier) + length (flat_map layouts.item.spell before)) s) ≡ value
 
 -- from p up to the end there are items
 abbrev pub reads_from : List ℕ → ℕ → Bool

@@ -4,6 +4,7 @@ ghost use Rattle.std.specs.Prelude.{◌≡◌, ◌↔◌, IsTrue, IfOk};
 ghost use Rattle.jt_layout.specs.Answer.{Answers, IsOneToOne};
 ghost use Rattle.jt_layout.specs.Reading.{Gives};
 ghost use Rattle.jt_position.specs.Positions as layouts;
+ghost use Rattle.jt_position.specs.Views.{RawStandsInBatch};
 
 use crate::position::Position;
 use jt_layout::{Element, Reader, Writer, all_fit};
@@ -15,7 +16,7 @@ use std::alloc::Global;
 pub struct Batch {
     /// 0 for ordinary reports, 1 for those of a blind area. Every octet is accepted.
     pub kind: u8,
-    /// At most 65,535, each of at most 65,535 octets.
+    /// The positions, read, and not as a `Fix` holds them: at most 65,535, each of at most 65,535 octets.
     pub fixes: Seq<Position>,
 }
 
@@ -93,7 +94,8 @@ pub fn write_batch(alloc: Global, batch: &Batch) -> Result<Octets, Memory>
     Ok(writer.finish())
 }
 
-/// The law of batches: octets have exactly one batch or exactly one reason.
+/// The law of batches: octets have exactly one batch or exactly one reason, and raw values stand at their places.
 pub fn law_batches()
-    ensures { IsOneToOne layouts.batch }
+    ensures one_to_one { IsOneToOne layouts.batch }
+    ensures places { RawStandsInBatch }
 {}

@@ -6,7 +6,7 @@ ghost use Rattle.jt_layout.specs.Layout.{Fills};
 ghost use Rattle.jt_layout.specs.Reading.{Finds};
 ghost use Rattle.jt_position.specs.Positions.{batch};
 
-use crate::items::PositionView;
+use crate::position_view::PositionView;
 use jt_layout::Reader;
 use jt_value::Refusal;
 use std::marker::Model;

@@ -5,13 +5,16 @@ ghost use Rattle.jt_position.specs.Fixes.{IsFix, FixAnswer, FixesAre, position_a
 ghost use Rattle.jt_position.specs.Positions.{position};
 
 use crate::fixed::Fixed;
-use crate::items::view_position;
 use crate::position::{Position, write_position};
+use crate::position_view::view_position;
 use jt_value::{Memory, Octets, Refusal, Seq};
 use std::alloc::{AllocError, Global};
 use std::marker::Model;
 
-/// The octets of a position, at most 1,023 (this project's own limit: the body of one packet).
+/// The most octets of a fix (this project's own limit: the body of one packet).
+const FIX_LIMIT: usize = 1023;
+
+/// The octets of a position, at most 1,023.
 #[derive(Drop)]
 pub struct Fix {
     octets: Octets,
@@ -66,7 +69,7 @@ impl Fix {
     pub fn read(alloc: Global, octets: &[u8]) -> Result<Fix, FixError>
         ensures { FixAnswer octets.now result }
     {
-        if octets.len() > 1023 {
+        if octets.len() > FIX_LIMIT {
             return Err(FixError::Long(octets.len() as u64));
         }
         view_position(octets)?;
@@ -118,7 +121,7 @@ impl Clone for Fix {
     }
 }
 
-/// The law of fixes: which octets are the fixes of a message.
+/// The law of fixes: which octets are the fixes of a message, and that those of messages in a row follow one another.
 pub fn law_fixes()
     ensures { FixesAre }
 {}

@@ -4,10 +4,35 @@ ghost use Rattle.std.specs.Prelude.{◌≡◌, ◌<◌, ◌^◌, ◌↔◌, leng
 ghost use Rattle.jt_position.specs.Items.{untyped, ItemFits};
 ghost use Rattle.jt_position.specs.declared.item.Item.TheVariants.{Raw};
 
-use crate::view::ItemView;
+use crate::item_view::ItemView;
 use jt_layout::{Element, Reader, Writer};
 use jt_value::{CodecError, Memory, Octets};
 use std::alloc::Global;
+
+/// The ids of items (the standard's table of additional items).
+pub(crate) const MILEAGE: u8 = 0x01;
+
+pub(crate) const FUEL: u8 = 0x02;
+
+pub(crate) const RECORDER_SPEED: u8 = 0x03;
+
+pub(crate) const EVENT_ID: u8 = 0x04;
+
+pub(crate) const OVERSPEED: u8 = 0x11;
+
+pub(crate) const REGION_ALARM: u8 = 0x12;
+
+pub(crate) const TRAVEL: u8 = 0x13;
+
+pub(crate) const SIGNALS: u8 = 0x25;
+
+pub(crate) const IO: u8 = 0x2A;
+
+pub(crate) const ANALOGUE: u8 = 0x2B;
+
+pub(crate) const SIGNAL: u8 = 0x30;
+
+pub(crate) const SATELLITES: u8 = 0x31;
 
 /// An item of a position, by the standard's table of additional items. An id or a length that the table lacks is `Raw`.
 #[derive(Drop)]
@@ -37,13 +62,13 @@ pub enum Item {
         seconds: u16,
         result: u8,
     },
-    /// Extended vehicle signals, a bit each.
+    /// Extended signals of the vehicle, a bit each: lamps, brakes, doors and the like.
     Signals(u32),
     /// States of inputs and outputs, a bit each.
     Io(u16),
     /// Two analogue quantities.
     Analogue(u32),
-    /// Strength of the radio signal.
+    /// Strength of the signal of the radio network.
     Signal(u8),
     /// Satellites in use.
     Satellites(u8),
@@ -62,18 +87,18 @@ impl Item {
         ensures { result ≡ (untyped self.now).0 }
     {
         match self {
-            Item::Mileage(_) => 0x01,
-            Item::Fuel(_) => 0x02,
-            Item::RecorderSpeed(_) => 0x03,
-            Item::EventId(_) => 0x04,
-            Item::Overspeed { .. } => 0x11,
-            Item::RegionAlarm { .. } => 0x12,
-            Item::Travel { .. } => 0x13,
-            Item::Signals(_) => 0x25,
-            Item::Io(_) => 0x2A,
-            Item::Analogue(_) => 0x2B,
-            Item::Signal(_) => 0x30,
-            Item::Satellites(_) => 0x31,
+            Item::Mileage(_) => MILEAGE,
+            Item::Fuel(_) => FUEL,
+            Item::RecorderSpeed(_) => RECORDER_SPEED,
+            Item::EventId(_) => EVENT_ID,
+            Item::Overspeed { .. } => OVERSPEED,
+            Item::RegionAlarm { .. } => REGION_ALARM,
+            Item::Travel { .. } => TRAVEL,
+            Item::Signals(_) => SIGNALS,
+            Item::Io(_) => IO,
+            Item::Analogue(_) => ANALOGUE,
+            Item::Signal(_) => SIGNAL,
+            Item::Satellites(_) => SATELLITES,
             Item::Raw { id, .. } => *id,
         }
     }

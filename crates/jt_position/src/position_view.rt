@@ -7,7 +7,7 @@ ghost use Rattle.jt_layout.specs.Reading.{Finds};
 ghost use Rattle.jt_position.specs.Positions.{position};
 
 use crate::fixed::Fixed;
-use crate::view::ItemView;
+use crate::item_view::ItemView;
 use jt_layout::Reader;
 use jt_value::Refusal;
 use std::marker::Model;

@@ -2,7 +2,7 @@ use Rattle.std.proofs.Common.{length, sym, ◌∙◌}
 use Rattle.jt_layout.proofs.Loops.{more_left}
 use Rattle.jt_position.specs.Views.{owned}
 use Rattle.jt_position.proofs.ViewLaws.{no_item, stepped, progress}
-use Rattle.jt_position.proofs.items.ItemsIterator.next.Goals as goal
+use Rattle.jt_position.proofs.position_view.ItemsIterator.next.Goals as goal
 
 pub returns-then-is_at_end-clause-steps : goal.returns-then-is_at_end-clause-steps
 returns-then-is_at_end-clause-steps c =

@@ -5,7 +5,10 @@ ghost use Rattle.std.specs.Int.{w16, w32, from_be_bytes};
 ghost use Rattle.jt_layout.specs.Reading.{Finds};
 ghost use Rattle.jt_position.specs.Items.{typed};
 
-use crate::item::Item;
+use crate::item::{
+    ANALOGUE, EVENT_ID, FUEL, IO, Item, MILEAGE, OVERSPEED, RECORDER_SPEED, REGION_ALARM,
+    SATELLITES, SIGNAL, SIGNALS, TRAVEL,
+};
 use jt_layout::Reader;
 use jt_value::{Memory, Octets, Refusal};
 use std::alloc::Global;
@@ -69,33 +72,33 @@ impl<'a> ItemView<'a> {
         ensures { owned result ≡ typed (id, value.now) }
     {
         match (id, value.len()) {
-            (0x01, 4) => ItemView::Mileage(dword_of(value)),
-            (0x02, 2) => ItemView::Fuel(word_of(value)),
-            (0x03, 2) => ItemView::RecorderSpeed(word_of(value)),
-            (0x04, 2) => ItemView::EventId(word_of(value)),
-            (0x11, 1) => ItemView::Overspeed {
+            (MILEAGE, 4) => ItemView::Mileage(dword_of(value)),
+            (FUEL, 2) => ItemView::Fuel(word_of(value)),
+            (RECORDER_SPEED, 2) => ItemView::RecorderSpeed(word_of(value)),
+            (EVENT_ID, 2) => ItemView::EventId(word_of(value)),
+            (OVERSPEED, 1) => ItemView::Overspeed {
                 kind: value[0],
                 region: None,
             },
-            (0x11, 5) => ItemView::Overspeed {
+            (OVERSPEED, 5) => ItemView::Overspeed {
                 kind: value[0],
                 region: Some(dword_of(&value[1..])),
             },
-            (0x12, 6) => ItemView::RegionAlarm {
+            (REGION_ALARM, 6) => ItemView::RegionAlarm {
                 kind: value[0],
                 region: dword_of(&value[1..5]),
                 direction: value[5],
             },
-            (0x13, 7) => ItemView::Travel {
+            (TRAVEL, 7) => ItemView::Travel {
                 segment: dword_of(&value[..4]),
                 seconds: word_of(&value[4..6]),
                 result: value[6],
             },
-            (0x25, 4) => ItemView::Signals(dword_of(value)),
-            (0x2A, 2) => ItemView::Io(word_of(value)),
-            (0x2B, 4) => ItemView::Analogue(dword_of(value)),
-            (0x30, 1) => ItemView::Signal(value[0]),
-            (0x31, 1) => ItemView::Satellites(value[0]),
+            (SIGNALS, 4) => ItemView::Signals(dword_of(value)),
+            (IO, 2) => ItemView::Io(word_of(value)),
+            (ANALOGUE, 4) => ItemView::Analogue(dword_of(value)),
+            (SIGNAL, 1) => ItemView::Signal(value[0]),
+            (SATELLITES, 1) => ItemView::Satellites(value[0]),
             _ => ItemView::Raw { id, value },
         }
     }

@@ -1,5 +1,5 @@
 use Rattle.jt_position.proofs.ViewLaws.{items_size}
-use Rattle.jt_position.proofs.items.Items.size.Goals as goal
+use Rattle.jt_position.proofs.position_view.Items.size.Goals as goal
 
 pub returns-clause-size : goal.returns-clause-size
 returns-clause-size c =

@@ -5,7 +5,7 @@ use Rattle.jt_layout.specs.Layout.{read_to_the_end}
 use Rattle.jt_layout.proofs.Loops.{more_left, all_init, all_step, all_fails, all_done}
 use Rattle.jt_position.specs.Positions.{item}
 use Rattle.jt_position.specs.Views.{owned}
-use Rattle.jt_position.proofs.items.Items.of.Goals as goal
+use Rattle.jt_position.proofs.position_view.Items.of.Goals as goal
 
 pub loop-ahead-init : goal.loop-ahead-init
 loop-ahead-init c = rw c.ahead-ahead.ensures (record {

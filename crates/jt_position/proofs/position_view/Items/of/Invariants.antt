@@ -3,7 +3,7 @@ use Rattle.jt_layout.specs.Layout.{read_to_the_end}
 use Rattle.jt_layout.proofs.Loops.{RestLeft}
 use Rattle.jt_position.specs.declared.item.Item.{Item}
 use Rattle.jt_position.specs.Positions.{item}
-use Rattle.jt_position.proofs.items.Items.of.Given as goal
+use Rattle.jt_position.proofs.position_view.Items.of.Given as goal
 
 abbrev pub invariant-loop-ahead : goal.invariant-loop-ahead
 invariant-loop-ahead l = record {
