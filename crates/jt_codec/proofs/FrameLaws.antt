@@ -1,5 +1,5 @@
 -- The law of frames.
-use Rattle.std.proofs.Common.{◌≡◌, ℕ, ◌-◌, ◌<◌, false, ◌⊎◌, inl, inr, List, length, get_or, drop, Option, Some, None, Result, Ok, Err, refl, sym, ap, subst, ◌∙◌, arith}
+use Rattle.std.proofs.Common.{◌≡◌, ◌↔◌, ℕ, ◌-◌, ◌<◌, false, ◌⊎◌, inl, inr, List, length, get_or, drop, Option, Some, None, Result, Ok, Err, refl, sym, ap, subst, ◌∙◌, arith}
 use Rattle.std.specs.Prelude.{IsNone, is_some}
 use Rattle.jt_value.specs.declared.phone.Edition.{Edition}
 use Rattle.jt_value.specs.declared.refusal.Refusal.{Refusal}
@@ -18,7 +18,7 @@ use Rattle.jt_layout.proofs.Laws.{ok_is, err_is}
 use Rattle.jt_layout.proofs.Answering.{one_to_one}
 use Rattle.jt_codec.specs.Answer.{IsUnlessMemory}
 use Rattle.jt_codec.specs.Bodies.{body, HasBody}
-use Rattle.jt_codec.specs.Frames.{Frame, FrameAnswers, HasMessage, IsRefused, in_content}
+use Rattle.jt_codec.specs.Frames.{Frame, FrameAnswers, HasMessage, IsRefused, RefusesMessage, in_content}
 use Rattle.jt_codec.specs.Law.{HasFrame, HasRefusal}
 use Rattle.jt_codec.specs.Parsing.{beside, message_read, parsed, placed}
 use Rattle.jt_codec.specs.declared.message.Message.{Message}
@@ -38,6 +38,26 @@ placed_ok n (Err d) m e = absurd cc
 placed_err : (n : ℕ) (r : Result Message Refusal) (d : Refusal) → placed n r ≡ Err d → (c : Refusal) × (r ≡ Err c) × (d ≡ in_content n c)
 placed_err n (Ok a) d e = absurd cc
 placed_err n (Err c) d e = (c, refl, sym (err_is {A = Message} (in_content n c) d e))
+
+apart : {A : Type 0} (x : A) (d : Refusal) (r : Result A Refusal) → r ≡ Ok x → r ≡ Err d → ⊥
+apart x d r a b = let e = sym a ∙ b in cc
+
+-- what is read behind a header, in both directions
+pub message_read_is : (p : Option Packet) (edition : Edition) (id : ℕ) (v : List ℕ) (m : Message) → AreOctets v → (message_read p edition id v ≡ Ok m) ↔ HasMessage p edition id v m
+message_read_is None edition id v m bytes = (λ e. (body_law edition id).takes v 0 m bytes (omega arith) (placed_ok (header_len edition false) ((body edition id).read v 0) m e), message_is None edition id v m)
+message_read_is (Some packet) edition id v m bytes = (λ e. sym (ok_is (Part v) m e), message_is (Some packet) edition id v m)
+
+refusal_found : (edition : Edition) (id : ℕ) (v : List ℕ) (r : Refusal) → AreOctets v → message_read None edition id v ≡ Err r → RefusesMessage None edition id v r
+refusal_found edition id v r bytes e =
+    let found = placed_err (header_len edition false) ((body edition id).read v 0) r e in
+    (found.0, (body_law edition id).refused v 0 found.0 bytes (omega arith) found.1, found.2)
+
+refusal_is : (edition : Edition) (id : ℕ) (v : List ℕ) (r : Refusal) → RefusesMessage None edition id v r → message_read None edition id v ≡ Err r
+refusal_is edition id v r h = rw ((body_law edition id).refuses v 0 h.0 (omega arith) h.1, h.2) refl
+
+pub refusal_read_is : (p : Option Packet) (edition : Edition) (id : ℕ) (v : List ℕ) (r : Refusal) → AreOctets v → (message_read p edition id v ≡ Err r) ↔ RefusesMessage p edition id v r
+refusal_read_is None edition id v r bytes = (refusal_found edition id v r bytes, refusal_is edition id v r)
+refusal_read_is (Some packet) edition id v r bytes = (λ e. apart (Part v) r (Ok (Part v)) refl e, λ never. absurd never)
 
 -- what a content with this header and this body is parsed as
 behind : (h : Header) (v c : List ℕ) → Content h v c → parsed c ≡ beside h (message_read h.packet h.edition h.id v)
@@ -86,9 +106,6 @@ either c (Some r) are e = inr (r, inl e)
 
 pub one_or_the_other : (c : List ℕ) → AreOctets c → HasFrame c ⊎ HasRefusal c
 one_or_the_other c are = either c (reason c) are refl
-
-apart : {A : Type 0} (x : A) (d : Refusal) (r : Result A Refusal) → r ≡ Ok x → r ≡ Err d → ⊥
-apart x d r a b = let e = sym a ∙ b in cc
 
 pub never_both : (c : List ℕ) → HasFrame c → HasRefusal c → ⊥
 never_both c f r = apart (f.0, f.2) r.0 (parsed c) (parsed_frame c f.1 f.0 f.2 f.3) (parsed_refusal c r.0 r.1)

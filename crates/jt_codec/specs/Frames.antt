@@ -27,6 +27,11 @@ pub record Frame (h : Header) (octets : List ℕ) (message : Message) (content :
 abbrev pub in_content : ℕ → Refusal → Refusal
 in_content start refusal = record { at = 0; inside = start + refusal.inside; why = refusal.why }
 
+-- the octets between header and check octet, which are no packet's, are refused, the place counted in the content
+abbrev pub RefusesMessage : Option Packet → Edition → ℕ → List ℕ → Refusal → Type 0
+RefusesMessage None edition id octets refusal = (found : Refusal) × (body edition id).Refuses octets 0 found × (refusal ≡ in_content (header_len edition false) found)
+RefusesMessage (Some packet) edition id octets refusal = ⊥
+
 -- header and check octet are good, and the body, which is no packet's, is refused
 pub record IsBodyRefused (content : List ℕ) (refusal : Refusal) : Type 0 where
   pub h : Header

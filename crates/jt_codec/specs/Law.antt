@@ -1,14 +1,15 @@
 -- The laws of bodies and frames. To be believed.
-use Rattle.std.specs.Prelude.{◌≡◌, ℕ, ◌<◌, ◌^◌, ◌⊎◌, List, ◌++◌, Some, Ok, Err}
+use Rattle.std.specs.Prelude.{◌≡◌, ◌↔◌, ℕ, ◌<◌, ◌^◌, ◌⊎◌, List, ◌++◌, Option, Some, Ok, Err}
 use Rattle.std.specs.Int.{w8, w16, to_be_bytes}
 use Rattle.jt_value.specs.declared.phone.Edition.{Edition}
 use Rattle.jt_value.specs.declared.refusal.Refusal.{Refusal}
 use Rattle.jt_value.specs.Octets.{AreOctets}
 use Rattle.jt_header.specs.declared.header.Header.{Header}
+use Rattle.jt_header.specs.declared.header.Packet.{Packet}
 use Rattle.jt_layout.specs.Answer.{IsOneToOne}
 use Rattle.jt_codec.specs.Bodies.{Fits, body, body_octets, id_of}
-use Rattle.jt_codec.specs.Frames.{Frame, IsRefused}
-use Rattle.jt_codec.specs.Parsing.{parsed}
+use Rattle.jt_codec.specs.Frames.{Frame, HasMessage, IsRefused, RefusesMessage}
+use Rattle.jt_codec.specs.Parsing.{message_read, parsed}
 use Rattle.jt_codec.specs.declared.message.Message.{Message}
 use Rattle.jt_codec.specs.declared.message.Message.TheVariants.{TerminalAck, PlatformAck}
 
@@ -61,3 +62,15 @@ IsParsedFrame = (content octets : List ℕ) (h : Header) (message : Message) →
 -- and the refusal
 abbrev pub IsParsedRefusal : Type 0
 IsParsedRefusal = (content : List ℕ) (refusal : Refusal) → IsRefused content refusal → parsed content ≡ Err refusal
+
+-- behind every header, reading as a function gives exactly the message
+abbrev pub IsMessageRead : Type 0
+IsMessageRead =
+    (packet : Option Packet) (edition : Edition) (id : ℕ) (octets : List ℕ) (message : Message) → AreOctets octets
+    → (message_read packet edition id octets ≡ Ok message) ↔ HasMessage packet edition id octets message
+
+-- and exactly the refusal
+abbrev pub IsRefusalRead : Type 0
+IsRefusalRead =
+    (packet : Option Packet) (edition : Edition) (id : ℕ) (octets : List ℕ) (refusal : Refusal) → AreOctets octets
+    → (message_read packet edition id octets ≡ Err refusal) ↔ RefusesMessage packet edition id octets refusal

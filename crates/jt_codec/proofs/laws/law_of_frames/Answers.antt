@@ -1,4 +1,4 @@
-use Rattle.jt_codec.proofs.FrameLaws.{never_both, one_frame, one_or_the_other, one_refusal, parsed_frame, parsed_refusal}
+use Rattle.jt_codec.proofs.FrameLaws.{message_read_is, never_both, one_frame, one_or_the_other, one_refusal, parsed_frame, parsed_refusal, refusal_read_is}
 use Rattle.jt_codec.proofs.laws.law_of_frames.Goals as goal
 
 pub returns-clause-one_or_the_other : goal.returns-clause-one_or_the_other
@@ -18,3 +18,9 @@ returns-clause-parsed_frame c = λ content octets h message frame. parsed_frame 
 
 pub returns-clause-parsed_refusal : goal.returns-clause-parsed_refusal
 returns-clause-parsed_refusal c = λ content refusal is. parsed_refusal content refusal is
+
+pub returns-clause-message_read : goal.returns-clause-message_read
+returns-clause-message_read c = λ packet edition id octets message are. message_read_is packet edition id octets message are
+
+pub returns-clause-refusal_read : goal.returns-clause-refusal_read
+returns-clause-refusal_read c = λ packet edition id octets refusal are. refusal_read_is packet edition id octets refusal are
