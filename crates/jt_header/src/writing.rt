@@ -6,11 +6,12 @@ ghost use Rattle.jt_header.specs.Content.{IsHeader, header_len, header_octets};
 use crate::attributes::Attributes;
 use crate::header::Header;
 use arrayvec::ArrayVec;
+use jt_escape::CONTENT_LIMIT;
 use jt_value::Edition;
 
 /// Writes the header before a body of `body_len` octets, at most 1,023, into an empty `out` (the standard's header). The
 /// header is of either edition, with a phone of that edition, version 0 in 2013, and a packet number from 1 to the total.
-pub fn write_header(header: &Header, body_len: u16, out: &mut ArrayVec<u8, 1045>)
+pub fn write_header(header: &Header, body_len: u16, out: &mut ArrayVec<u8, CONTENT_LIMIT>)
     requires header { IsHeader header.now }
     requires body_len { body_len < 2 ^ 10 }
     requires empty { out.old.items ≡ [] }
@@ -31,7 +32,7 @@ pub fn write_header(header: &Header, body_len: u16, out: &mut ArrayVec<u8, 1045>
     }
 }
 
-fn put(out: &mut ArrayVec<u8, 1045>, octets: &[u8])
+fn put(out: &mut ArrayVec<u8, CONTENT_LIMIT>, octets: &[u8])
     requires { length out.old.items + length octets.now ≤ 1045 }
     ensures { out.new.items ≡ out.old.items ++ octets.now }
 {

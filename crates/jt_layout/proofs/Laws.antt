@@ -9,7 +9,7 @@ use Rattle.jt_value.specs.declared.refusal.Refusal.{Refusal}
 use Rattle.jt_value.specs.Octets.{AreOctets}
 use Rattle.jt_value.proofs.OctetLists.{AreOctets-drop, AreOctets-take}
 use Rattle.jt_layout.specs.Answer.{IsPlaced}
-use Rattle.jt_layout.specs.Layout.{Part, Body, Stands, Fills, ◌>>=◌, truncated, trailing, octets_of, number, rest, at_end, empty, nothing, ◌▹◌, ◌▸◌, ended, if_body, rest_if, part_as, body_as, part_typed, body_case, spell_case, unless, refused_by}
+use Rattle.jt_layout.specs.Layout.{Part, Body, Stands, Fills, ◌>>=◌, truncated, trailing, octets_of, number, rest, at_end, empty, nothing, ◌▹◌, ◌▸◌, ended, if_body, rest_if, part_as, body_as, part_typed, body_case, spell_case}
 
 -- ---- steps that may fail
 
@@ -414,31 +414,9 @@ case_law {A} {B} f make case_of lf back forth = record {
   placed = λ s p r le h. lf.placed s p r le h;
 }
 
--- ---- reasons of its own
+-- ---- a choice
 
-unless_ok : {A : Type 0} (o : Option Refusal) (r : Result A Refusal) (a : A) → unless o r ≡ Ok a → (o ≡ None) × (r ≡ Ok a)
-unless_ok None r a e = (refl, e)
-unless_ok (Some d) r a e = absurd cc
-
-unless_err : {A : Type 0} (o : Option Refusal) (r : Result A Refusal) (d : Refusal) → unless o r ≡ Err d → (o ≡ Some d) ⊎ ((o ≡ None) × (r ≡ Err d))
-unless_err None r d e = inr (refl, e)
-unless_err (Some c) r d e = inl cc
-
--- where the test finds no reason there is a value, and a value gives it no reason
-pub record Tests {A : Type 0} (reason : List ℕ → Option Refusal) (f : Body A) : Type 0 where
-  pub silent : (s : List ℕ) (p : ℕ) (a : A) → p ≤ length s → Fills f s p a → reason (drop p s) ≡ None
-  pub complete : (s : List ℕ) (p : ℕ) (r : Refusal) → AreOctets s → p ≤ length s → reason (drop p s) ≡ None → f.Refuses s p r → ⊥
-  pub placed : (s : List ℕ) (p : ℕ) (r : Refusal) → p ≤ length s → reason (drop p s) ≡ Some r → IsPlaced s r
-
-pub refused_by_law : {A : Type 0} (reason : List ℕ → Option Refusal) (f : Body A) → IsBody f → Tests reason f → IsBody (refused_by reason f)
-refused_by_law {A} reason f lf tests = record {
-  takes = λ s p a bytes le e. let u = unless_ok (reason (drop p s)) (f.read s p) a e in let st = lf.takes s p a bytes le u.1 in record { fits = st.fits; parts = st.parts };
-  again = λ s p a le st. let inner : Fills f s p a = record { fits = st.fits; parts = st.parts } in rw (tests.silent s p a le inner) (lf.again s p a le inner);
-  refused = λ s p r bytes le e.
-      elim (unless_err (reason (drop p s)) (f.read s p) r e) [
-        | inl h ↦ h
-        | inr h ↦ absurd (tests.complete s p r bytes le h.0 (lf.refused s p r bytes le h.1))
-      ];
-  refuses = λ s p r le h. rw h refl;
-  placed = λ s p r le h. tests.placed s p r le h;
-}
+-- what holds of both of two values, each where it is chosen, holds of the choice
+pub choice : {B : Type 0} (P : B → Type 0) (b : Bool) (y z : B) → (b ≡ true → P y) → (b ≡ false → P z) → P (cond b y z)
+choice P true y z h k = h refl
+choice P false y z h k = k refl

@@ -201,14 +201,6 @@ abbrev pub unless : {A : Type 0} → Option Refusal → Result A Refusal → Res
 unless None read = read
 unless (Some r) read = Err r
 
-abbrev pub refused_by : {A : Type 0} → (List ℕ → Option Refusal) → Body A → Body A
-refused_by reason f = record {
-  spell = f.spell;
-  Fits = f.Fits;
-  Refuses = λ s p r. reason (drop p s) ≡ Some r;
-  read = λ s p. unless (reason (drop p s)) (f.read s p);
-}
-
 -- ---- lists of fields
 
 -- what reads from a place on

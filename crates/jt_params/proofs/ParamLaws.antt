@@ -1,11 +1,11 @@
 -- The laws of parameters: each layout's octets have exactly one value or exactly one reason.
-use Rattle.std.proofs.Common.{◌≡◌, ℕ, ◌^◌, ◌<◌, Bool, true, false, cond, eqb, List, [], length, refl, ap, lit<}
+use Rattle.std.proofs.Common.{◌≡◌, ℕ, ◌^◌, ◌<◌, eqb, List, [], length, refl, ap, lit<}
 use Rattle.std.proofs.lemmas.Bool.{eqb-true}
 use Rattle.std.proofs.lemmas.Nat.{from_be_bytes-to_be_bytes_2, from_be_bytes-to_be_bytes_4}
 use Rattle.jt_value.specs.Octets.{AreOctets}
 use Rattle.jt_value.proofs.OctetLists.{AreOctets-nil, AreOctets-cons, AreOctets-word, AreOctets-dword, byte_back, word_back, dword_back}
 use Rattle.jt_layout.specs.Layout.{octets_of, number}
-use Rattle.jt_layout.proofs.Laws.{IsPart, IsBody, byte_law, word_law, dword_law, then_law, ended_law, typed_law}
+use Rattle.jt_layout.proofs.Laws.{IsPart, IsBody, choice, byte_law, word_law, dword_law, then_law, ended_law, typed_law}
 use Rattle.jt_layout.proofs.Repeats.{block_law, counted_law}
 use Rattle.jt_params.specs.declared.param.Kind.{Kind}
 use Rattle.jt_params.specs.declared.param.Kind.TheVariants as kinds
@@ -17,11 +17,6 @@ use Rattle.jt_params.specs.Params.{kind, valued, value_octets, ValueFits, ParamF
 -- the value has octets under the kind, and they are these
 abbrev Back : Kind → List ℕ → ParamValue → Type 0
 Back k v value = ValueFits k value × (value_octets value ≡ v)
-
--- a fact of a choice
-choice : {B : Type 0} (P : B → Type 0) (b : Bool) (y z : B) → (b ≡ true → P y) → (b ≡ false → P z) → P (cond b y z)
-choice P true y z h g = h refl
-choice P false y z h g = g refl
 
 back : (k : Kind) (v : List ℕ) → length v < 2 ^ 8 → AreOctets v → Back k v (valued k v)
 unfolding valued value_octets ValueFits

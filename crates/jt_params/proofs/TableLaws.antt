@@ -1,55 +1,23 @@
 -- Tables as finite maps, and the std map that keeps one.
-use Rattle.std.proofs.Common.{Less, ◌≡◌, ℕ, suc, ◌+◌, ◌≤◌, Bool, true, false, cond, eqb, ◌&&◌, List, [], ◌∷◌, ◌++◌, length, Option, Some, None, Result, Ok, Err, refl, sym, ap, ◌∙◌, subst, arith}
-use Rattle.std.specs.Prelude.{T, IfOk, IfSome}
+use Rattle.std.proofs.Common.{◌≡◌, ℕ, suc, ◌≤◌, Bool, true, false, cond, eqb, List, [], ◌∷◌, ◌++◌, length, Option, Some, None, Result, Ok, Err, refl, sym, ap, ◌∙◌, subst, arith}
+use Rattle.std.specs.Prelude.{IfOk, IfSome}
 use Rattle.std.specs.BTreeMap as tree
 use Rattle.std.specs.Cmp.{nat_cmp_total}
-use Rattle.std.specs.FinMap.Entries.{below_all}
-use Rattle.std.specs.FinMap.{get, len, entries, insert, empty, find, is_sorted, from_entries, from_sorted, get-empty, get-insert, get-from_entries, get-from_sorted, len-entries, same_map, nat_cmp-IsAntisymmetric, entries-from_sorted}
-use Rattle.std.specs.List.{AllZip, All, AllByRecursion}
+use Rattle.std.specs.FinMap.{get, entries, insert, empty, from_entries, get-empty, get-insert, same_map, nat_cmp-IsAntisymmetric}
+use Rattle.std.specs.List.{AllZip, All}
 use Rattle.std.specs.List.Sorted.{IsStrictlySortedBy}
 use Rattle.std.specs.Map.{keys_of, lookup}
 use Rattle.std.specs.Option.{option_or, option_map, option_to_list}
-use Rattle.std.specs.Ordering.{nat_cmp, is_eq, is_lt}
+use Rattle.std.specs.Ordering.{nat_cmp, is_eq}
 use Rattle.std.proofs.lemmas.Bool.{eqb-true}
 use Rattle.std.proofs.lemmas.Bool.Decides.{nat_tests}
 use Rattle.std.proofs.lemmas.List.{length-map}
 use Rattle.std.proofs.lemmas.List.Elements.{All-head, All-tail}
+use Rattle.jt_value.proofs.FiniteMaps.{get_is, entries_are}
 use Rattle.jt_params.specs.Params.{param}
 use Rattle.jt_params.specs.declared.param.ParamValue.{ParamValue}
 use Rattle.jt_params.specs.declared.param.Param.{Param}
 use Rattle.jt_params.specs.Tables.{Table, param_of, param_at, params_of, listed, selected, last_value, Sets, IsOneTable, HaveOctets, HasOctets}
-
--- ---- a std map, seen as a finite map
-
-found : (es : List (ℕ × ParamValue)) (id : ℕ) → find nat_cmp id es ≡ lookup (tree.is_at (nat_cmp id)) es
-found [] id = refl
-found (e ∷ es) id = ap (cond (is_eq (nat_cmp id e.0)) (Some e.1)) (found es id)
-
-pub get_is : (es : List (ℕ × ParamValue)) (id : ℕ) → get (from_entries {R = nat_cmp} es) id ≡ lookup (tree.is_at (nat_cmp id)) es
-get_is es id = get-from_entries nat_cmp_total es id ∙ found es id
-
-both : (b c : Bool) → T b → T c → T (b && c)
-both true c h g = g
-both false c h g = absurd h
-
-below : (id : ℕ) (es : List (ℕ × ParamValue)) → AllByRecursion (λ key. nat_cmp id key ≡ Less) (keys_of es) → T (below_all nat_cmp id es)
-below id [] h = tt
-below id (e ∷ es) h = both _ _ (subst (λ order. T (is_lt order)) (sym h.0) tt) (below id es h.1)
-
-sorted : (es : List (ℕ × ParamValue)) → IsStrictlySortedBy nat_cmp (keys_of es) → T (is_sorted nat_cmp es)
-unfolding IsStrictlySortedBy
-sorted [] h = tt
-sorted (e ∷ es) h = both _ _ (below e.0 es h.0) (sorted es h.1)
-
--- in order
-pub entries_are : (es : List (ℕ × ParamValue)) → IsStrictlySortedBy nat_cmp (keys_of es) → entries (from_entries {R = nat_cmp} es) ≡ es
-entries_are es h =
-    let is = sorted es h in
-    let same = same_map nat_cmp_total nat_cmp-IsAntisymmetric (from_entries es) (from_sorted es) (λ id. get-from_entries nat_cmp_total es id ∙ sym (get-from_sorted nat_cmp es id is)) in
-    ap entries same ∙ entries-from_sorted nat_cmp es is
-
-pub len_is : (es : List (ℕ × ParamValue)) → IsStrictlySortedBy nat_cmp (keys_of es) → len (from_entries {R = nat_cmp} es) ≡ length es
-len_is es h = len-entries (from_entries es) ∙ ap length (entries_are es h)
 
 -- a clone has the same entries
 pub cloned : (es fs : List (ℕ × ParamValue)) → AllZip (λ e f. (f.0 ≡ e.0) × (f.1 ≡ e.1)) es fs → fs ≡ es
@@ -96,10 +64,6 @@ set_more ps p value id before now new same is had =
     ∙ ap (λ (b : Bool). cond b (Some p.value) now) (at_key p.id id) ∙ chosen (eqb p.id id) p.value now
     ∙ ap (option_or (one_value p id)) had ∙ sym (or_assoc (one_value p id) (last_value ps id) before)
     ∙ ap (λ (o : Option ParamValue). option_or o before) (sym (last_value-push ps p id))
-
-pub size_more : (had : Bool) (new now before count : ℕ) → new ≡ now + cond had 0 1 → now ≤ before + count → new ≤ before + (count + 1)
-size_more true new now before count is had = omega arith
-size_more false new now before count is had = omega arith
 
 -- what was set in a clone of a table's entries was set in the table
 pub sets_of : (given ps : List Param) (table : Table) (es fs new : List (ℕ × ParamValue))

@@ -4,7 +4,8 @@ use Rattle.std.specs.BTreeMap as tree
 use Rattle.std.specs.Option.{is_some}
 use Rattle.std.specs.Ordering.{nat_cmp}
 use Rattle.jt_params.specs.declared.param.Param.{Param}
-use Rattle.jt_params.proofs.TableLaws.{set_more, size_more}
+use Rattle.jt_value.proofs.FiniteMaps.{size_more}
+use Rattle.jt_params.proofs.TableLaws.{set_more}
 use Rattle.jt_params.proofs.table.set_in.Goals as goal
 
 pub loop-param-preserved : goal.loop-param-preserved

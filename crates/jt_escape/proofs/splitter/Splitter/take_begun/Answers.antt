@@ -1,4 +1,3 @@
-use Rattle.std.proofs.Common.{◌+◌, arith}
 use Rattle.jt_escape.proofs.Runs.{begins}
 use Rattle.jt_escape.proofs.splitter.Splitter.take_begun.Goals as goal
 

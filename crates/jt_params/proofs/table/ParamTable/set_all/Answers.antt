@@ -1,6 +1,7 @@
 use Rattle.std.proofs.Common.{sym, ◌∙◌, arith}
 use Rattle.std.specs.FinMap.{from_entries}
-use Rattle.jt_params.proofs.TableLaws.{sets_of, sets_fit, len_is}
+use Rattle.jt_value.proofs.FiniteMaps.{len_is}
+use Rattle.jt_params.proofs.TableLaws.{sets_of, sets_fit}
 use Rattle.jt_params.proofs.table.ParamTable.set_all.Goals as goal
 
 pub returns-then-count-gt-MOST-clause-too_many : goal.returns-then-count-gt-MOST-clause-too_many

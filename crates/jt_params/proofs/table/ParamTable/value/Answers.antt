@@ -1,7 +1,7 @@
 use Rattle.std.proofs.Common.{◌∙◌, sym, ap}
 use Rattle.std.specs.FinMap.{get}
 use Rattle.jt_params.specs.Tables.{Table}
-use Rattle.jt_params.proofs.TableLaws.{get_is}
+use Rattle.jt_value.proofs.FiniteMaps.{get_is}
 use Rattle.jt_params.proofs.table.ParamTable.value.Goals as goal
 
 pub returns : goal.returns
