@@ -1,11 +1,10 @@
 -- What a packet is told is within the limits.
-use Rattle.std.proofs.Common.{◌≡◌, ℕ, ◌+◌, ◌*◌, ◌≤◌, ◌<◌, Bool, true, false, cond, eqb, ltb, ◌||◌, List, [], ◌∷◌, length, Option, Some, None, refl, sym, ap, ◌∙◌, arith, inl, inr}
+use Rattle.std.proofs.Common.{◌≡◌, ℕ, ◌≤◌, ◌<◌, true, eqb, ltb, List, [], ◌∷◌, length, Option, Some, None, refl, ap, ◌∙◌, arith, inl, inr}
 use Rattle.std.specs.FinMap.{len, empty, contains_key, empty_of_len}
-use Rattle.std.proofs.lemmas.Bool.{cases_lt, cond_both, eq-eqb, eqb-false, ltb-false, or_left, both_ways}
+use Rattle.std.proofs.lemmas.Bool.{cases_lt, cond_both, eq-eqb, ltb-false, or_left, both_ways}
 use Rattle.jt_header.specs.declared.header.Header.{Header}
 use Rattle.jt_header.specs.declared.header.Packet.{Packet}
 use Rattle.jt_subpacket.specs.declared.key.PartKey.{PartKey}
-use Rattle.jt_subpacket.specs.declared.taken.Fate.{Fate}
 use Rattle.jt_subpacket.specs.Partials.{Partial, Pieces, key_of, kept_of, missing, with_piece}
 use Rattle.jt_subpacket.specs.Fates.{IsWithinLimits, Taken, taken_as, taken_in, told, unfinished}
 use Rattle.jt_subpacket.specs.Steps.{AreKept}

@@ -1,54 +1,18 @@
 -- The entries of std's map, seen as a finite map, and what is there once one number more is.
-use Rattle.std.proofs.Common.{Less, ◌≡◌, ℕ, Bool, true, false, cond, not, eqb, ◌&&◌, ◌||◌, List, [], ◌∷◌, length, Option, Some, None, is_some, refl, sym, ap, subst, ◌∙◌, arith, inl, inr}
-use Rattle.std.specs.Prelude.{T}
-use Rattle.std.specs.BTreeMap as tree
+use Rattle.std.proofs.Common.{◌≡◌, ℕ, Bool, true, false, cond, not, eqb, ◌||◌, List, [], length, Option, Some, None, is_some, refl, sym, ap, ◌∙◌, arith, inl, inr}
 use Rattle.std.specs.Cmp.{nat_cmp_total}
-use Rattle.std.specs.FinMap.Entries.{below_all}
-use Rattle.std.specs.FinMap.{get, len, entries, insert, contains_key, find, is_sorted, from_entries, from_sorted, get-insert, get-from_entries, get-from_sorted, len-entries, same_map, nat_cmp-IsAntisymmetric, entries-from_sorted}
-use Rattle.std.specs.List.{AllByRecursion, filter, flat_map}
+use Rattle.std.specs.FinMap.{get, len, insert, contains_key, from_entries, get-insert, same_map, nat_cmp-IsAntisymmetric}
+use Rattle.std.specs.List.{filter, flat_map}
 use Rattle.std.specs.List.Sorted.{IsStrictlySortedBy}
-use Rattle.std.specs.Map.{keys_of, lookup}
+use Rattle.std.specs.Map.{keys_of}
 use Rattle.std.specs.Option.{unwrap_or}
-use Rattle.std.specs.Ordering.{nat_cmp, is_eq, is_lt}
+use Rattle.std.specs.Ordering.{nat_cmp, is_eq}
 use Rattle.std.proofs.lemmas.Bool.{eqb-true, cases_Bool, cond-true, cond-false}
 use Rattle.std.proofs.lemmas.Bool.Decides.{nat_tests}
+use Rattle.jt_value.proofs.FiniteMaps.{under, get_is, len_is}
 use Rattle.jt_subpacket.specs.declared.key.PartKey.{PartKey}
 use Rattle.jt_subpacket.specs.Partials.{Partial, Pieces, numbers, missing, piece, joined, with_piece}
 use Rattle.jt_subpacket.specs.Steps.{has_beside, missing_beside, joined_beside}
-
--- ---- std's map
-
-abbrev pub under : {X : Type 0} → List (ℕ × X) → ℕ → Option X
-under es number = lookup (tree.is_at (nat_cmp number)) es
-
-found : {X : Type 0} (es : List (ℕ × X)) (number : ℕ) → find nat_cmp number es ≡ under es number
-found [] number = refl
-found (e ∷ es) number = ap (cond (is_eq (nat_cmp number e.0)) (Some e.1)) (found es number)
-
-pub get_is : {X : Type 0} (es : List (ℕ × X)) (number : ℕ) → get (from_entries {R = nat_cmp} es) number ≡ under es number
-get_is es number = get-from_entries nat_cmp_total es number ∙ found es number
-
-both : (b c : Bool) → T b → T c → T (b && c)
-both true c h g = g
-both false c h g = absurd h
-
-below : {X : Type 0} (number : ℕ) (es : List (ℕ × X)) → AllByRecursion (λ key. nat_cmp number key ≡ Less) (keys_of es) → T (below_all nat_cmp number es)
-below number [] h = tt
-below number (e ∷ es) h = both _ _ (subst (λ order. T (is_lt order)) (sym h.0) tt) (below number es h.1)
-
-sorted : {X : Type 0} (es : List (ℕ × X)) → IsStrictlySortedBy nat_cmp (keys_of es) → T (is_sorted nat_cmp es)
-unfolding IsStrictlySortedBy
-sorted [] h = tt
-sorted (e ∷ es) h = both _ _ (below e.0 es h.0) (sorted es h.1)
-
-entries_are : {X : Type 0} (es : List (ℕ × X)) → IsStrictlySortedBy nat_cmp (keys_of es) → entries (from_entries {R = nat_cmp} es) ≡ es
-entries_are es h =
-    let is = sorted es h in
-    let same = same_map nat_cmp_total nat_cmp-IsAntisymmetric (from_entries es) (from_sorted es) (λ number. get-from_entries nat_cmp_total es number ∙ sym (get-from_sorted nat_cmp es number is)) in
-    ap entries same ∙ entries-from_sorted nat_cmp es is
-
-pub len_is : {X : Type 0} (es : List (ℕ × X)) → IsStrictlySortedBy nat_cmp (keys_of es) → len (from_entries {R = nat_cmp} es) ≡ length es
-len_is es h = len-entries (from_entries es) ∙ ap length (entries_are es h)
 
 -- ---- one piece more
 

@@ -5,15 +5,15 @@ ghost use Rattle.jt_subpacket.specs.Parts.{Parts, packet_header};
 ghost use Rattle.jt_subpacket.specs.Steps.{front, packets_of, piece_of};
 ghost use Rattle.jt_subpacket.specs.declared.splitting.SplitError.TheVariants.{Memory as NoMemory, TooLarge};
 
-use jt_header::{Header, Packet};
+use jt_header::{BODY_LIMIT, Header, Packet};
 use jt_value::{Memory, Octets, Seq};
 use std::alloc::{AllocError, AllocFailed, Global};
 
 /// The most octets of a packet's body (the standard's header has ten bits for them).
-const PACKET_OCTETS: usize = 1023;
+const PACKET_OCTETS: usize = BODY_LIMIT;
 
 /// The most octets of a message's body: 256 packets (this project's own limit).
-const BODY_OCTETS: usize = 261_888;
+const BODY_OCTETS: usize = 256 * PACKET_OCTETS;
 
 /// Why a message was not split.
 #[derive(Clone, Copy, Debug, PartialEq, Eq)]
