@@ -1,35 +1,25 @@
 -- The laws of positions: each layout's octets have exactly one value or exactly one reason.
-use Rattle.std.proofs.Common.{◌≡◌, ℕ, ◌^◌, ◌<◌, Bool, true, false, cond, eqb, ◌&&◌, List, [], ◌∷◌, ◌++◌, length, get_or, take, drop, Some, None, refl, sym, ap, ◌∙◌, lit<, arith}
+use Rattle.std.proofs.Common.{◌≡◌, ℕ, ◌^◌, ◌<◌, true, eqb, List, [], ◌∷◌, ◌++◌, length, get_or, take, drop, Some, None, refl, sym, ap, ◌∙◌, lit<, arith}
 use Rattle.std.specs.Int.{w16, w32, from_be_bytes, to_be_bytes}
-use Rattle.std.proofs.lemmas.Bool.{eqb-true}
+use Rattle.std.proofs.lemmas.Bool.{and_parts, eqb-true}
 use Rattle.std.proofs.lemmas.List.{take-append-drop, drop-drop, drop_more, drop_all, length-drop, length-take}
 use Rattle.std.proofs.lemmas.Nat.{from_be_bytes-to_be_bytes_2, from_be_bytes-to_be_bytes_4}
 use Rattle.jt_value.specs.Octets.{AreOctets}
 use Rattle.jt_layout.specs.Layout.{word, octets_of, number}
 use Rattle.jt_value.proofs.OctetLists.{AreOctets-drop, AreOctets-take, AreOctets-nil, AreOctets-cons, AreOctets-append, AreOctets-word, AreOctets-dword, byte_back, word_back, dword_back}
-use Rattle.jt_layout.proofs.Laws.{IsPart, IsBody, byte_law, word_law, dword_law, octets_law, then_law, then_body_law, ended_law, typed_law, part_as_law, body_as_law}
+use Rattle.jt_layout.proofs.Laws.{IsPart, IsBody, choice, byte_law, word_law, dword_law, octets_law, then_law, then_body_law, ended_law, typed_law, part_as_law, body_as_law}
 use Rattle.jt_layout.proofs.Repeats.{IsNeverEmpty, block_law, to_the_end_law, sized_law, times_law}
 use Rattle.jt_position.specs.declared.item.Item.{Item}
 use Rattle.jt_position.specs.declared.item.Item.TheVariants.{Mileage, Fuel, RecorderSpeed, EventId, Overspeed, RegionAlarm, Travel, Signals, Io, Analogue, Signal, Satellites, Raw}
 use Rattle.jt_position.specs.Items.{is, typed, untyped, ItemFits}
 use Rattle.jt_position.specs.Positions.{plain_item, item, fixed, position, batch}
 
--- a fact of a choice
-choice : {B : Type 0} (P : B → Type 0) (b : Bool) (y z : B) → (b ≡ true → P y) → (b ≡ false → P z) → P (cond b y z)
-choice P true y z h k = h refl
-choice P false y z h k = k refl
-
-both : (b c : Bool) → (b && c) ≡ true → (b ≡ true) × (c ≡ true)
-both true true e = (refl, refl)
-both true false e = absurd cc
-both false c e = absurd cc
-
 record Is (id : ℕ) (v : List ℕ) (k n : ℕ) : Type 0 where
   id-is : id ≡ k
   len : length v ≡ n
 
 is_both : (id : ℕ) (v : List ℕ) (k n : ℕ) → is (id, v) k n ≡ true → Is id v k n
-is_both id v k n e = let b = both (eqb id k) (eqb (length v) n) e in record { id-is = eqb-true _ _ b.0; len = eqb-true _ _ b.1 }
+is_both id v k n e = let b = and_parts (eqb id k) (eqb (length v) n) e in record { id-is = eqb-true _ _ b.0; len = eqb-true _ _ b.1 }
 
 first_octet : (v : List ℕ) → 0 < length v → get_or v 0 0 ∷ drop 1 v ≡ v
 first_octet [] e = absurd (omega arith)

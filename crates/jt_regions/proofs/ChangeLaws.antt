@@ -1,42 +1,13 @@
 -- The law of changes: what is counted, and which id is the first that is missing.
-use Rattle.std.proofs.Common.{Ordering, Less, Equal, Greater, ◌≡◌, ℕ, Bool, true, false, cond, ◌&&◌, List, [], ◌∷◌, ◌++◌, Some, None, refl, sym, ap, subst, ◌∙◌}
-use Rattle.std.specs.Prelude.{T}
-use Rattle.std.specs.FinMap.{FinMap, get, get-entries, contains_key, entries, entries_sorted, is_sorted, len, len-entries}
-use Rattle.std.specs.FinMap.Entries.{below_all}
-use Rattle.std.specs.List.{AllByRecursion}
-use Rattle.std.specs.List.Sorted.{IsStrictlySortedBy}
-use Rattle.std.specs.Map.{keys_of}
-use Rattle.std.specs.Ordering.{nat_cmp, is_lt}
+use Rattle.std.proofs.Common.{◌≡◌, ℕ, Bool, true, false, cond, List, [], ◌∷◌, ◌++◌, Some, None, refl, sym, ap, subst, ◌∙◌}
+use Rattle.std.specs.FinMap.{FinMap, get, get-entries, contains_key, entries, entries_sorted, len, len-entries}
+use Rattle.std.specs.Ordering.{nat_cmp}
 use Rattle.std.proofs.lemmas.Map.Entries.{length-keys_of}
+use Rattle.jt_value.proofs.FiniteMaps.{found, in_order}
 use Rattle.jt_regions.specs.Kinds.{after_setting, count_after, first_missing, kept}
 use Rattle.jt_regions.specs.Law.{AreThere, IsFirstMissing, IsToldOfChanges}
 use Rattle.jt_regions.specs.Steps.{under}
-use Rattle.jt_regions.proofs.FiniteMaps.{found}
 use Rattle.jt_regions.proofs.Filling.{count_is}
-
--- ---- the entries of a map are in order
-
-left : (a b : Bool) → T (a && b) → T a
-left true b h = tt
-left false b h = absurd h
-
-right : (a b : Bool) → T (a && b) → T b
-right true b h = h
-right false b h = absurd h
-
-is_less : (order : Ordering) → T (is_lt order) → order ≡ Less
-is_less Less h = refl
-is_less Equal h = absurd h
-is_less Greater h = absurd h
-
-above : {X : Type 0} (id : ℕ) (es : List (ℕ × X)) → T (below_all nat_cmp id es) → AllByRecursion (λ key. nat_cmp id key ≡ Less) (keys_of es)
-above id [] h = tt
-above id (e ∷ es) h = (is_less (nat_cmp id e.0) (left (is_lt (nat_cmp id e.0)) (below_all nat_cmp id es) h), above id es (right (is_lt (nat_cmp id e.0)) (below_all nat_cmp id es) h))
-
-in_order : {X : Type 0} (es : List (ℕ × X)) → T (is_sorted nat_cmp es) → IsStrictlySortedBy nat_cmp (keys_of es)
-unfolding IsStrictlySortedBy
-in_order [] h = tt
-in_order (e ∷ es) h = (above e.0 es (left (below_all nat_cmp e.0 es) (is_sorted nat_cmp es) h), in_order es (right (below_all nat_cmp e.0 es) (is_sorted nat_cmp es) h))
 
 -- what is under an id of the entries is what the map has
 entry_is : {X : Type 0} (m : FinMap nat_cmp X) (id : ℕ) → under (entries m) id ≡ get m id

@@ -1,5 +1,5 @@
 -- What is under each id of a map after a list of regions was put over it, and how many ids there are then.
-use Rattle.std.proofs.Common.{◌≡◌, ℕ, suc, ◌+◌, ◌≤◌, ◌<◌, Bool, true, false, ◌||◌, ◌⊎◌, inl, inr, cond, eqb, List, [], ◌∷◌, ◌++◌, length, map, take, drop, get_or, Option, Some, None, is_some, refl, sym, ap, subst, ◌∙◌, arith}
+use Rattle.std.proofs.Common.{◌≡◌, ℕ, suc, ◌+◌, ◌<◌, Bool, true, false, ◌||◌, ◌⊎◌, inl, inr, cond, eqb, List, [], ◌∷◌, ◌++◌, length, map, take, drop, get_or, Option, Some, None, is_some, refl, sym, ap, subst, ◌∙◌, arith}
 use Rattle.std.specs.Option.{option_or}
 use Rattle.std.specs.List.{list_any, IsDistinct, AllByRecursion}
 use Rattle.std.specs.List.Sorted.{IsStrictlySortedBy}
@@ -19,9 +19,9 @@ use Rattle.std.proofs.lemmas.Map.Made.{is_some-lookup, length-from_keys}
 use Rattle.std.proofs.Math.Bool.{or_comm, or-false}
 use Rattle.std.proofs.lemmas.Map.Views.{exact_unsigned_eq}
 use Rattle.std.specs.FinMap.{FinMap, empty, get, keys, from_entries, contains_key, get-empty, contains_key-keys}
+use Rattle.jt_value.proofs.FiniteMaps.{get_is, entries_are}
 use Rattle.jt_regions.specs.Kinds.{last_with, kept, first_missing, after_setting, count_after, after_deletion}
 use Rattle.jt_regions.specs.Steps.{under, OwnIds, After}
-use Rattle.jt_regions.proofs.FiniteMaps.{get_is, entries_are}
 
 or_over : {T : Type 0} (b : Bool) (x : Option T) (d : Option T) (r : T) → option_or (cond b (Some r) x) d ≡ cond b (Some r) (option_or x d)
 or_over true x d r = refl
@@ -79,10 +79,6 @@ count_is id_of new start rs sorted is =
     ∙ or_comm (list_any (eq_by_cmp nat_cmp q) (map id_of rs)) (list_any (eq_by_cmp nat_cmp q) (keys start))
     ∙ sym (list_any-append (eq_by_cmp nat_cmp q) (keys start) (map id_of rs)) in
     subst (λ e. length (keys_of new) ≡ distinct_count e (keys start ++ map id_of rs)) same (length-from_keys laws (keys_of new) (keys start ++ map id_of rs) (IsDistinct-from_sorted nat_cmp (keys_of new) sorted) members)
-
-pub size_more : (had : Bool) (new now before count : ℕ) → new ≡ now + cond had 0 1 → now ≤ before + count → new ≤ before + (count + 1)
-size_more true new now before count is had = omega arith
-size_more false new now before count is had = omega arith
 
 -- ---- the region under an id has that id
 

@@ -1,3 +1,2 @@
-pub mod FiniteMaps
 pub mod Filling
 pub mod ChangeLaws

@@ -162,7 +162,7 @@ impl<T: Identified> Table<T> {
     }
 
     /// The region under an id.
-    #[tactic(auto, using(crate::proofs::FiniteMaps::get_is))]
+    #[tactic(auto, using(jt_value::proofs::FiniteMaps::get_is))]
     pub fn get(&self, id: u32) -> Option<&T>
         ensures region { option_copied result ≡ map.get self.now id }
         ensures id { IfSome result (λ region. T.id_of region.now ≡ id) }
@@ -171,7 +171,7 @@ impl<T: Identified> Table<T> {
     }
 
     /// The number of regions.
-    #[tactic(auto, using(crate::proofs::FiniteMaps::len_is))]
+    #[tactic(auto, using(jt_value::proofs::FiniteMaps::len_is))]
     pub fn len(&self) -> usize
         ensures len { result ≡ map.len self.now }
         ensures few { result ≤ 1024 }

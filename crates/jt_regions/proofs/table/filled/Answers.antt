@@ -1,5 +1,6 @@
 use Rattle.std.specs.Option.{is_some}
-use Rattle.jt_regions.proofs.Filling.{put_more, size_more}
+use Rattle.jt_value.proofs.FiniteMaps.{size_more}
+use Rattle.jt_regions.proofs.Filling.{put_more}
 use Rattle.jt_regions.proofs.table.filled.Goals as goal
 
 pub loop-region-preserved : goal.loop-region-preserved
