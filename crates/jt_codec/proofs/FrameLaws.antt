@@ -8,11 +8,10 @@ use Rattle.jt_value.specs.declared.refusal.CodecError.TheVariants as errors
 use Rattle.jt_header.specs.Content.{Content, header_len}
 use Rattle.jt_header.specs.Fields.{attributes_at, header_len_in, header_at, body_at}
 use Rattle.jt_value.specs.Octets.{AreOctets}
+use Rattle.jt_header.specs.Law.{IsContentOfItsFields, IsReadBack}
 use Rattle.jt_header.specs.Reason.{reason}
 use Rattle.jt_header.specs.declared.header.Header.{Header}
 use Rattle.jt_header.specs.declared.header.Packet.{Packet}
-use Rattle.jt_header.proofs.NoReason.{found}
-use Rattle.jt_header.proofs.WholeContents.{only}
 use Rattle.jt_value.proofs.OctetLists.{AreOctets-drop, AreOctets-take}
 use Rattle.jt_layout.proofs.Laws.{ok_is, err_is}
 use Rattle.jt_layout.proofs.Answering.{one_to_one}
@@ -59,23 +58,6 @@ pub refusal_read_is : (p : Option Packet) (edition : Edition) (id : ℕ) (v : Li
 refusal_read_is None edition id v r bytes = (refusal_found edition id v r bytes, refusal_is edition id v r)
 refusal_read_is (Some packet) edition id v r bytes = (λ e. apart (Part v) r (Ok (Part v)) refl e, λ never. absurd never)
 
--- what a content with this header and this body is parsed as
-behind : (h : Header) (v c : List ℕ) → Content h v c → parsed c ≡ beside h (message_read h.packet h.edition h.id v)
-unfolding parsed
-behind h v c is =
-    let r = only h v c is in
-    rw (r.no_reason, ← r.header, ← r.body_is) refl
-
-pub parsed_frame : (c v : List ℕ) (h : Header) (m : Message) → Frame h v m c → parsed c ≡ Ok (h, m)
-parsed_frame c v h m f = behind h v c f.is_content ∙ ap (beside h) (message_is h.packet h.edition h.id v m f.has_message)
-
-pub parsed_refusal : (c : List ℕ) (r : Refusal) → IsRefused c r → parsed c ≡ Err r
-unfolding parsed
-parsed_refusal c r (inl e) = rw e refl
-parsed_refusal c r (inr b) =
-    let read = (body_law b.h.edition b.h.id).refuses b.octets 0 b.found (omega arith) b.refuses in
-    behind b.h b.octets c b.is_content ∙ rw (b.packet, read, b.is) refl
-
 -- what a reader of the body answers, with a refusal's place counted in the content
 pub refused_at : (p : Option Packet) (edition : Edition) (id start : ℕ) (v : List ℕ) (r : Refusal) → false ≡ is_some p → (IsNone p → start ≡ header_len edition false) → (body edition id).Refuses v 0 r
     → message_read p edition id v ≡ Err (in_content start r)
@@ -86,47 +68,67 @@ pub read_at : (p : Option Packet) (edition : Edition) (id : ℕ) (v : List ℕ) 
 read_at None edition id v m none h = message_is None edition id v m h
 read_at (Some packet) edition id v m none h = absurd cc
 
--- ---- what follows for the answers
+-- ---- contents, by the law of contents: only one header and one body stand in each, and what is found there is its content
 
--- a content's body is of octets
-body_bytes : (c : List ℕ) → AreOctets c → (i : ℕ) → get_or (body_at c) i 0 < 256
-body_bytes c are = AreOctets-take (length c - 1 - header_len_in (attributes_at c)) (drop (header_len_in (attributes_at c)) c) (AreOctets-drop (header_len_in (attributes_at c)) c are)
+module _ (only : IsReadBack) (found : IsContentOfItsFields) where
+  -- what a content with this header and this body is parsed as
+  behind : (h : Header) (v c : List ℕ) → Content h v c → parsed c ≡ beside h (message_read h.packet h.edition h.id v)
+  unfolding parsed
+  behind h v c is =
+      let r = only h v c is in
+      rw (r.no_reason, ← r.header, ← r.body_is) refl
 
-of_content : (h : Header) (v c : List ℕ) (p : Option Packet) → Content h v c → ((i : ℕ) → get_or v i 0 < 256) → h.packet ≡ p → HasFrame c ⊎ HasRefusal c
-of_content h v c (Some packet) is bytes e = inl (h, v, Part v, record { is_content = is; has_message = subst (λ (q : Option Packet). HasMessage q h.edition h.id v (Part v)) (sym e) refl })
-of_content h v c None is bytes e =
-    elim ((one_to_one (body h.edition h.id) (body_law h.edition h.id)).one_answer v bytes).has [
-      | inl m ↦ inl (h, v, m.0, record { is_content = is; has_message = subst (λ (q : Option Packet). HasMessage q h.edition h.id v m.0) (sym e) m.1 })
-      | inr r ↦ inr (in_content (header_len h.edition false) r.0, inr (record { h = h; octets = v; is_content = is; packet = e; found = r.0; refuses = r.1; is = refl }))
-    ]
+  pub parsed_frame : (c v : List ℕ) (h : Header) (m : Message) → Frame h v m c → parsed c ≡ Ok (h, m)
+  parsed_frame c v h m f = behind h v c f.is_content ∙ ap (beside h) (message_is h.packet h.edition h.id v m f.has_message)
 
-either : (c : List ℕ) (o : Option Refusal) → AreOctets c → reason c ≡ o → HasFrame c ⊎ HasRefusal c
-either c None are e = of_content (header_at c) (body_at c) c (header_at c).packet (found c are e) (body_bytes c are) refl
-either c (Some r) are e = inr (r, inl e)
+  pub parsed_refusal : (c : List ℕ) (r : Refusal) → IsRefused c r → parsed c ≡ Err r
+  unfolding parsed
+  parsed_refusal c r (inl e) = rw e refl
+  parsed_refusal c r (inr b) =
+      let read = (body_law b.h.edition b.h.id).refuses b.octets 0 b.found (omega arith) b.refuses in
+      behind b.h b.octets c b.is_content ∙ rw (b.packet, read, b.is) refl
 
-pub one_or_the_other : (c : List ℕ) → AreOctets c → HasFrame c ⊎ HasRefusal c
-one_or_the_other c are = either c (reason c) are refl
+  -- ---- what follows for the answers
 
-pub never_both : (c : List ℕ) → HasFrame c → HasRefusal c → ⊥
-never_both c f r = apart (f.0, f.2) r.0 (parsed c) (parsed_frame c f.1 f.0 f.2 f.3) (parsed_refusal c r.0 r.1)
+  -- a content's body is of octets
+  body_bytes : (c : List ℕ) → AreOctets c → (i : ℕ) → get_or (body_at c) i 0 < 256
+  body_bytes c are = AreOctets-take (length c - 1 - header_len_in (attributes_at c)) (drop (header_len_in (attributes_at c)) c) (AreOctets-drop (header_len_in (attributes_at c)) c are)
 
-pub one_frame : (c : List ℕ) (h g : Header) (v w : List ℕ) (m n : Message) → Frame h v m c → Frame g w n c → (h ≡ g) × (v ≡ w) × (m ≡ n)
-one_frame c h g v w m n x y =
-    let e : (h, m) ≡ (g, n) = ok_is (h, m) (g, n) (sym (parsed_frame c v h m x) ∙ parsed_frame c w g n y) in
-    (ap (λ (z : Header × Message). z.0) e, (only h v c x.is_content).body_is ∙ sym (only g w c y.is_content).body_is, ap (λ (z : Header × Message). z.1) e)
+  of_content : (h : Header) (v c : List ℕ) (p : Option Packet) → Content h v c → ((i : ℕ) → get_or v i 0 < 256) → h.packet ≡ p → HasFrame c ⊎ HasRefusal c
+  of_content h v c (Some packet) is bytes e = inl (h, v, Part v, record { is_content = is; has_message = subst (λ (q : Option Packet). HasMessage q h.edition h.id v (Part v)) (sym e) refl })
+  of_content h v c None is bytes e =
+      elim ((one_to_one (body h.edition h.id) (body_law h.edition h.id)).one_answer v bytes).has [
+        | inl m ↦ inl (h, v, m.0, record { is_content = is; has_message = subst (λ (q : Option Packet). HasMessage q h.edition h.id v m.0) (sym e) m.1 })
+        | inr r ↦ inr (in_content (header_len h.edition false) r.0, inr (record { h = h; octets = v; is_content = is; packet = e; found = r.0; refuses = r.1; is = refl }))
+      ]
 
-pub one_refusal : (c : List ℕ) (r s : Refusal) → IsRefused c r → IsRefused c s → r ≡ s
-one_refusal c r s x y = err_is {A = Header × Message} r s (sym (parsed_refusal c r x) ∙ parsed_refusal c s y)
+  either : (c : List ℕ) (o : Option Refusal) → AreOctets c → reason c ≡ o → HasFrame c ⊎ HasRefusal c
+  either c None are e = of_content (header_at c) (body_at c) c (header_at c).packet (found c are e) (body_bytes c are) refl
+  either c (Some r) are e = inr (r, inl e)
 
--- what gives what parsing gives answers by the definition of frames
-answered : (c : List ℕ) (r : Result (Header × Message) CodecError) → HasFrame c ⊎ HasRefusal c → IsUnlessMemory r (parsed c) → FrameAnswers c r
-answered c (Err errors.Memory) is e = tt
-answered c (Ok x) (inl f) e =
-    let one : (f.0, f.2) ≡ x = ok_is (f.0, f.2) x (sym (parsed_frame c f.1 f.0 f.2 f.3) ∙ e) in
-    subst (λ (z : Header × Message). Frame z.0 (body_at c) z.1 c) one (subst (λ (v : List ℕ). Frame f.0 v f.2 c) (only f.0 f.1 c f.3.is_content).body_is f.3)
-answered c (Ok x) (inr r) e = absurd (apart x r.0 (parsed c) e (parsed_refusal c r.0 r.1))
-answered c (Err (errors.Refused d)) (inl f) e = absurd (apart (f.0, f.2) d (parsed c) (parsed_frame c f.1 f.0 f.2 f.3) e)
-answered c (Err (errors.Refused d)) (inr r) e = subst (IsRefused c) (err_is {A = Header × Message} r.0 d (sym (parsed_refusal c r.0 r.1) ∙ e)) r.1
+  pub one_or_the_other : (c : List ℕ) → AreOctets c → HasFrame c ⊎ HasRefusal c
+  one_or_the_other c are = either c (reason c) are refl
 
-pub answers : (c : List ℕ) (r : Result (Header × Message) CodecError) → AreOctets c → IsUnlessMemory r (parsed c) → FrameAnswers c r
-answers c r are e = answered c r (one_or_the_other c are) e
+  pub never_both : (c : List ℕ) → HasFrame c → HasRefusal c → ⊥
+  never_both c f r = apart (f.0, f.2) r.0 (parsed c) (parsed_frame c f.1 f.0 f.2 f.3) (parsed_refusal c r.0 r.1)
+
+  pub one_frame : (c : List ℕ) (h g : Header) (v w : List ℕ) (m n : Message) → Frame h v m c → Frame g w n c → (h ≡ g) × (v ≡ w) × (m ≡ n)
+  one_frame c h g v w m n x y =
+      let e : (h, m) ≡ (g, n) = ok_is (h, m) (g, n) (sym (parsed_frame c v h m x) ∙ parsed_frame c w g n y) in
+      (ap (λ (z : Header × Message). z.0) e, (only h v c x.is_content).body_is ∙ sym (only g w c y.is_content).body_is, ap (λ (z : Header × Message). z.1) e)
+
+  pub one_refusal : (c : List ℕ) (r s : Refusal) → IsRefused c r → IsRefused c s → r ≡ s
+  one_refusal c r s x y = err_is {A = Header × Message} r s (sym (parsed_refusal c r x) ∙ parsed_refusal c s y)
+
+  -- what gives what parsing gives answers by the definition of frames
+  answered : (c : List ℕ) (r : Result (Header × Message) CodecError) → HasFrame c ⊎ HasRefusal c → IsUnlessMemory r (parsed c) → FrameAnswers c r
+  answered c (Err errors.Memory) is e = tt
+  answered c (Ok x) (inl f) e =
+      let one : (f.0, f.2) ≡ x = ok_is (f.0, f.2) x (sym (parsed_frame c f.1 f.0 f.2 f.3) ∙ e) in
+      subst (λ (z : Header × Message). Frame z.0 (body_at c) z.1 c) one (subst (λ (v : List ℕ). Frame f.0 v f.2 c) (only f.0 f.1 c f.3.is_content).body_is f.3)
+  answered c (Ok x) (inr r) e = absurd (apart x r.0 (parsed c) e (parsed_refusal c r.0 r.1))
+  answered c (Err (errors.Refused d)) (inl f) e = absurd (apart (f.0, f.2) d (parsed c) (parsed_frame c f.1 f.0 f.2 f.3) e)
+  answered c (Err (errors.Refused d)) (inr r) e = subst (IsRefused c) (err_is {A = Header × Message} r.0 d (sym (parsed_refusal c r.0 r.1) ∙ e)) r.1
+
+  pub answers : (c : List ℕ) (r : Result (Header × Message) CodecError) → AreOctets c → IsUnlessMemory r (parsed c) → FrameAnswers c r
+  answers c r are e = answered c r (one_or_the_other c are) e

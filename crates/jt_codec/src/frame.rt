@@ -14,8 +14,8 @@ ghost use Rattle.jt_codec.specs.declared.message.Message.{Message};
 use crate::body::read_body;
 use crate::message::Message;
 use arrayvec::ArrayVec;
-use jt_escape::{check, escape_into};
-use jt_header::{Header, read_header, write_header};
+use jt_escape::{FRAME_LIMIT, check, escape_into};
+use jt_header::{Header, law_of_contents, read_header, write_header};
 use jt_value::{CodecError, Edition, Octets, Refusal};
 use std::alloc::Global;
 
@@ -102,13 +102,14 @@ pub fn parse_frame(alloc: Global, content: &[u8]) -> Result<(Header, Message), C
     // The same as a function of the content.
     ensures parsed { IsUnlessMemory result (parsed content.now) }
 {
+    law_of_contents();
     parse(alloc, content)
 }
 
 /// The frame of a header and a body of at most 1,023 octets, put into an empty `out` (the standard's framing). The header is
 /// one that is read: of either edition, with a phone of that edition, version 0 in 2013, and a packet number from 1 to the
 /// total.
-pub fn frame_into(header: &Header, body: &[u8], out: &mut ArrayVec<u8, 2092>)
+pub fn frame_into(header: &Header, body: &[u8], out: &mut ArrayVec<u8, FRAME_LIMIT>)
     requires header { IsHeader header.now }
     requires body { length body.now < 2 ^ 10 }
     requires empty { out.old.items ≡ [] }

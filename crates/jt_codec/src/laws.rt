@@ -2,6 +2,8 @@
 
 ghost use Rattle.jt_codec.specs.Law.{AckOctets, AreOneToOne, AreUnderTheirIds, IsMessageRead, IsNeverBoth, IsOneFrame, IsOneOrTheOther, IsOneRefusal, IsParsedFrame, IsParsedRefusal, IsRefusalRead};
 
+use jt_header::law_of_contents;
+
 /// Under each id and in each edition, octets have exactly one message or exactly one reason; two messages have the same
 /// octets only if they are equal; and a message fits under its own id alone.
 pub fn law_of_bodies()
@@ -25,4 +27,6 @@ pub fn law_of_frames()
     ensures parsed_refusal { IsParsedRefusal }
     ensures message_read { IsMessageRead }
     ensures refusal_read { IsRefusalRead }
-{}
+{
+    law_of_contents();
+}
