@@ -196,7 +196,7 @@ body_case f make case_of = record {
   read = λ s p. f.read s p >>= λ x. Ok (make x);
 }
 
--- the same values, where a test of all octets gives the reason
+-- what was read, unless a test of all octets gave a reason
 abbrev pub unless : {A : Type 0} → Option Refusal → Result A Refusal → Result A Refusal
 unless None read = read
 unless (Some r) read = Err r

@@ -1,14 +1,13 @@
 -- How many numbers are missing, and what is missing or joined one number on.
-use Rattle.std.proofs.Common.{◌≡◌, ℕ, zero, suc, ◌+◌, ◌≤◌, ◌<◌, Bool, true, false, cond, not, eqb, ◌||◌, List, [], ◌∷◌, ◌++◌, length, refl, sym, ap, ◌∙◌, arith, inl, inr, add-one}
+use Rattle.std.proofs.Common.{◌≡◌, ℕ, zero, suc, ◌+◌, ◌≤◌, ◌<◌, Bool, true, false, cond, not, eqb, ◌||◌, List, [], ◌∷◌, ◌++◌, length, refl, sym, ap, ◌∙◌, arith, inl, inr}
 use Rattle.std.specs.Prelude.{IsTrue}
 use Rattle.std.specs.FinMap.{len, contains_key}
 use Rattle.std.specs.List.{filter}
 use Rattle.std.proofs.lemmas.Bool.{eqb-true, eq-eqb, ne_eqb, cases_eq}
 use Rattle.std.proofs.lemmas.List.{length_push, append-nil, nil_from_length}
-use Rattle.std.proofs.lemmas.List.Concat.{flat_map-append}
 use Rattle.std.proofs.lemmas.List.Elements.{filter-append}
 use Rattle.jt_subpacket.specs.Partials.{Partial, Pieces, numbers, missing}
-use Rattle.jt_subpacket.specs.Steps.{IsPartial, has_beside, missing_beside, piece_beside, joined_beside}
+use Rattle.jt_subpacket.specs.Steps.{IsPartial, has_beside, missing_beside}
 
 one_more : (b : Bool) (xs : List ℕ) (x : ℕ) → xs ++ cond (not b) (x ∷ []) [] ≡ cond b xs (xs ++ x ∷ [])
 one_more true xs x = append-nil xs
@@ -17,16 +16,6 @@ one_more false xs x = refl
 -- what passes one number on
 pub passing_more : (has : ℕ → Bool) (n : ℕ) → filter (λ x. not (has x)) (numbers (suc n)) ≡ cond (has (suc n)) (filter (λ x. not (has x)) (numbers n)) (filter (λ x. not (has x)) (numbers n) ++ suc n ∷ [])
 passing_more has n = filter-append (λ x. not (has x)) (numbers n) (suc n ∷ []) ∙ one_more (has (suc n)) (filter (λ x. not (has x)) (numbers n)) (suc n)
-
-pub missing_skip : (m : Pieces) (number n : ℕ) → has_beside m number (n + 1) ≡ true → missing_beside n m number ≡ missing_beside (n + 1) m number
-missing_skip m number n has = rw add-one (sym (passing_more (has_beside m number) n ∙ ap (λ b. cond b (missing_beside n m number) (missing_beside n m number ++ suc n ∷ [])) (rw add-one at has)))
-
-pub missing_more : (m : Pieces) (number n : ℕ) → has_beside m number (n + 1) ≡ false → missing_beside n m number ++ (n + 1) ∷ [] ≡ missing_beside (n + 1) m number
-missing_more m number n has = rw add-one (sym (passing_more (has_beside m number) n ∙ ap (λ b. cond b (missing_beside n m number) (missing_beside n m number ++ suc n ∷ [])) (rw add-one at has)))
-
-pub joined_more : (m : Pieces) (number : ℕ) (body : List ℕ) (n : ℕ) → joined_beside n m number body ++ piece_beside m number body (n + 1) ≡ joined_beside (n + 1) m number body
-joined_more m number body n =
-    rw add-one (sym (flat_map-append (piece_beside m number body) (numbers n) (suc n ∷ []) ∙ ap (λ xs. joined_beside n m number body ++ xs) (append-nil (piece_beside m number body (suc n)))))
 
 -- ---- how many
 
