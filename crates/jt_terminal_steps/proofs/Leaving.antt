@@ -1,7 +1,8 @@
 -- What steps make of a terminal's lists, and what the rule makes of times and tables.
 use Rattle.std.proofs.Common.{◌≡◌, ◌≢◌, ◌-◌, ◌+◌, ◌<◌, ◌≤◌, ◌/◌, ◌%◌, min, ℕ, zero, suc, List, [], ◌∷◌, ◌++◌, length, drop, Option, Some, None, Bool, true, false, cond, inl, inr, refl, sym, ap, ◌∙◌, subst, arith, append_assoc}
-use Rattle.std.specs.Prelude.{◌==◌, ◌&&◌, nat_lt, nat_le}
-use Rattle.std.proofs.lemmas.Bool.{ltb-true, ltb-false}
+use Rattle.std.specs.Prelude.{◌==◌, ◌&&◌, nat_lt, nat_le, slice_get}
+use Rattle.std.specs.Int.{w16, to_be_bytes}
+use Rattle.std.proofs.lemmas.Bool.{eq-eqb, ltb-true, ltb-false}
 use Rattle.jt_value.specs.Serials.{gap_of, serial_of}
 use Rattle.jt_header.specs.declared.header.Header.{Header}
 use Rattle.jt_codec.specs.declared.message.Message.{Message}
@@ -9,12 +10,15 @@ use Rattle.jt_codec.specs.declared.message.Message.TheVariants as message
 use Rattle.jt_params.specs.declared.param.Param.{Param}
 use Rattle.jt_params.specs.Tables.{Table}
 use Rattle.jt_regions.specs.Tables.{Regions}
+use Rattle.jt_regions.specs.declared.change.RegionChange.TheVariants as change
 use Rattle.jt_store.specs.declared.unit.Unit.{Unit as OneUnit}
 use Rattle.jt_store.specs.Vaults.{Held, Accepts, Forms}
 use Rattle.jt_subpacket.specs.Parts.{Message as Packet, packet_header, packet_octets}
 use Rattle.jt_subpacket.specs.Steps.{front, packets_of, piece_of}
 use Rattle.jt_terminal_rule.specs.declared.settings.Settings.{Settings}
 use Rattle.jt_terminal_rule.specs.declared.state.AnswerKind.{AnswerKind}
+use Rattle.jt_terminal_rule.specs.declared.state.AnswerKind.TheVariants.{Position}
+use Rattle.jt_terminal_rule.specs.Tables.{regions_after}
 use Rattle.jt_terminal_rule.specs.declared.state.Phase.{Phase}
 use Rattle.jt_terminal_rule.specs.declared.state.Phase.TheVariants.{Down, Registering, Authenticating, Live}
 use Rattle.jt_terminal_rule.specs.declared.state.State.{State}
@@ -27,7 +31,7 @@ use Rattle.jt_terminal_rule.proofs.Answering.{moved_by}
 use Rattle.jt_value.specs.declared.phone.Edition.{Edition}
 use Rattle.jt_value.specs.declared.phone.Edition.TheVariants.{E2013, E2019}
 use Rattle.jt_terminal_answers.specs.Answering.{AllOrNothing}
-use Rattle.jt_terminal_steps.specs.AfterError.{AllTablesOrNone, AreSameParams, AreSameTables, CutLists, Lists, lists_accepted, lists_after, lists_of, next_said, sets_params_in}
+use Rattle.jt_terminal_steps.specs.AfterError.{AllTablesOrNone, AreSameParams, AreSameTables, CutLists, Lists, lists_accepted, lists_after, lists_changed, lists_of, next_said, sets_params_in}
 use Rattle.jt_terminal_steps.specs.Running.{Went, accepts_oldest, took}
 
 -- ---- one list of steps after another
@@ -36,7 +40,7 @@ pub lists_append : (a b : List Step) (k : Lists) → lists_after (a ++ b) k ≡ 
 lists_append [] b k = refl
 lists_append (rule.Sends older unit ∷ a) b k = lists_append a b k
 lists_append (rule.Says h body ∷ a) b k = lists_append a b (record k { next = next_said k.mark k.next h.serial })
-lists_append (rule.Changes change ∷ a) b k = lists_append a b _
+lists_append (rule.Changes change ∷ a) b k = lists_append a b (lists_changed change k)
 lists_append (rule.Opens ∷ a) b k = lists_append a b k
 lists_append (rule.Loses ∷ a) b k = lists_append a b k
 
@@ -58,11 +62,11 @@ lists_behind steps more old mid now is cut = record {
 }
 
 -- a rule's state has the lists after its steps
-abbrev pub Lists-of : State → Ruled → Type 0
-Lists-of s r = lists_of r.state ≡ lists_after r.steps (lists_of s)
+abbrev pub HasItsLists : State → Ruled → Type 0
+HasItsLists s r = lists_of r.state ≡ lists_after r.steps (lists_of s)
 
 -- one rule was run, and the next one was cut short
-pub lists_then : (r : Ruled) (more : State → Ruled) (s mid : State) (now : Lists) → mid ≡ r.state → Lists-of s r → CutLists (more mid).steps (lists_of mid) now → CutLists (and_then r more).steps (lists_of s) now
+pub lists_then : (r : Ruled) (more : State → Ruled) (s mid : State) (now : Lists) → mid ≡ r.state → HasItsLists s r → CutLists (more mid).steps (lists_of mid) now → CutLists (and_then r more).steps (lists_of s) now
 lists_then r more s mid now is own cut =
     lists_behind r.steps (more r.state).steps (lists_of s) (lists_of r.state) now own (subst (λ (m : State). CutLists (more m).steps (lists_of m) now) is cut)
 
@@ -70,7 +74,7 @@ lists_then r more s mid now is own cut =
 
 abbrev ListsIf : State → Option Ruled → Type 0
 ListsIf s None = Unit {0}
-ListsIf s (Some r) = Lists-of s r
+ListsIf s (Some r) = HasItsLists s r
 
 formed_lists : (s : State) (fix : List ℕ) (more : List (List ℕ)) → s.waiting ≡ fix ∷ more → (b : Bool)
     → ListsIf s (cond b (let unit = unit_of s.next fix (fix ∷ more) in Some (record {
@@ -103,7 +107,7 @@ filled_lists settings n (Some r) s mid old held_mid out out_mid now own went cut
 
 pub lists_filled : (settings : Settings) (n : ℕ) (s mid : State) (old held_mid : Option Held) (out out_mid : List (List ℕ)) (now : Lists)
     → Went settings (next_one s) true s mid old held_mid out out_mid → CutLists (fill n mid).steps (lists_of mid) now → CutLists (or_stays s (next_one s) (fill n)).steps (lists_of s) now
-lists_filled settings n s mid old held_mid out out_mid now went cut = filled_lists settings n (next_one s) s mid old held_mid out out_mid now (next_lists s _ (nat_lt s.sent window)) went cut
+lists_filled settings n s mid old held_mid out out_mid now went cut = filled_lists settings n (next_one s) s mid old held_mid out out_mid now (next_lists s (slice_get s.units s.sent) (nat_lt s.sent window)) went cut
 
 -- ---- the oldest unit is accepted
 
@@ -116,20 +120,37 @@ lists_took s (u ∷ more) mid now are some is cut =
 -- ---- messages that are no units
 
 same_number : (n : ℕ) → (n == n) ≡ true
-same_number zero = refl
-same_number (suc n) = same_number n
+same_number n = eq-eqb n n refl
 
-said_now : (mark next : ℕ) (b : Bool) → (nat_lt (gap_of mark next) 32766) ≡ b → cond b (serial_of (next + 1)) next ≡ next_said mark next next
-said_now mark next true e = rw (e, same_number next) refl
-said_now mark next false e = rw e refl
+-- a message under the next serial
+said_now : (mark next : ℕ) → cond (nat_lt (gap_of mark next) 32766) (serial_of (next + 1)) next ≡ next_said mark next next
+said_now mark next = by (nat_lt (gap_of mark next) 32766)
+  where
+    by : (b : Bool) → cond b (serial_of (next + 1)) next ≡ cond (b && (next == next)) (serial_of (next + 1)) next
+    by true = ap (λ (c : Bool). cond c (serial_of (next + 1)) next) (sym (same_number next))
+    by false = refl
 
-pub lists_beats : (s : State) → Lists-of s (beats s)
-lists_beats s = ap (λ (n : ℕ). record (lists_of s) { next = n }) (said_now s.mark s.next (nat_lt (gap_of s.mark s.next) 32766) refl)
+said_on : (mark next : ℕ) → gap_of mark next < 32766 → next_said mark next next ≡ serial_of (next + 1)
+said_on mark next lt = by (nat_lt (gap_of mark next) 32766) refl
+  where
+    by : (b : Bool) → nat_lt (gap_of mark next) 32766 ≡ b → cond (b && (next == next)) (serial_of (next + 1)) next ≡ serial_of (next + 1)
+    by true e = ap (λ (c : Bool). cond c (serial_of (next + 1)) next) (same_number next)
+    by false e = let ge = ltb-false (gap_of mark next) 32766 e in absurd (omega (arith, ge, lt))
 
-pub lists_beats_if_silent : (s : State) → Lists-of s (beats_if_silent s)
+said_far : (mark next serial : ℕ) → 32766 ≤ gap_of mark next → next_said mark next serial ≡ next
+said_far mark next serial far = by (nat_lt (gap_of mark next) 32766) refl
+  where
+    by : (b : Bool) → nat_lt (gap_of mark next) 32766 ≡ b → cond (b && (serial == next)) (serial_of (next + 1)) next ≡ next
+    by true e = let lt = ltb-true (gap_of mark next) 32766 e in absurd (omega (arith, lt, far))
+    by false e = refl
+
+pub lists_beats : (s : State) → HasItsLists s (beats s)
+lists_beats s = ap (λ (n : ℕ). record (lists_of s) { next = n }) (said_now s.mark s.next)
+
+pub lists_beats_if_silent : (s : State) → HasItsLists s (beats_if_silent s)
 lists_beats_if_silent s = by (rule.is_silent s)
   where
-    by : (b : Bool) → Lists-of s (cond b (beats s) (stays s))
+    by : (b : Bool) → HasItsLists s (cond b (beats s) (stays s))
     by true = lists_beats s
     by false = refl
 
@@ -164,32 +185,26 @@ module _ (mark next : ℕ) (small : mark < 65536) (fits : next < 65536) where
       by true = omega (arith, fits)
       by false = refl
 
+  one_on : (n k : ℕ) → k ≡ n + 1 → serial_of (serial_of (next + n) + 1) ≡ serial_of (next + k)
+  one_on n k e = omega (arith, e)
+
   below : (n : ℕ) → gap_of mark next < 32766 → n < 32766 - gap_of mark next
       → next_said mark (serial_of (next + min n (32766 - gap_of mark next))) ((next + n) % 65536) ≡ serial_of (next + min (suc n) (32766 - gap_of mark next))
   below n lt near =
       let least : min n (32766 - gap_of mark next) ≡ n = omega (arith, near) in
-      let then_least : min (suc n) (32766 - gap_of mark next) ≡ suc n = omega (arith, near) in
       let gap = moved_by mark next n small fits (omega (arith, near)) in
-      rw (least, then_least) (by (nat_lt (gap_of mark (serial_of (next + n))) 32766) refl gap)
-    where
-      by : (b : Bool) → nat_lt (gap_of mark (serial_of (next + n))) 32766 ≡ b → gap_of mark (serial_of (next + n)) ≡ gap_of mark next + n
-          → cond (b && (serial_of (next + n) == serial_of (next + n))) (serial_of (serial_of (next + n) + 1)) (serial_of (next + n)) ≡ serial_of (next + suc n)
-      by true e gap = rw (same_number (serial_of (next + n))) (omega arith)
-      by false e gap = let ge = ltb-false (gap_of mark (serial_of (next + n))) 32766 e in absurd (omega (arith, ge, gap, near))
+      ap (λ (k : ℕ). next_said mark (serial_of (next + k)) ((next + n) % 65536)) least
+      ∙ (said_on mark (serial_of (next + n)) (omega (arith, gap, near)) ∙ one_on n (min (suc n) (32766 - gap_of mark next)) (omega (arith, near)))
 
   above : (n : ℕ) → gap_of mark next < 32766 → 32766 - gap_of mark next ≤ n
       → next_said mark (serial_of (next + min n (32766 - gap_of mark next))) ((next + n) % 65536) ≡ serial_of (next + min (suc n) (32766 - gap_of mark next))
   above n lt far =
       let g = 32766 - gap_of mark next in
-      let most : min n g ≡ g = omega (arith, far) in
-      let then_most : min (suc n) g ≡ g = omega (arith, far) in
-      let gap = moved_by mark next g small fits (omega (arith, lt)) in
-      rw (most, then_most) (by (nat_lt (gap_of mark (serial_of (next + g))) 32766) refl gap)
-    where
-      by : (b : Bool) → nat_lt (gap_of mark (serial_of (next + (32766 - gap_of mark next)))) 32766 ≡ b → gap_of mark (serial_of (next + (32766 - gap_of mark next))) ≡ gap_of mark next + (32766 - gap_of mark next)
-          → cond (b && (((next + n) % 65536) == serial_of (next + (32766 - gap_of mark next)))) (serial_of (serial_of (next + (32766 - gap_of mark next)) + 1)) (serial_of (next + (32766 - gap_of mark next))) ≡ serial_of (next + (32766 - gap_of mark next))
-      by true e gap = let less = ltb-true (gap_of mark (serial_of (next + (32766 - gap_of mark next)))) 32766 e in absurd (omega (arith, less, gap, lt))
-      by false e gap = refl
+      let most : min n (32766 - gap_of mark next) ≡ 32766 - gap_of mark next = omega (arith, far) in
+      let then_most : min (suc n) (32766 - gap_of mark next) ≡ 32766 - gap_of mark next = omega (arith, far) in
+      let gap = moved_by mark next (32766 - gap_of mark next) small fits (omega (arith, lt)) in
+      ap (λ (k : ℕ). next_said mark (serial_of (next + k)) ((next + n) % 65536)) most
+      ∙ (said_far mark (serial_of (next + g)) ((next + n) % 65536) (omega (arith, gap, lt)) ∙ ap (λ (k : ℕ). serial_of (next + k)) (sym then_most))
 
   -- the packet behind so many
   one_more : (n : ℕ) → next_said mark (moved mark next n) ((next + n) % 65536) ≡ moved mark next (suc n)
@@ -203,7 +218,7 @@ module _ (mark next : ℕ) (small : mark < 65536) (fits : next < 65536) where
       by : (b : Bool) → nat_lt (gap_of mark next) 32766 ≡ b
           → next_said mark (cond b (serial_of (next + min n (32766 - gap_of mark next))) next) ((next + n) % 65536) ≡ cond b (serial_of (next + min (suc n) (32766 - gap_of mark next))) next
       by true e = far (nat_lt n (32766 - gap_of mark next)) refl (ltb-true (gap_of mark next) 32766 e)
-      by false e = rw e refl
+      by false e = said_far mark next ((next + n) % 65536) (ltb-false (gap_of mark next) 32766 e)
 
 says_append : (a b : List Packet) → says_each (a ++ b) ≡ says_each a ++ says_each b
 says_append [] b = refl
@@ -228,10 +243,10 @@ module _ (k : Lists) (h : Header) (total : ℕ) (body : List ℕ) (own : h.seria
       ∙ ap (λ (m : ℕ). record k { next = m }) (one_more k.mark k.next small fits n))))
 
 module _ (s : State) (small : s.mark < 65536) (fits : s.next < 65536) where
-  said_lists : (packets : List Packet) → lists_after (says_each packets) (lists_of s) ≡ record (lists_of s) { next = after_packets s (length packets) } → Lists-of s (says_packets s packets)
+  said_lists : (packets : List Packet) → lists_after (says_each packets) (lists_of s) ≡ record (lists_of s) { next = after_packets s (length packets) } → HasItsLists s (says_packets s packets)
   said_lists packets is = sym is
 
-  one_lists : (h : Header) (body : List ℕ) → h.serial ≡ s.next → Lists-of s (says_packets s ((h, body) ∷ []))
+  one_lists : (h : Header) (body : List ℕ) → h.serial ≡ s.next → HasItsLists s (says_packets s ((h, body) ∷ []))
   one_lists h body own =
       said_lists ((h, body) ∷ []) (ap (λ (m : ℕ). record (lists_of s) { next = m }) (
         ap (next_said s.mark s.next) own
@@ -242,25 +257,25 @@ module _ (s : State) (small : s.mark < 65536) (fits : s.next < 65536) where
       whole : (n : ℕ) → n < 65536 → (n + 0) % 65536 ≡ n
       whole n lt = omega (arith, lt)
 
-  front_said : (h : Header) (total : ℕ) (body : List ℕ) → h.serial ≡ s.next → Lists-of s (says_packets s (front h total body total))
+  front_said : (h : Header) (total : ℕ) (body : List ℕ) → h.serial ≡ s.next → HasItsLists s (says_packets s (front h total body total))
   front_said h total body own =
       said_lists (front h total body total) (front_lists (lists_of s) h total body own small fits total
       ∙ ap (λ (n : ℕ). record (lists_of s) { next = after_packets s n }) (sym (length_front (lists_of s) h total body own small fits total)))
 
   parts_said : (h : Header) (body : List ℕ) → h.serial ≡ s.next → (b : Bool)
-      → Lists-of s (says_packets s (cond b ((record h { packet = None }, body) ∷ []) (front h ((length body + 1022) / 1023) body ((length body + 1022) / 1023))))
+      → HasItsLists s (says_packets s (cond b ((record h { packet = None }, body) ∷ []) (front h ((length body + 1022) / 1023) body ((length body + 1022) / 1023))))
   parts_said h body own true = one_lists (record h { packet = None }) body own
   parts_said h body own false = front_said h ((length body + 1022) / 1023) body own
 
-  packets_said : (kind : AnswerKind) (octets : List ℕ) (b : Bool) → Lists-of s (says_packets s (cond b (packets_of (header_of s.settings.phone (id_of_answer kind) s.next) octets) []))
+  packets_said : (kind : AnswerKind) (octets : List ℕ) (b : Bool) → HasItsLists s (says_packets s (cond b (packets_of (header_of s.settings.phone (id_of_answer kind) s.next) octets) []))
   packets_said kind octets true = parts_said (header_of s.settings.phone (id_of_answer kind) s.next) octets refl (nat_le (length octets) packet_octets)
   packets_said kind octets false = ap (λ (m : ℕ). record (lists_of s) { next = m }) (none_moved s.mark s.next small fits)
 
-  answer_said : (says : Option (AnswerKind × List ℕ)) → Lists-of s (says_answer s says)
+  answer_said : (says : Option (AnswerKind × List ℕ)) → HasItsLists s (says_answer s says)
   answer_said None = refl
   answer_said (Some says) = packets_said says.0 says.1 (nat_le (length says.1) message_limit)
 
-pub lists_answers : (s : State) (a : Answer) → s.mark < 65536 → s.next < 65536 → Lists-of s (answers s a)
+pub lists_answers : (s : State) (a : Answer) → s.mark < 65536 → s.next < 65536 → HasItsLists s (answers s a)
 lists_answers s a small fits = answer_said (changed_by s a) small fits a.says
 
 -- ---- times and tables
@@ -295,7 +310,7 @@ next_tables s unit false = tt
 
 fill_tables : (n : ℕ) (s : State) → AreSameTables s (fill n s).state
 fill_tables zero s = record { timing = refl; params = refl; regions = refl }
-fill_tables (suc n) s = by (next_one s) (next_tables s _ (nat_lt s.sent window)) (λ t. fill_tables n t)
+fill_tables (suc n) s = by (next_one s) (next_tables s (slice_get s.units s.sent) (nat_lt s.sent window)) (λ t. fill_tables n t)
   where
     by : (r : Option Ruled) → TablesIf s r → ((t : State) → AreSameTables t (fill n t).state) → AreSameTables s (or_stays s r (fill n)).state
     by None one rest = record { timing = refl; params = refl; regions = refl }
@@ -341,7 +356,8 @@ filled_tables s mid now a is same =
 
 -- the request for packets leaves them
 pub lack_tables : (s mid now : State) (edition : Edition) (first : ℕ) (numbers : List ℕ) → mid ≡ (answers s (answer_to_lack s edition first numbers)).state → AreSameTables mid now → AreSameTables s now
-lack_tables s mid now E2013 first numbers is same = tables_on s mid now (equal_tables s mid is) same
+lack_tables s mid now E2013 first numbers is same =
+    record { timing = same.timing ∙ ap (λ (t : State). t.timing) is; params = same.params ∙ ap (λ (t : State). t.params) is; regions = same.regions ∙ ap (λ (t : State). t.regions) is }
 lack_tables s mid now E2019 first numbers is same =
     record { timing = same.timing ∙ ap (λ (t : State). t.timing) is; params = same.params ∙ ap (λ (t : State). t.params) is; regions = same.regions ∙ ap (λ (t : State). t.regions) is }
 
@@ -356,7 +372,7 @@ same_regions s h (Some regions) = record { timing = refl; params = refl }
 
 same_position : (s : State) (h : Header) (fix : Option (List ℕ)) → SameInAnswer s (tells_position s h fix)
 same_position s h None = record { timing = refl; params = refl }
-same_position s h (Some fix) = by (nat_le (2 + length fix) body_limit) _
+same_position s h (Some fix) = by (nat_le (2 + length fix) body_limit) (Some (Position, to_be_bytes w16 h.serial ++ fix))
   where
     by : (b : Bool) (says : Option (AnswerKind × List ℕ)) → SameInAnswer s (cond b (only_says s says) (responds s h 1))
     by true says = record { timing = refl; params = refl }
@@ -365,11 +381,11 @@ same_position s h (Some fix) = by (nat_le (2 + length fix) body_limit) _
 pub same_params : (s : State) (h : Header) (m : Message) → sets_params_in m ≡ false → SameInAnswer s (answer_to s h m)
 same_params s h (message.SetParams params) no = absurd cc
 same_params s h message.QueryPosition no = same_position s h s.last
-same_params s h (message.Circles setting list) no = same_regions s h _
-same_params s h (message.Rectangles setting list) no = same_regions s h _
-same_params s h (message.Polygon polygon) no = same_regions s h _
-same_params s h (message.Route route) no = same_regions s h _
-same_params s h (message.Delete kind ids) no = same_regions s h _
+same_params s h (message.Circles setting list) no = same_regions s h (regions_after (change.Circles setting list) s.regions)
+same_params s h (message.Rectangles setting list) no = same_regions s h (regions_after (change.Rectangles setting list) s.regions)
+same_params s h (message.Polygon polygon) no = same_regions s h (regions_after (change.Polygon polygon) s.regions)
+same_params s h (message.Route route) no = same_regions s h (regions_after (change.Route route) s.regions)
+same_params s h (message.Delete kind ids) no = same_regions s h (regions_after (change.Delete kind ids) s.regions)
 same_params s h m no = record { timing = refl; params = refl }
 
 -- nothing of such an answer was done, or its tables were taken
