@@ -27,7 +27,6 @@ use Rattle.jt_terminal_rule.specs.Forming.{body_limit, unit_of}
 use Rattle.jt_terminal_rule.specs.Messages.{header_of}
 use Rattle.jt_terminal_rule.specs.Rule.{Step, Ruled, accepted, accepts, after_packets, and_then, answer_packets, answers, beats, beats_if_silent, changed_by, fill, fills, forms_one, message_limit, next_one, one_sent, or_stays, repeats, says_answer, says_each, says_packets, sends_one, stays, window}
 use Rattle.jt_terminal_rule.specs.Rule as rule
-use Rattle.jt_terminal_rule.proofs.Answering.{moved_by}
 use Rattle.jt_value.specs.declared.phone.Edition.{Edition}
 use Rattle.jt_value.specs.declared.phone.Edition.TheVariants.{E2013, E2019}
 use Rattle.jt_terminal_answers.specs.Answering.{AllOrNothing}
@@ -177,6 +176,10 @@ lists_repeats s mid (Live serial) now is cut =
 abbrev moved : ℕ → ℕ → ℕ → ℕ
 moved mark next n = cond (nat_lt (gap_of mark next) 32766) (serial_of (next + min n (32766 - gap_of mark next))) next
 
+-- so many serials on
+serials_on : (mark next k : ℕ) → mark < 65536 → next < 65536 → gap_of mark next + k ≤ 32766 → gap_of mark (serial_of (next + k)) ≡ gap_of mark next + k
+serials_on mark next k small fits le = omega arith
+
 module _ (mark next : ℕ) (small : mark < 65536) (fits : next < 65536) where
   none_moved : moved mark next 0 ≡ next
   none_moved = by (nat_lt (gap_of mark next) 32766)
@@ -192,7 +195,7 @@ module _ (mark next : ℕ) (small : mark < 65536) (fits : next < 65536) where
       → next_said mark (serial_of (next + min n (32766 - gap_of mark next))) ((next + n) % 65536) ≡ serial_of (next + min (suc n) (32766 - gap_of mark next))
   below n lt near =
       let least : min n (32766 - gap_of mark next) ≡ n = omega (arith, near) in
-      let gap = moved_by mark next n small fits (omega (arith, near)) in
+      let gap = serials_on mark next n small fits (omega (arith, near)) in
       ap (λ (k : ℕ). next_said mark (serial_of (next + k)) ((next + n) % 65536)) least
       ∙ (said_on mark (serial_of (next + n)) (omega (arith, gap, near)) ∙ one_on n (min (suc n) (32766 - gap_of mark next)) (omega (arith, near)))
 
@@ -202,7 +205,7 @@ module _ (mark next : ℕ) (small : mark < 65536) (fits : next < 65536) where
       let g = 32766 - gap_of mark next in
       let most : min n (32766 - gap_of mark next) ≡ 32766 - gap_of mark next = omega (arith, far) in
       let then_most : min (suc n) (32766 - gap_of mark next) ≡ 32766 - gap_of mark next = omega (arith, far) in
-      let gap = moved_by mark next (32766 - gap_of mark next) small fits (omega (arith, lt)) in
+      let gap = serials_on mark next (32766 - gap_of mark next) small fits (omega (arith, lt)) in
       ap (λ (k : ℕ). next_said mark (serial_of (next + k)) ((next + n) % 65536)) most
       ∙ (said_far mark (serial_of (next + g)) ((next + n) % 65536) (omega (arith, gap, lt)) ∙ ap (λ (k : ℕ). serial_of (next + k)) (sym then_most))
 
@@ -379,26 +382,26 @@ same_position s h (Some fix) = by (nat_le (2 + length fix) body_limit) (Some (Po
     by false says = record { timing = refl; params = refl }
 
 pub same_params : (s : State) (h : Header) (m : Message) → sets_params_in m ≡ false → SameInAnswer s (answer_to s h m)
-same_params s h (message.SetParams params) no = absurd cc
-same_params s h message.QueryPosition no = same_position s h s.last
-same_params s h (message.Circles setting list) no = same_regions s h (regions_after (change.Circles setting list) s.regions)
-same_params s h (message.Rectangles setting list) no = same_regions s h (regions_after (change.Rectangles setting list) s.regions)
-same_params s h (message.Polygon polygon) no = same_regions s h (regions_after (change.Polygon polygon) s.regions)
-same_params s h (message.Route route) no = same_regions s h (regions_after (change.Route route) s.regions)
-same_params s h (message.Delete kind ids) no = same_regions s h (regions_after (change.Delete kind ids) s.regions)
-same_params s h m no = record { timing = refl; params = refl }
+same_params s h (message.SetParams params) other = absurd cc
+same_params s h message.QueryPosition other = same_position s h s.last
+same_params s h (message.Circles setting list) other = same_regions s h (regions_after (change.Circles setting list) s.regions)
+same_params s h (message.Rectangles setting list) other = same_regions s h (regions_after (change.Rectangles setting list) s.regions)
+same_params s h (message.Polygon polygon) other = same_regions s h (regions_after (change.Polygon polygon) s.regions)
+same_params s h (message.Route route) other = same_regions s h (regions_after (change.Route route) s.regions)
+same_params s h (message.Delete kind ids) other = same_regions s h (regions_after (change.Delete kind ids) s.regions)
+same_params s h m other = record { timing = refl; params = refl }
 
 -- nothing of such an answer was done, or its tables were taken
 pub left_params : (s now : State) (h : Header) (m : Message) → AllOrNothing s (answer_to s h m) now → sets_params_in m ≡ false → AreSameParams s now
-left_params s now h m (inl is) no = record { timing = ap (λ (t : State). t.timing) is; params = ap (λ (t : State). t.params) is }
-left_params s now h m (inr is) no =
-    let same = same_params s h m no in
+left_params s now h m (inl is) other = record { timing = ap (λ (t : State). t.timing) is; params = ap (λ (t : State). t.params) is }
+left_params s now h m (inr is) other =
+    let same = same_params s h m other in
     record { timing = ap (λ (t : State). t.timing) is ∙ same.timing; params = ap (λ (t : State). t.params) is ∙ same.params }
 
 -- such an answer was given, and then the window was filled or cut short
 pub filled_params : (s mid now : State) (h : Header) (m : Message) → mid ≡ (answers s (answer_to s h m)).state → AreSameTables mid now → sets_params_in m ≡ false → AreSameParams s now
-filled_params s mid now h m is tables no =
-    let same = same_params s h m no in
+filled_params s mid now h m is tables other =
+    let same = same_params s h m other in
     let given = answers_tables s (answer_to s h m) in
     record {
       timing = tables.timing ∙ (ap (λ (t : State). t.timing) is ∙ (given.timing ∙ same.timing));
