@@ -1,5 +1,5 @@
 -- What steps make of a terminal's lists, and what the rule makes of times and tables.
-use Rattle.std.proofs.Common.{◌≡◌, ◌≢◌, ◌-◌, ◌+◌, ◌<◌, ◌≤◌, ◌/◌, ◌%◌, min, ℕ, zero, suc, List, [], ◌∷◌, ◌++◌, length, drop, Option, Some, None, Bool, true, false, cond, inl, inr, refl, sym, ap, ◌∙◌, subst, arith, append_assoc}
+use Rattle.std.proofs.Common.{◌≡◌, ◌-◌, ◌+◌, ◌<◌, ◌≤◌, ◌/◌, ◌%◌, min, ℕ, zero, suc, List, [], ◌∷◌, ◌++◌, length, drop, Option, Some, None, Bool, true, false, cond, inl, inr, refl, sym, ap, ◌∙◌, subst, arith, append_assoc}
 use Rattle.std.specs.Prelude.{◌==◌, ◌&&◌, nat_lt, nat_le, slice_get}
 use Rattle.std.specs.Int.{w16, to_be_bytes}
 use Rattle.std.proofs.lemmas.Bool.{eq-eqb, ltb-true, ltb-false}
@@ -7,8 +7,6 @@ use Rattle.jt_value.specs.Serials.{gap_of, serial_of}
 use Rattle.jt_header.specs.declared.header.Header.{Header}
 use Rattle.jt_codec.specs.declared.message.Message.{Message}
 use Rattle.jt_codec.specs.declared.message.Message.TheVariants as message
-use Rattle.jt_params.specs.declared.param.Param.{Param}
-use Rattle.jt_params.specs.Tables.{Table}
 use Rattle.jt_regions.specs.Tables.{Regions}
 use Rattle.jt_regions.specs.declared.change.RegionChange.TheVariants as change
 use Rattle.jt_store.specs.declared.unit.Unit.{Unit as OneUnit}
@@ -252,10 +250,10 @@ module _ (s : State) (small : s.mark < 65536) (fits : s.next < 65536) where
   one_lists : (h : Header) (body : List ℕ) → h.serial ≡ s.next → HasItsLists s (says_packets s ((h, body) ∷ []))
   one_lists h body own =
       said_lists ((h, body) ∷ []) (ap (λ (m : ℕ). record (lists_of s) { next = m }) (
-        ap (next_said s.mark s.next) own
-        ∙ (sym (ap (λ (m : ℕ). next_said s.mark m s.next) (none_moved s.mark s.next small fits))
-        ∙ (ap (next_said s.mark (moved s.mark s.next 0)) (sym (whole s.next fits))
-        ∙ one_more s.mark s.next small fits 0))))
+      ap (next_said s.mark s.next) own
+      ∙ (sym (ap (λ (m : ℕ). next_said s.mark m s.next) (none_moved s.mark s.next small fits))
+      ∙ (ap (next_said s.mark (moved s.mark s.next 0)) (sym (whole s.next fits))
+      ∙ one_more s.mark s.next small fits 0))))
     where
       whole : (n : ℕ) → n < 65536 → (n + 0) % 65536 ≡ n
       whole n lt = omega (arith, lt)

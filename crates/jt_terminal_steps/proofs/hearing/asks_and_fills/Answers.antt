@@ -1,4 +1,4 @@
-use Rattle.std.proofs.Common.{None, refl, sym}
+use Rattle.std.proofs.Common.{None, sym}
 use Rattle.std.proofs.lemmas.Result.{on_err_weaker, on_ok_weaker}
 use Rattle.jt_terminal_rule.specs.Answers.{answer_to_lack}
 use Rattle.jt_terminal_rule.specs.Rule.{answers, fills}
