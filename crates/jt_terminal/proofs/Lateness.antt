@@ -1,19 +1,28 @@
 -- What is said of waits holds after each event, and where a line is given up all waits have passed.
-use Rattle.std.proofs.Common.{◌≡◌, ℕ, Option, Some, sym, ap, ◌∙◌, subst}
+use Rattle.std.proofs.Common.{◌≡◌, ℕ, Bool, true, false, Option, Some, sym, ap, ◌∙◌, subst}
 use Rattle.jt_terminal_rule.specs.declared.state.State.{State}
 use Rattle.jt_terminal_rule.specs.declared.state.Event.{Event}
 use Rattle.jt_terminal_rule.specs.declared.state.Event.TheVariants.{Tick}
 use Rattle.jt_terminal_rule.specs.declared.state.GiveUp.{GiveUp}
 use Rattle.jt_terminal_rule.specs.declared.state.GiveUp.TheVariants.{TimedOut}
-use Rattle.jt_terminal_rule.specs.Rule.{down, rule}
+use Rattle.jt_terminal_rule.specs.declared.state.Phase.{Phase}
+use Rattle.jt_terminal_rule.specs.declared.state.Phase.TheVariants.{Down}
+use Rattle.jt_terminal_rule.specs.Rule.{is_waiting, rule}
 use Rattle.jt_terminal_rule.specs.Waits.{IsLate, IsTimed}
 use Rattle.jt_terminal_rule.proofs.Lasting.{passes_all_waits}
 
 pub timed_after : (s now : State) (event : Event) → now ≡ (rule s event).state → IsTimed s → IsTimed now
 timed_after s now event is timed = subst IsTimed (sym is) (passes_all_waits.kept s event timed)
 
-pub timed_down : (s now : State) → now ≡ down s → IsTimed now
-timed_down s now is = subst IsTimed (sym is) (passes_all_waits.lost s)
+never : {P : Type 0} (b : Bool) → b ≡ false → b ≡ true → P
+never true e f = absurd cc
+never false e f = absurd cc
+
+-- without a line nothing is waited for
+pub timed_without_line : (now : State) → now.phase ≡ Down → IsTimed now
+timed_without_line now is =
+    let quiet : is_waiting now.phase now.sent ≡ false = ap (λ (p : Phase). is_waiting p now.sent) is in
+    record { some = λ waits. never (is_waiting now.phase now.sent) quiet waits; passed = λ waits. never (is_waiting now.phase now.sent) quiet waits }
 
 pub late_of : (s : State) (event : Event) (end : Option GiveUp) (now since at : ℕ) → IsTimed s → event ≡ Tick now → end ≡ (rule s event).end → end ≡ Some (TimedOut since at) → IsLate s now since at
 late_of s event end now since at timed tick is e = passes_all_waits.late s now since at timed (ap (λ (x : Event). (rule s x).end) (sym tick) ∙ (sym is ∙ e))

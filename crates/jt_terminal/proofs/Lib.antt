@@ -2,3 +2,4 @@ mod Begins
 mod Naming
 mod Ending
 mod Lateness
+mod Staying

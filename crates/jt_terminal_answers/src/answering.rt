@@ -59,8 +59,8 @@ fn deletion(alloc: Global, kind: RegionKind, ids: &Seq<u32>) -> Result<RegionCha
 }
 
 /// Answers a message by the table of answers: parameters and regions are set, told or changed, the position is told, and every
-/// other message but a response or a reply gets a general response. After want of memory nothing is changed, or
-/// times and tables alone, as the answer has them.
+/// other message but a response or a reply gets a general response. After want of memory nothing is changed, or times and
+/// tables alone, as the answer has them.
 pub fn answer(
     alloc: Global,
     state: &mut State,
