@@ -16,7 +16,7 @@ use Rattle.jt_store.specs.declared.migrating.NewPhone.{NewPhone}
 use Rattle.jt_store.specs.declared.migrating.OldPhone.{OldPhone}
 use Rattle.jt_store.specs.Migrating.{AreAppended, IsMoved, IsVerdictOnRow, Joins, taken_in}
 use Rattle.jt_store.specs.Places.{IsNumbered, IsStored, Moves, TakesAllIn, TakesIn}
-use Rattle.jt_store.specs.Tables.{AreRows, Finds, IsRow, MayAppend, Rises, last_from, last_of}
+use Rattle.jt_store.specs.Tables.{AreRows, IsRow, MayAppend, Rises, last_from, last_of}
 use Rattle.jt_store.specs.Verdicts.{row_of}
 
 -- ---- a row is there or not
@@ -155,9 +155,6 @@ pub taken_rows : (limit n : ℕ) (rows : List Row) (r : Row) → AreRows limit r
 taken_rows limit n rows r are may room = are_rows-push limit rows (row_of n r.id r.body) are may room
 
 -- ---- the candidate
-
-pub stored_if : (rows : List Row) (n : ℕ) (r : Row) (found : Row) → Finds rows n (Some found) → (found.id ≡ r.id) × (found.body ≡ r.body) → IsRow rows (row_of n r.id r.body)
-stored_if rows n r found is same = subst (IsRow rows) (λ i. record { number = is.1 i; id = same.0 i; body = same.1 i }) is.0
 
 pub repeat_there : (last : Option ℕ) (rows : List Row) (r : Row) (candidate : Option ℕ) (anew : ℕ) → last ≡ last_of rows → IsPlace last (serial_of r.number) (places.Back candidate anew) → IsStored rows candidate r
     → (n : ℕ) × IsVerdictOnRow rows r (Repeat n)

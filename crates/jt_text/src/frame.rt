@@ -185,7 +185,9 @@ pub(crate) fn put_front(line: &mut Line, place: u64, header: &Header, name: &str
     put_frame_start(line, place, header, name);
 }
 
-/// Puts the line of a frame at the end of a text, as `push_view_line`. `line` is room that is used again.
+/// Puts the line of a frame at the end of a text, `place` being that of its opening flag and `body_len` the octets of its
+/// body. `line` is room that is used again. Where memory is refused, the text still begins with what it held, and a part of
+/// the line may stand behind it.
 #[tactic(auto, using(std::proofs::Common::append_assoc), unfolding(crate::specs::Frames::view_line))]
 pub fn push_message_line(
     text: &mut String,
@@ -206,21 +208,6 @@ pub fn push_message_line(
     Ok(())
 }
 
-/// Puts the line of a frame at the end of a text, `place` being that of its opening flag and `body_len` the octets of its
-/// body. Where memory is refused, the text still begins with what it held, and a part of the line may stand behind it.
-pub fn push_view_line(
-    text: &mut String,
-    place: u64,
-    header: &Header,
-    message: &Message,
-    body_len: u16,
-) -> Result<(), AllocError>
-    ensures text { OnOk result (string_bytes text.new ≡ string_bytes text.old ++ view_line place header.now message.now body_len) }
-    ensures kept { StartsWith (string_bytes text.new) (string_bytes text.old) }
-{
-    push_message_line(text, &mut Line::new(), place, header, message, body_len)
-}
-
 /// The line of a frame, as a text of its own.
 pub fn view_line(
     alloc: Global,
@@ -232,6 +219,6 @@ pub fn view_line(
     ensures { IfOk result (λ line. line ≡ view_line at header.now message.now body_len) }
 {
     let mut text = String::new(alloc);
-    push_view_line(&mut text, at, header, message, body_len)?;
+    push_message_line(&mut text, &mut Line::new(), at, header, message, body_len)?;
     Ok(Octets::from_vec(text.into_bytes()))
 }

@@ -10,7 +10,7 @@ mod times;
 mod values;
 mod views;
 
-pub use frame::{push_message_line, push_view_line, view_line};
+pub use frame::{push_message_line, view_line};
 pub use laws::law_of_times;
 pub use line::Line;
 pub use refusal::{push_refusal_line, push_refusal_line_with, refusal_line};

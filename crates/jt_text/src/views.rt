@@ -157,7 +157,7 @@ fn push_part_line(
 }
 
 /// Puts the line of a frame whose message is read in place at the end of a text, `place` being that of its opening flag and
-/// `body_len` the octets of its body, as `push_view_line` does. `line` is room that is used again.
+/// `body_len` the octets of its body, as `push_message_line` does. `line` is room that is used again.
 #[inline(always)]
 pub fn push_message_view_line(
     text: &mut String,

@@ -11,6 +11,7 @@ use Rattle.std.proofs.lemmas.List.Concat.{flat_map-append}
 use Rattle.jt_value.specs.declared.phone.Edition.TheVariants.{E2013}
 use Rattle.jt_header.specs.Law.{IsLengthOfContent}
 use Rattle.jt_header.specs.Content.{IsHeader}
+use Rattle.jt_codec.specs.Law.{IsMessageRead}
 use Rattle.jt_position.specs.Fixes.{IsFix, FixesAre, fixes, fixes_of}
 use Rattle.jt_stream.specs.Unplaced.{Unplaced, Message, of_content}
 use Rattle.jt_world.specs.declared.row.Row.{Row}
@@ -30,6 +31,7 @@ pub record Below : Type 0 where
   pub streams : Laws
   pub long : IsLengthOfContent
   pub fixes : FixesAre
+  pub messages : IsMessageRead
 
 -- ---- the lists on the way
 
@@ -409,7 +411,7 @@ down_kept below w v replies all (inl none) = subst (λ (item : Option Unplaced).
 down_kept below w v [] all (inr came) = absurd (let e : [] ≡ came.0 ∷ came.1 = came.2 in cc)
 down_kept below w v (r ∷ rs) all (inr came) =
     subst (λ (item : Option Unplaced). Inv (heard (moved_down w) item)) (sym done)
-    (subst (λ (ack : Option Acknowledgement). Inv (told_of (moved_down w) ack)) (sym (answer_read (unit_header r.unit) r.serial good))
+    (subst (λ (ack : Option Acknowledgement). Inv (told_of (moved_down w) ack)) (sym (answer_read below.messages (unit_header r.unit) r.serial good))
     (told_kept w v rs all.3 (subst (View (moved w.line.down)) (sym rest) came.4) (answer (unit_header r.unit)) (named_stored w.units (length w.rows) r.place r.unit v.units all.0 all.1)))
   where
     good : IsHeader (unit_header r.unit)

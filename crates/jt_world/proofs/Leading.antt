@@ -60,13 +60,6 @@ pub record GoesUp (old new : World) (count done : ℕ) : Type 0 where
   pub left : count - done ≤ length new.line.up.octets - new.line.up.taken
   pub leads : Leads old new
 
-pub up_first : (w : World) (count : ℕ) → count ≤ length w.line.up.octets - w.line.up.taken → GoesUp w w count 0
-up_first w count le = record {
-  same = let e : count - 0 ≡ count = omega arith in ap (λ (n : ℕ). taken_up n w) e;
-  left = omega arith;
-  leads = leads_same w w refl;
-}
-
 pub up_room : (old new : World) (count done : ℕ) → GoesUp old new count done → done < count → new.line.up.taken < length new.line.up.octets
 up_room old new count done goes lt = omega (arith, goes.left, lt)
 
@@ -79,11 +72,6 @@ up_next old new next count done goes lt e =
       left = subst (λ (wire : Wire). count - (done + 1) ≤ length wire.octets - wire.taken) (sym line) (omega (arith, goes.left, lt));
       leads = leads_both old new next goes.leads (leads_one new next Up (up_room old new count done goes lt) e);
     }
-
-pub up_last : (old new : World) (count : ℕ) → GoesUp old new count count → new ≡ taken_up count old
-up_last old new count goes =
-    let none : count - count ≡ 0 = omega arith in
-    sym (ap (λ (n : ℕ). taken_up n new) none) ∙ goes.same
 
 -- ---- octets down
 
@@ -112,13 +100,6 @@ pub record GoesDown (old new : World) (count done : ℕ) : Type 0 where
   pub left : count - done ≤ length new.line.down.octets - new.line.down.taken
   pub leads : Leads old new
 
-pub down_first : (w : World) (count : ℕ) → count ≤ length w.line.down.octets - w.line.down.taken → GoesDown w w count 0
-down_first w count le = record {
-  same = let e : count - 0 ≡ count = omega arith in ap (λ (n : ℕ). taken_down n w) e;
-  left = omega arith;
-  leads = leads_same w w refl;
-}
-
 pub down_room : (old new : World) (count done : ℕ) → GoesDown old new count done → done < count → new.line.down.taken < length new.line.down.octets
 down_room old new count done goes lt = omega (arith, goes.left, lt)
 
@@ -132,11 +113,6 @@ down_next old new next count done goes lt e =
       leads = leads_both old new next goes.leads
           (subst (Leads new) (sym e) (leads_both new (after new Down) (accepting (after new Down)) (leads_one new (after new Down) Down (down_room old new count done goes lt) refl) (leads_accepting (after new Down))));
     }
-
-pub down_last : (old new : World) (count : ℕ) → GoesDown old new count count → new ≡ taken_down count old
-down_last old new count goes =
-    let none : count - count ≡ 0 = omega arith in
-    sym (ap (λ (n : ℕ). taken_down n new) none) ∙ goes.same
 
 -- ---- rows stay
 

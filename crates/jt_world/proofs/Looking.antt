@@ -1,9 +1,10 @@
 -- What a reader of a wire tells of the next octet.
-use Rattle.std.proofs.Common.{ℕ, zero, suc, ◌+◌, ◌<◌, ◌≤◌, ◌^◌, ◌≡◌, List, [], ◌∷◌, ◌++◌, length, get_or, take, map, slice_get, arith, refl, ap, sym, ◌∙◌, subst}
+use Rattle.std.proofs.Common.{ℕ, ◌+◌, ◌<◌, ◌≤◌, ◌^◌, ◌≡◌, List, [], ◌∷◌, ◌++◌, length, get_or, take, map, slice_get, arith, refl, ap, sym, ◌∙◌, subst}
 use Rattle.std.specs.Prelude.{Bool, true, false, IsTrue, ◌↔◌}
 use Rattle.std.proofs.lemmas.Bool.{false≢true}
 use Rattle.std.proofs.lemmas.List.{append-nil, take_more, take-append-le, map-append, length-append, get_or_default}
 use Rattle.jt_value.specs.Octets.{AreOctets}
+use Rattle.jt_value.proofs.OctetLists.{AreOctets-append, AreOctets-take}
 use Rattle.jt_escape.specs.Scan.{State}
 use Rattle.jt_escape.specs.Splitter.{StandsFor}
 use Rattle.jt_header.specs.Fields.{header_at, body_at}
@@ -15,12 +16,6 @@ use Rattle.jt_stream.specs.Unplaced.{Unplaced, Message, items, unplaced}
 use Rattle.jt_world.specs.Holding.{Tells, IsRead, seen_by}
 use Rattle.jt_world.specs.World.{Wire, completed, written}
 use Rattle.jt_world.proofs.Lists.{at_length, at_push}
-
-are_taken : (octets : List ℕ) (n : ℕ) → AreOctets octets → AreOctets (take n octets)
-are_taken octets zero are place = omega arith
-are_taken [] (suc n) are place = omega arith
-are_taken (octet ∷ octets) (suc n) are zero = are 0
-are_taken (octet ∷ octets) (suc n) are (suc place) = are_taken octets n (λ k. are (suc k)) place
 
 -- the items after one octet more
 pub record Grows (octets : List ℕ) (taken : ℕ) (new : State) (gained : List Item) : Type 0 where
@@ -36,7 +31,7 @@ grows some unplaced_are octets taken old new octet count gained are lt is one st
 }
   where
     before : (list : List Item) × Items (take taken octets) list
-    before = some (take taken octets) (are_taken octets taken are)
+    before = some (take taken octets) (AreOctets-take taken octets are)
 
     grown : take (taken + 1) octets ≡ take taken octets ++ take count (octet ∷ [])
     grown = take_more octets taken 0 lt ∙ (ap (λ (x : ℕ). take taken octets ++ x ∷ []) (sym is) ∙ ap (λ (n : ℕ). take taken octets ++ take n (octet ∷ [])) (sym one))
@@ -80,11 +75,6 @@ looked some unplaced_are octets taken ahead old new octet result not_ahead read 
       tells = λ _. tells (record { octets = octets; taken = taken }) new result.1 found g;
     }
 
-are_appended : (octets more : List ℕ) → AreOctets octets → AreOctets more → AreOctets (octets ++ more)
-are_appended [] more are others place = others place
-are_appended (octet ∷ octets) more are others zero = are 0
-are_appended (octet ∷ octets) more are others (suc place) = are_appended octets more (λ k. are (suc k)) others place
-
 seen_within : (ahead : Bool) (taken n : ℕ) → seen_by ahead taken ≤ n → ahead ≡ true → taken + 1 ≤ n
 seen_within true taken n le is = le
 seen_within false taken n le is = absurd (false≢true is)
@@ -92,7 +82,7 @@ seen_within false taken n le is = absurd (false≢true is)
 -- more is written
 pub read_written : (octets more : List ℕ) (taken : ℕ) (ahead : Bool) (held : Held) → IsRead octets taken ahead held → AreOctets more → length octets < 2 ^ 62 → length more < 2 ^ 62 → IsRead (octets ++ more) taken ahead held
 read_written octets more taken ahead held read are short brief = record {
-  are = are_appended octets more read.are are;
+  are = AreOctets-append octets more read.are are;
   short = omega (arith, length-append octets more, short, brief);
   within = omega (arith, length-append octets more, read.within);
   place = read.place;

@@ -1,17 +1,19 @@
 -- What the frames of this world are read as.
-use Rattle.std.proofs.Common.{ℕ, ◌^◌, ◌<◌, ◌≡◌, List, [], ◌∷◌, length, Some, Result, Ok, Err, arith, refl, ap, sym, ◌∙◌}
+use Rattle.std.proofs.Common.{ℕ, zero, suc, ◌^◌, ◌<◌, ◌≡◌, List, [], ◌∷◌, ◌++◌, length, Some, None, Result, Ok, Err, arith, refl, ap, sym, ◌∙◌}
 use Rattle.std.specs.Prelude.{Bool, true, false, IsTrue, is_none, is_ok, ◌&&◌, MatchResult, IfOk}
 use Rattle.jt_escape.specs.Span.{IsContent}
-use Rattle.jt_header.specs.Content.{Content, IsHeader, IsPhone, header_len}
+use Rattle.jt_header.specs.Content.{Content, IsHeader, IsPhone}
 use Rattle.jt_header.specs.Law.{IsLengthOfContent}
 use Rattle.jt_header.specs.declared.header.Header.{Header}
 use Rattle.jt_codec.specs.Bodies.{body, Fits}
 use Rattle.jt_codec.specs.Layouts.{ack}
-use Rattle.jt_codec.specs.Parsing.{placed}
+use Rattle.jt_codec.specs.Law.{IsMessageRead}
 use Rattle.jt_codec.specs.declared.message.Message.TheVariants.{PlatformAck}
+use Rattle.std.specs.Int.{w8, w16, to_be_bytes}
+use Rattle.jt_value.specs.Octets.{AreOctets}
+use Rattle.jt_value.proofs.OctetLists.{AreOctets-append, AreOctets-word}
 use Rattle.jt_value.specs.declared.phone.Edition.{Edition}
 use Rattle.jt_layout.specs.Layout.{Fills, number}
-use Rattle.jt_layout.proofs.Laws.{IsBody, byte_law, word_law, then_law, ended_law, body_as_law}
 use Rattle.jt_position.specs.Fixes.{IsFix, FixesAre, fixes_of, of_position}
 use Rattle.jt_position.specs.Positions.{position}
 use Rattle.jt_position.specs.declared.position.Position.{Position}
@@ -64,10 +66,6 @@ answer_header_good header serial good lt = record {
   packet = tt;
 }
 
-ack_law : IsBody ack
-unfolding ack
-ack_law = body_as_law _ _ _ (ended_law _ (then_law _ _ word_law (λ _. then_law _ _ word_law (λ _. byte_law)))) (λ x fits. refl) (λ m. refl)
-
 pub ack_fits : (edition : Edition) (one : Acknowledgement) → one.reply < 2 ^ 16 → one.id < 2 ^ 16 → one.result < 2 ^ 8 → Fits edition (PlatformAck one.reply one.id one.result)
 unfolding body ack number
 ack_fits edition one reply id result = (reply, (id, result))
@@ -76,26 +74,23 @@ pub ack_length : (edition : Edition) (one : Acknowledgement) → length (ack_oct
 unfolding body ack number
 ack_length edition one = refl
 
--- the row of the platform's acknowledgement, which is the same in each edition
-row_read : (edition : Edition) (octets : List ℕ) (x : ℕ × ℕ × ℕ) → ack.read octets 0 ≡ Ok x → (body edition 0x8001).read octets 0 ≡ Ok (PlatformAck x.0 x.1 x.2)
-unfolding body
-row_read edition octets x e = rw e refl
+octet_bytes : (n : ℕ) → AreOctets (to_be_bytes w8 n)
+octet_bytes n zero = omega arith
+octet_bytes n (suc place) = omega arith
 
-row_spell : (edition : Edition) (one : Acknowledgement) → ack_octets edition one ≡ ack.spell (one.reply, one.id, one.result)
-unfolding body
-row_spell edition one = refl
-
-one_fits : (one : Acknowledgement) → one.reply < 2 ^ 16 → one.id < 2 ^ 16 → one.result < 2 ^ 8 → ack.Fits (one.reply, one.id, one.result)
-unfolding ack number
-one_fits one reply id result = (reply, (id, result))
+ack_bytes : (edition : Edition) (one : Acknowledgement) → AreOctets (ack_octets edition one)
+unfolding body ack number
+ack_bytes edition one =
+    let reply = to_be_bytes w16 one.reply in
+    let id = to_be_bytes w16 one.id in
+    AreOctets-append reply (id ++ to_be_bytes w8 one.result) (AreOctets-word one.reply) (AreOctets-append id (to_be_bytes w8 one.result) (AreOctets-word one.id) (octet_bytes one.result))
 
 -- the terminal reads an answer as what it is
-pub answer_read : (header : Header) (serial : ℕ) → IsHeader header → acknowledgement_in (answer_header header serial) (ack_octets header.edition (answer header)) ≡ Some (answer header)
-answer_read header serial good =
-    ap (λ read. acknowledged (placed (header_len header.edition false) read))
-    (row_read header.edition (ack_octets header.edition (answer header)) (header.serial, header.id, 0)
-    (ack_law.again (ack_octets header.edition (answer header)) 0 (header.serial, header.id, 0) (omega arith)
-    (record { fits = one_fits (answer header) good.serial good.id (omega arith); parts = row_spell header.edition (answer header) })))
+pub answer_read : IsMessageRead → (header : Header) (serial : ℕ) → IsHeader header → acknowledgement_in (answer_header header serial) (ack_octets header.edition (answer header)) ≡ Some (answer header)
+answer_read read header serial good =
+    let octets = ack_octets header.edition (answer header) in
+    let fits = ack_fits header.edition (answer header) good.serial good.id (omega arith) in
+    ap acknowledged ((read None header.edition 0x8001 octets (PlatformAck header.serial header.id 0) (ack_bytes header.edition (answer header))).1 (record { fits = fits; parts = refl }))
 
 pub answer_content_is : (header : Header) (serial : ℕ) → IsHeader header → serial < 65536 → Content (answer_header header serial) (ack_octets header.edition (answer header)) (answer_content header serial)
 unfolding answer_content

@@ -64,10 +64,6 @@ holds_bad : (world : World) (bad : Option ℕ) (script : List ℕ) → Holds wor
 unfolding rehearsal
 holds_bad world bad script holds = holds.0.bad_is
 
-pub answer_is : (script : List ℕ) → answer_of outcome empty script ≡ script_reply script
-unfolding rehearsal script_reply
-answer_is script = refl
-
 same_rehearsal : (a b : Rehearsal) → a.world ≡ b.world → a.text ≡ b.text → a.bad ≡ b.bad → a ≡ b
 same_rehearsal a b world text bad = λ i. record { world = world i; text = text i; bad = bad i }
 

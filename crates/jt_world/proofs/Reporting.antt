@@ -2,7 +2,7 @@
 use Rattle.std.proofs.Common.{ℕ, zero, suc, ◌+◌, ◌<◌, ◌≤◌, ◌≡◌, List, [], ◌∷◌, ◌++◌, length, take, drop, get_or, Option, Some, None, slice_get, arith, refl, ap, sym, ◌∙◌, subst}
 use Rattle.std.specs.Prelude.{IsTrue, is_ok, All, Result, Ok, Err}
 use Rattle.std.specs.List.{range_with_len}
-use Rattle.std.proofs.lemmas.List.{length-take-le, take-take, take-append-drop, drop_more, take_more, take-append-le, length_push, drop_all}
+use Rattle.std.proofs.lemmas.List.{length-take-le, take-take, take-append-drop, drop_more, take_more, take-append-le, length_push}
 use Rattle.std.proofs.lemmas.List.Elements.{All-take, All-head, All-tail, All-nil, All-cons}
 use Rattle.jt_value.specs.declared.refusal.Refusal.{Refusal}
 use Rattle.jt_position.specs.declared.position.Position.{Position}
@@ -18,7 +18,7 @@ use Rattle.jt_world.specs.Script.{next_unit, reported, all_reported, waiting}
 use Rattle.jt_world.specs.Holding.{Terminal, Platform, IsNumbered, AllPositions, unit_at, units_from, world_of, frame_of_next, IsFormed}
 use Rattle.jt_world.proofs.Lists.{get_has, get_take, get_pushed}
 use Rattle.jt_world.proofs.Numbered.{length_units, unit_found, in_range}
-use Rattle.jt_world.proofs.Leading.{leads_both, leads_one, leads_same}
+use Rattle.jt_world.proofs.Leading.{leads_both, leads_one}
 
 -- ---- the fixes in units
 
@@ -173,9 +173,6 @@ pub record GoesOn (old new : World) (done : ℕ) : Type 0 where
   pub recorded : new.recorded ≡ old.recorded
   pub leads : Leads old new
 
-pub reports_first : (w : World) (formed : ℕ) → IsFormed w formed → GoesOn w w formed
-reports_first w formed is = record { same = ap (all_reported w) (sym is.waits); count = is.count; recorded = refl; leads = leads_same w w refl }
-
 pub reports_next : (old new next : World) (done : ℕ) → GoesOn old new done → done < length new.recorded → next ≡ reported new (get_or new.recorded (length new.units) []) → Leads new next → GoesOn old next (done + 1)
 reports_next old new next done goes lt e leads = record {
   same = ap (λ (w : World). all_reported w (drop (done + 1) w.recorded)) e ∙ (sym (ap (all_reported new) split) ∙ goes.same);
@@ -189,9 +186,6 @@ reports_next old new next done goes lt e leads = record {
 
     split : drop done new.recorded ≡ fix ∷ drop (done + 1) new.recorded
     split = drop_more new.recorded done [] lt ∙ ap (λ (n : ℕ). get_or new.recorded n [] ∷ drop (done + 1) new.recorded) goes.count
-
-pub reports_last : (old new : World) (done : ℕ) → GoesOn old new done → length new.recorded ≤ done → new ≡ all_reported old (waiting old)
-reports_last old new done goes le = sym (ap (all_reported new) (drop_all done new.recorded le)) ∙ goes.same
 
 -- what a report did, seen from the world before it
 pub report_room : (now : World) (t : Terminal) (platform : Platform) (up down : Wire) → world_of t platform up down ≡ now → IsNumbered t.recorded t.formed t.accepted → length now.units < length now.recorded → t.formed < length t.recorded

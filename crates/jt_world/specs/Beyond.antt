@@ -1,4 +1,4 @@
--- A line beyond the limits is bad, whatever it says.
+-- A line beyond the limits is bad, whatever it says. A step for the proofs: a ghost member of the hearer cites it.
 use Rattle.std.specs.Prelude.{◌≡◌, ℕ, ◌+◌, if◌then◌else◌, Bool, false, List, ◌∷◌}
 use Rattle.std.proofs.Common.{ap}
 use Rattle.jt_script.specs.Said.{said}

@@ -13,4 +13,5 @@ pub fn law_world()
     jt_stream::law_one_octet();
     jt_stream::law_frames();
     jt_position::law_fixes();
+    jt_codec::law_of_frames();
 }

@@ -18,11 +18,15 @@ use crate::terminal::POSITION;
 use crate::wire::Wire;
 use arrayvec::ArrayVec;
 use jt_codec::frame_into;
+use jt_escape::FRAME_LIMIT;
 use jt_header::Header;
 use jt_position::{law_fixes, view_position};
 use jt_value::{Memory, Octets};
 use std::alloc::Global;
 use std::marker::Model;
+
+/// The id of the platform's general responses (the standard's message bodies).
+const PLATFORM_ACK: u16 = 0x8001;
 
 /// What the platform holds.
 #[derive(Drop)]
@@ -59,7 +63,7 @@ fn answer(
     alloc: Global,
     header: &Header,
     serial: u16,
-    frame: &mut ArrayVec<u8, 2092>,
+    frame: &mut ArrayVec<u8, FRAME_LIMIT>,
 ) -> Result<(), Memory>
     requires header { IsHeader header.now }
     requires empty { frame.old.items ≡ [] }
@@ -72,7 +76,7 @@ fn answer(
     };
     let answer = Header {
         edition: header.edition,
-        id: 0x8001,
+        id: PLATFORM_ACK,
         bit15: false,
         version: header.version,
         phone: header.phone,

@@ -16,6 +16,7 @@ use crate::acknowledgement::Acknowledgement;
 use crate::wire::Wire;
 use arrayvec::ArrayVec;
 use jt_codec::frame_into;
+use jt_escape::FRAME_LIMIT;
 use jt_header::Header;
 use jt_position::{Fix, law_fixes};
 use jt_value::{Edition, Memory, Phone};
@@ -80,7 +81,7 @@ fn unit_header(place: usize) -> Header
 
 // The frame of the unit of a place.
 #[tactic(auto, unfolding(crate::specs::Messages::unit_content))]
-fn unit_frame(place: usize, fix: &Fix, frame: &mut ArrayVec<u8, 2092>)
+fn unit_frame(place: usize, fix: &Fix, frame: &mut ArrayVec<u8, FRAME_LIMIT>)
     requires place { place < 65536 }
     requires empty { frame.old.items ≡ [] }
     ensures { frame.new.items ≡ messages.unit_frame (unit_at place fix.now) }

@@ -6,4 +6,5 @@ returns c = law_kept (record {
   streams = record { front = c.law_front.ensures.unplaced; one = c.law_one_octet.ensures; frames = c.law_frames.ensures.frames; message = c.law_frames.ensures.message };
   long = c.law_of_contents.ensures.len;
   fixes = c.law_fixes.ensures;
+  messages = c.law_of_frames.ensures.message_read;
 })
