@@ -1,4 +1,7 @@
 mod Begins
 mod Naming
 mod Ending
+mod Items
+mod Judging
 mod Lateness
+mod Looping
