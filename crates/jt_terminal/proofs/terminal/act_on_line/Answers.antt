@@ -1,4 +1,3 @@
-use Rattle.std.proofs.Common.{[]}
 use Rattle.jt_terminal_steps.proofs.Keeping.{sound_down}
 use Rattle.jt_terminal.specs.Feeding.{scene}
 use Rattle.jt_terminal.proofs.Lateness.{timed_down}
@@ -12,4 +11,4 @@ pub returns-in-Err-clause-timed : goal.returns-in-Err-clause-timed
 returns-in-Err-clause-timed g c = timed_down c.hear.new.state c.down_after.new.state c.down_after.ensures.state
 
 pub returns-in-Ok-clause-timed : goal.returns-in-Ok-clause-timed
-returns-in-Ok-clause-timed g c = timed_front (scene c.args.stream.now.splitter c.args.assembler.now c.args.state.now (g.V.Vault.holds c.args.vault.now) [] []) (scene c.hear.new.stream.splitter c.hear.new.assembler c.hear.new.state (g.V.Vault.holds c.hear.new.vault) c.hear.new.out c.hear.new.told) c.args.octets.now c.in-Ok.end c.requires.timed c.in-Ok.ensures.ok
+returns-in-Ok-clause-timed g c = timed_front (scene c.args.stream.now.splitter c.args.assembler.now c.args.state.now (g.V.Vault.holds c.args.vault.now) c.new-frames.result c.new-told.result) (scene c.hear.new.stream.splitter c.hear.new.assembler c.hear.new.state (g.V.Vault.holds c.hear.new.vault) c.hear.new.out c.hear.new.told) c.args.octets.now c.in-Ok.end c.requires.timed c.in-Ok.ensures.ok
