@@ -334,21 +334,20 @@ pub fn first_wrong(alloc: Global, edition: Edition, rows: &[(u8, u32, &[u8], &[u
     wrong_row(alloc, &mut terminal, &mut line, &mut read, rows)
 }
 
-/// How many of the places at which the octets may be cut in two leave what is said at them, after these rows.
-pub fn cuts_that_say(
+/// The first place at which the octets, cut in two there, are answered by something else after these rows, or their number.
+pub fn first_wrong_cut(
     alloc: Global,
     edition: Edition,
     rows: &[(u8, u32, &[u8], &[u8])],
     given: &[u8],
     said: &[u8],
 ) -> usize {
-    let mut same = 0;
     for cut in 0..given.len() {
-        if cut_says(alloc, edition, rows, &given[..cut], &given[cut..], said) {
-            same += 1;
+        if !cut_says(alloc, edition, rows, &given[..cut], &given[cut..], said) {
+            return cut;
         }
     }
-    same
+    given.len()
 }
 
 fn cut_says(
