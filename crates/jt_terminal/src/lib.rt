@@ -2,7 +2,9 @@
 #![tactic(auto)]
 
 mod actions;
+mod feeding;
 mod laws;
+mod line;
 mod loading;
 mod telling;
 mod terminal;
@@ -14,4 +16,5 @@ pub use jt_terminal_rule::{
 };
 pub use jt_terminal_steps::TerminalError;
 pub use laws::law_steps;
+pub use line::TerminalLine;
 pub use terminal::Terminal;

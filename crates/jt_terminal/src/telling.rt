@@ -1,12 +1,14 @@
 //! Which unit's acceptance a message tells.
 
-ghost use Rattle.std.specs.Prelude.{◌≡◌};
+ghost use Rattle.std.specs.Prelude.{◌≡◌, ◌++◌, OnErr, OnOk};
+ghost use Rattle.std.specs.Option.{option_to_list};
 ghost use Rattle.jt_terminal_rule.specs.Rule as rule;
 
 use jt_codec::Message;
 use jt_store::Unit;
 use jt_terminal_rule::{Acknowledgement, Queue, State};
 use jt_terminal_steps::{is_acceptance, names};
+use jt_value::{Memory, Seq};
 
 // How many units stand before the first of those sent on this line that the response names.
 fn first_named(ack: Acknowledgement, sent: usize, units: &Queue<Unit>) -> Option<u64>
@@ -45,5 +47,16 @@ pub(crate) fn told_by(state: &State, message: &Message) -> Option<u64>
             }
         }
         _ => None,
+    }
+}
+
+// Puts it behind those told before.
+pub(crate) fn tell(state: &State, message: &Message, told: &mut Seq<u64>) -> Result<(), Memory>
+    ensures ok { OnOk result (told.new ≡ told.old ++ option_to_list (rule.told state.now (rule.response_in message.now))) }
+    ensures err { OnErr result (told.new ≡ told.old) }
+{
+    match told_by(state, message) {
+        Some(older) => told.push(older),
+        None => Ok(()),
     }
 }

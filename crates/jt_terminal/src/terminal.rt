@@ -1,13 +1,14 @@
 //! A terminal over a vault.
 
-ghost use Rattle.std.specs.Prelude.{ℕ, ◌≡◌, ◌≤◌, ◌<◌, ◌^◌, ◌↔◌, false, Bool, IfErr, IfOk, IsErrOf, IsOk, IsTrue, None, OnErr, OnOk, Some, length};
+ghost use Rattle.std.specs.Prelude.{ℕ, [], ◌+◌, ◌≡◌, ◌≤◌, ◌<◌, ◌^◌, ◌↔◌, false, Bool, IfErr, IfOk, IsErrOf, IsOk, IsTrue, None, OnErr, OnOk, Some, length};
 ghost use Rattle.std.specs.Option.{option_to_list};
 ghost use Rattle.jt_store.specs.Tables.{HasCause, IsSteady, Rose, Told};
 ghost use Rattle.jt_store.specs.Vaults.{Held, Notes, Records, settled};
 ghost use Rattle.jt_terminal_rule.specs.Messages.{AreSettings};
 ghost use Rattle.jt_terminal_rule.specs.Rule as rule;
+ghost use Rattle.jt_terminal.specs.Feeding.{HasFedFront, WasCut, scene};
 ghost use Rattle.jt_terminal_steps.specs.AfterError.{AllTablesOrNone, AreSameParams, CutLists, lists_of, sets_params};
-ghost use Rattle.jt_terminal_steps.specs.Running.{Counts, CutShort, IsDone, IsDown, IsEvent, IsRefused, IsSound, IsStarted, Outside, Ran, TerminalValue, holds_after, time_after};
+ghost use Rattle.jt_terminal_steps.specs.Running.{Counts, CutShort, IsDone, IsDown, IsEvent, IsRefused, IsSame, IsSound, IsStarted, Outside, Ran, TerminalValue, holds_after, time_after};
 ghost use Rattle.jt_terminal_steps.specs.declared.error.TerminalError.TheVariants.{Store};
 ghost use Rattle.jt_terminal_rule.specs.declared.state.Event.TheVariants.{Lost, Tick};
 ghost use Rattle.jt_terminal_rule.specs.declared.state.GiveUp.TheVariants.{TimedOut};
@@ -16,12 +17,15 @@ ghost use Rattle.jt_terminal_rule.specs.Waits.{IsLate, IsTimed};
 ghost use Rattle.std.specs.FinMap.{empty};
 
 use crate::actions::Actions;
+use crate::feeding::hear;
 use crate::loading::{look_at_fixes, look_at_serials};
 use crate::telling::told_by;
 use jt_params::ParamTable;
 use jt_position::Fix;
 use jt_regions::RegionTable;
 use jt_store::{Loaded, StoreError, Vault};
+use jt_stream::Stream;
+use jt_subpacket::Assembler;
 use jt_terminal_answers::first_params;
 use jt_terminal_rule::{Event, GiveUp, Phase, Queue, Settings, State, Timing, Wait, lose, opened};
 use jt_terminal_steps::{TerminalError, beaten, received, ticked};
@@ -198,6 +202,44 @@ fn act<V: Vault>(
     }
 }
 
+// What a terminal does at octets of its line: what it hears, and after an error no line.
+fn act_on_line<V: Vault>(
+    alloc: Global,
+    vault: &mut V,
+    state: &mut State,
+    assembler: &mut Assembler,
+    stream: &mut Stream,
+    octets: &[u8],
+) -> Result<Actions, TerminalError>
+    requires short { stream.old.splitter.place + length octets.now < 2 ^ 63 }
+    requires sound { IsSound (V.holds vault.old) state.old }
+    requires timed { IsTimed state.old }
+    ensures ok { IfOk result (λ actions. HasFedFront (scene stream.old.splitter assembler.old state.old (V.holds vault.old) [] []) (scene stream.new.splitter assembler.new state.new (V.holds vault.new) actions.frames actions.told) octets.now actions.end) }
+    ensures place { stream.new.splitter.place ≤ stream.old.splitter.place + length octets.now }
+    ensures err { OnErr result (WasCut (scene stream.old.splitter assembler.old state.old (V.holds vault.old) [] []) stream.new.splitter (V.holds vault.new) octets.now) }
+    ensures down { OnErr result (IsDown state.new) }
+    ensures sound { IsSound (V.holds vault.new) state.new }
+    ensures timed { IsTimed state.new }
+    ensures same { IsSame state.old state.new }
+    ensures outside { Outside (V.faults vault.old) (V.faults vault.new) (V.limit vault.old) (V.limit vault.new) (V.may_fail vault.old) (V.may_fail vault.new) result }
+{
+    let mut frames = Seq::new(alloc);
+    let mut told = Seq::new(alloc);
+    match hear(
+        alloc,
+        vault,
+        state,
+        &mut frames,
+        &mut told,
+        assembler,
+        stream,
+        octets,
+    ) {
+        Ok(end) => Ok(Actions { frames, end, told }),
+        Err(trouble) => Err(down_after(state, trouble)),
+    }
+}
+
 // Whether no unit and no fix is left.
 fn is_done(state: &State) -> bool
     ensures { IsTrue result ↔ IsDone state.now }
@@ -313,6 +355,33 @@ impl<V: Vault> Terminal<V> {
         ensures outside { Outside (V.faults self.old.vault) (V.faults self.new.vault) (V.limit self.old.vault) (V.limit self.new.vault) (V.may_fail self.old.vault) (V.may_fail self.new.vault) result }
     {
         act(alloc, &mut self.vault, &mut self.state, &event)
+    }
+
+    // Does what the messages of octets of its line ask.
+    pub(crate) fn hear(
+        &mut self,
+        alloc: Global,
+        assembler: &mut Assembler,
+        stream: &mut Stream,
+        octets: &[u8],
+    ) -> Result<Actions, TerminalError>
+        requires { stream.old.splitter.place + length octets.now < 2 ^ 63 }
+        ensures ok { IfOk result (λ actions. HasFedFront (scene stream.old.splitter assembler.old self.old.state (V.holds self.old.vault) [] []) (scene stream.new.splitter assembler.new self.new.state (V.holds self.new.vault) actions.frames actions.told) octets.now actions.end) }
+        ensures place { stream.new.splitter.place ≤ stream.old.splitter.place + length octets.now }
+        ensures err { OnErr result (WasCut (scene stream.old.splitter assembler.old self.old.state (V.holds self.old.vault) [] []) stream.new.splitter (V.holds self.new.vault) octets.now) }
+        ensures down { OnErr result (IsDown self.new.state) }
+        ensures sound { IsSound (V.holds self.new.vault) self.new.state }
+        ensures same { IsSame self.old.state self.new.state }
+        ensures outside { Outside (V.faults self.old.vault) (V.faults self.new.vault) (V.limit self.old.vault) (V.limit self.new.vault) (V.may_fail self.old.vault) (V.may_fail self.new.vault) result }
+    {
+        act_on_line(
+            alloc,
+            &mut self.vault,
+            &mut self.state,
+            assembler,
+            stream,
+            octets,
+        )
     }
 
     /// Whether every recorded fix is accepted.

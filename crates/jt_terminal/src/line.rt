@@ -1,0 +1,82 @@
+//! A terminal's end of a connection.
+
+ghost use Rattle.std.specs.Prelude.{◌≡◌, ℕ, ◌≤◌, ◌<◌, ◌+◌, ◌^◌, ◌++◌, List, [], None, IfOk, OnErr, OnOk, length};
+ghost use Rattle.jt_terminal_rule.specs.Rule as rule;
+ghost use Rattle.jt_terminal.specs.Line.{StandsForLine, fed, told_at};
+ghost use Rattle.jt_terminal_steps.specs.Running.{CutShort, IsDown, IsSound, Outside, holds_after};
+
+use crate::actions::Actions;
+use crate::feeding::hear;
+use crate::terminal::Terminal;
+use jt_store::Vault;
+use jt_stream::{Stream, law_front};
+use jt_subpacket::Assembler;
+use jt_terminal_steps::TerminalError;
+use jt_value::Seq;
+use std::alloc::Global;
+use std::marker::Model;
+
+/// The terminal's end of one connection: it turns the platform's octets into the messages that the terminal hears.
+#[derive(Drop)]
+pub struct TerminalLine {
+    stream: Stream,
+    assembler: Assembler,
+}
+
+impl Model for TerminalLine {
+    ghost use Rattle.std.specs.Coded.{codes};
+    ghost use Rattle.jt_subpacket.specs.Stored.{partial_code};
+    ghost use Rattle.jt_terminal.specs.Line.{LineValue};
+
+    ghost Value = { LineValue };
+
+    ghost coded = { Prim.hlevel (codes, partial_code) };
+
+    ghost view = { λ line. record { stream = line.stream.splitter; partial = line.assembler } };
+}
+
+impl TerminalLine {
+    /// The beginning of a connection, which takes no memory.
+    pub fn new(alloc: Global) -> TerminalLine
+        ensures stands { StandsForLine result [] }
+        ensures place { result.stream.place ≡ 0 }
+    {
+        TerminalLine {
+            stream: Stream::new(),
+            assembler: Assembler::new(alloc),
+        }
+    }
+
+    /// Hands the terminal the connection's next octets, of which there are fewer than 2^63 with those before: it does what its
+    /// rule says of the messages of their items, packets and bodies, in order, over all octets or up to the message at which
+    /// it gives up. Refused frames are passed over.
+    ///
+    /// Store comes only where the vault's count of faults rose in this call. After an error the vault holds what some first
+    /// changes of what the octets ask make of it, and the terminal has no line.
+    pub fn feed<V: Vault>(
+        &mut self,
+        alloc: Global,
+        terminal: &mut Terminal<V>,
+        octets: &[u8],
+    ) -> Result<Actions, TerminalError>
+        requires { self.old.stream.place + length octets.now < 2 ^ 63 }
+        ensures state { (seen : List ℕ) → StandsForLine self.old seen → OnOk result (terminal.new.state ≡ (fed terminal.old.state seen octets.now).state) }
+        ensures vault { (seen : List ℕ) → StandsForLine self.old seen → OnOk result (V.holds terminal.new.vault ≡ holds_after (fed terminal.old.state seen octets.now).steps (V.holds terminal.old.vault)) }
+        ensures frames { (seen : List ℕ) → StandsForLine self.old seen → IfOk result (λ actions. actions.frames ≡ rule.sends terminal.old.state.settings (fed terminal.old.state seen octets.now).steps) }
+        ensures end { (seen : List ℕ) → StandsForLine self.old seen → IfOk result (λ actions. actions.end ≡ (fed terminal.old.state seen octets.now).end) }
+        ensures told { (seen : List ℕ) → StandsForLine self.old seen → IfOk result (λ actions. actions.told ≡ told_at terminal.old.state seen octets.now) }
+        // Unless the terminal gave up, the line now stands for these octets too.
+        ensures stands { (seen : List ℕ) → StandsForLine self.old seen → IfOk result (λ actions. actions.end ≡ None → StandsForLine self.new (seen ++ octets.now)) }
+        ensures place { self.new.stream.place ≤ self.old.stream.place + length octets.now }
+        ensures cut { (seen : List ℕ) → StandsForLine self.old seen → OnErr result (CutShort (fed terminal.old.state seen octets.now).steps (V.holds terminal.old.vault) (V.holds terminal.new.vault)) }
+        ensures down { OnErr result (IsDown terminal.new.state) }
+        ensures sound { IsSound (V.holds terminal.new.vault) terminal.new.state }
+        ensures settings { terminal.new.state.settings ≡ terminal.old.state.settings }
+        ensures time { terminal.new.state.time ≡ terminal.old.state.time }
+        ensures last { terminal.new.state.last ≡ terminal.old.state.last }
+        ensures outside { Outside (V.faults terminal.old.vault) (V.faults terminal.new.vault) (V.limit terminal.old.vault) (V.limit terminal.new.vault) (V.may_fail terminal.old.vault) (V.may_fail terminal.new.vault) result }
+    {
+        law_front();
+        terminal.hear(alloc, &mut self.assembler, &mut self.stream, octets)
+    }
+}
