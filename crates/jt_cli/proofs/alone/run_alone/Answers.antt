@@ -1,7 +1,7 @@
 use Rattle.std.proofs.Common.{ap, ◌∙◌, map, string_bytes}
 use Rattle.jt_cli.specs.Words.{words_of_task}
 use Rattle.jt_cli.specs.declared.task.Task.TheVariants.{Tell, Rehearse}
-use Rattle.jt_cli.proofs.top.run.Goals as goal
+use Rattle.jt_cli.proofs.alone.run_alone.Goals as goal
 
 pub returns-clause-runs : goal.returns-clause-runs
 unfolding words_of_task
