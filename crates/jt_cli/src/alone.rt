@@ -9,6 +9,7 @@ ghost use Rattle.jt_cli.specs.Usage.{usage};
 ghost use Rattle.jt_view.specs.Report.{answer_of};
 ghost use Rattle.jt_cli.specs.Acting.{Acts};
 ghost use Rattle.jt_cli.specs.Script.{RunsScript};
+ghost use Rattle.jt_cli.specs.Statuses.{IsAlone};
 ghost use Rattle.jt_cli.specs.Words.{words_of, words_of_task};
 ghost use Rattle.jt_cli.specs.declared.task.Task.{Task};
 ghost use Rattle.jt_world.specs.Claim.{Kept};
@@ -60,6 +61,7 @@ fn act<S: Source, K: Sink>(
     ensures acts { Acts task (S.left source.old) (S.left source.new) (K.written sink.old) (K.written sink.new) result }
     ensures nothing_read { task ≡ None → source.new ≡ source.old }
     ensures usage_only { result ≡ Status.Usage → task ≡ None }
+    ensures alone { IsAlone result }
     ensures to_the_end { result ≡ Status.Done → IsAtEnd (S.left source.new) }
     ensures read_fault { result ≡ Status.ReadFault → Rose (S.faults source.old) (S.faults source.new) }
     ensures write_fault { result ≡ Status.WriteFault → Rose (K.faults sink.old) (K.faults sink.new) }
@@ -137,6 +139,7 @@ pub fn run_alone<R, S: Source, K: Sink, D, L, C, P, V>(
     ensures to_the_end { result.status ≡ Status.Done → IsAtEnd (S.left result.outside.source) }
     ensures read_fault { result.status ≡ Status.ReadFault → Rose (S.faults outside.source) (S.faults result.outside.source) }
     ensures write_fault { result.status ≡ Status.WriteFault → Rose (K.faults outside.sink) (K.faults result.outside.sink) }
+    ensures alone { IsAlone result.status }
     // No link is served, and all but the source and the sink stays.
     ensures no_link { (result.reports ≡ []) × (result.history ≡ []) }
     ensures rest { (result.outside.dial ≡ outside.dial) × (result.outside.listen ≡ outside.listen) × (result.outside.clock ≡ outside.clock)

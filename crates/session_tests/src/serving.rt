@@ -159,3 +159,16 @@ fn a_quiet_link(rt: HostRuntime) -> Result<(), Fail> {
     assert_eq!(rt; report, wanted);
     Ok(())
 }
+
+// The second call, a read, fails: so the first read has taken 4,096 octets.
+#[test]
+fn a_read_takes_at_most_a_piece(rt: HostRuntime) -> Result<(), Fail> {
+    let zeros = vec![in rt.alloc(); 0u8; 5000]?;
+    let mut link = link(rt.alloc(), zeros.as_slice(), 2)?;
+    let (report, entries) = served(&rt, rt.alloc(), &mut link, MOST).ok_or("memory")?;
+    assert_eq!(rt; report.end, End::LinkFault);
+    assert_eq!(rt; report.read, 4096);
+    assert_eq!(rt; report.written, 0);
+    assert_eq!(rt; entries, 1);
+    Ok(())
+}
