@@ -36,7 +36,7 @@ fn words_of(alloc: Global, text: &str) -> Result<Vec<String>, Memory> {
 }
 
 // Runs words over the fleet of a text and a listener.
-fn ran<R: Threads + Wait + Sync, L: Listen>(
+fn ran<R: Threads + Wait + Sync, L: Listen + Drop>(
     rt: &R,
     alloc: Global,
     words: &str,
