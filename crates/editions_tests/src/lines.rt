@@ -1,6 +1,6 @@
 ghost use Rattle.std.specs.Prelude.{◌<◌, ◌≤◌, length};
 
-use jt_cli::{Outside, Status, run};
+use jt_cli::{Outside, Status, run_alone};
 use jt_io::{MemSink, MemSource};
 use jt_value::{Memory, Octets, Seq};
 use std::alloc::Global;
@@ -12,8 +12,13 @@ fn is_viewed(alloc: Global, octets: &[u8], status: Status, written: &[u8]) -> Re
     let outside = Outside {
         source: MemSource::new(Octets::from_vec(octets.to_vec(alloc)?), Seq::new(alloc)),
         sink: MemSink::new(alloc, 8192, Seq::new(alloc))?,
+        dial: (),
+        listen: (),
+        clock: (),
+        keeper: (),
+        vault: (),
     };
-    let ended = run(&(), alloc, &words, outside);
+    let ended = run_alone(&(), alloc, &words, outside);
     Ok(ended.status == status && ended.outside.sink.octets() == written)
 }
 

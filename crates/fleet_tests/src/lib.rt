@@ -6,4 +6,6 @@ mod fleets;
 #[cfg(test)]
 mod lines;
 #[cfg(test)]
+mod rows;
+#[cfg(test)]
 mod words;

@@ -1,11 +1,20 @@
-//! The program `jt808`: it makes the real source and sink, and leaves all else to `jt_cli::run`.
+//! The program `jt808`: it makes the real objects, and leaves all else to `jt_cli::run`.
 #![tactic(auto)]
 
 use jt_cli::{Outside, Status, run};
 use jt_io::{StdSink, StdSource};
+use jt_store::{MemKeeper, MemVault};
+use jt_tcp::{StdClock, TcpDial, TcpListen};
+use jt_value::Seq;
+use std::alloc::AllocError;
 use std::env::Env;
 use std::process::ExitCode;
 use std::{env, io};
+
+// How many rows a phone may have, and how many fixes may wait, in the stores (this project's own limits).
+const ROW_LIMIT: u64 = 1_000_000_000;
+
+const FIX_LIMIT: u64 = 100_000;
 
 // The words after the program's name. A word that is not UTF-8 makes the command line faulty, as no words do.
 fn words<R: Env + AllocGlobal>(rt: &R) -> io::Result<Vec<String>> {
@@ -22,16 +31,38 @@ fn words<R: Env + AllocGlobal>(rt: &R) -> io::Result<Vec<String>> {
     }
 }
 
+// Who gives links both ways, and the clock.
+#[derive(Drop)]
+struct Links {
+    dial: TcpDial<HostRuntime>,
+    listen: TcpListen<HostRuntime>,
+    clock: StdClock<HostRuntime>,
+}
+
+fn make_links(rt: &HostRuntime) -> Result<Links, AllocError> {
+    Ok(Links {
+        dial: TcpDial::new(rt.clone()?),
+        listen: TcpListen::new(rt.clone()?),
+        clock: StdClock::new(rt.clone()?),
+    })
+}
+
 fn main(rt: HostRuntime) -> ExitCode {
-    let status = match words(&rt) {
-        Ok(words) => {
+    let alloc = rt.alloc();
+    let status = match (words(&rt), make_links(&rt)) {
+        (Ok(words), Ok(links)) => {
             let outside = Outside {
                 source: StdSource::new(rt.stdin()),
                 sink: StdSink::new(rt.stdout()),
+                dial: links.dial,
+                listen: links.listen,
+                clock: links.clock,
+                keeper: MemKeeper::new(alloc, ROW_LIMIT, Seq::new(alloc)),
+                vault: MemVault::new(alloc, FIX_LIMIT, Seq::new(alloc)),
             };
-            run(&rt, rt.alloc(), &words, outside).status
+            run(&rt, alloc, &words, outside).status
         }
-        Err(_) => Status::Memory,
+        _ => Status::Memory,
     };
     ExitCode::from(status.number())
 }

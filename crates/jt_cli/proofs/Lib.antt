@@ -1,3 +1,4 @@
 pub mod EqualWords
 pub mod ScriptRuns
 pub mod TaskWords
+pub mod StatusesOfRuns

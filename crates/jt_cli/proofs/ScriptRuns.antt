@@ -1,5 +1,5 @@
 -- A rehearsal, as a run of the program.
-use Rattle.std.proofs.Common.{◌≡◌, ◌⊎◌, ℕ, List, Option, Some, None, IfSome, refl, ap, inl, inr, ◌++◌, sym, subst, ◌∙◌, append-nil}
+use Rattle.std.proofs.Common.{◌≡◌, ◌⊎◌, ℕ, List, Option, Some, None, IfSome, refl, ap, inl, inr}
 use Rattle.std.specs.Io.KnownBytes.{Appends}
 use Rattle.jt_world.specs.declared.rehearsing.Rehearsed.{Rehearsed}
 use Rattle.jt_world.specs.declared.rehearsing.Rehearsed.TheVariants as rehearsed
@@ -7,7 +7,7 @@ use Rattle.jt_world.specs.Claim.{Kept}
 use Rattle.jt_world.specs.Rehearsal.{Rehearsal, rehearsal, rehearsal_text, world_of, script_status, script_reply}
 use Rattle.jt_world.specs.Rehearsing.{Rehearses, ending}
 use Rattle.jt_world.specs.Rehearsing as rehearsing
-use Rattle.jt_runner.specs.Answer.{IsFault, Runs}
+use Rattle.jt_runner.specs.Answer.{IsFault}
 use Rattle.jt_cli.specs.Script.{RunsScript}
 use Rattle.jt_runner.specs.declared.status.Status.{Status}
 use Rattle.jt_runner.specs.declared.status.Status.TheVariants as status

@@ -5,3 +5,4 @@ pub mod Acting
 pub mod Script
 pub mod Usage
 pub mod Words
+pub mod Statuses

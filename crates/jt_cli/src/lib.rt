@@ -1,16 +1,20 @@
 //! The command line: what each list of words does to the source and the sink.
 #![tactic(auto)]
 
+mod alone;
+mod outside;
 mod playing;
 mod task;
 mod top;
 mod usage;
 
+pub use alone::run_alone;
 pub use jt_runner::Status;
 pub use jt_text::{refusal_line, view_line};
 pub use jt_view::{
     Closing, Command, Encoding, Report, law_octets_of_front, law_wrong_stays, report,
 };
+pub use outside::{Ended, Outside};
 pub use playing::play;
 pub use task::Task;
-pub use top::{Ended, Outside, run};
+pub use top::run;

@@ -8,6 +8,7 @@ ghost use Rattle.jt_world.specs.Rehearsal.{script_reply, world_of};
 ghost use Rattle.jt_world.specs.Rehearsing.{IsHeard};
 ghost use Rattle.jt_runner.specs.Answer.{IsFault, PrintsTaken, ReadsNoFurther, StopsAtWrite};
 ghost use Rattle.jt_cli.specs.Script.{RunsScript};
+ghost use Rattle.jt_cli.specs.Statuses.{IsAlone};
 
 use jt_io::{Sink, Source};
 use jt_runner::Status;
@@ -27,6 +28,7 @@ pub fn play<S: Source, K: Sink>(alloc: Global, source: &mut S, sink: &mut K) -> 
     ensures read_fault { result ≡ Status.ReadFault → Rose (S.faults source.old) (S.faults source.new) }
     ensures write_fault { result ≡ Status.WriteFault → Rose (K.faults sink.old) (K.faults sink.new) }
     ensures not_usage { result ≢ Status.Usage }
+    ensures alone { IsAlone result }
 {
     match rehearse(alloc, source, sink) {
         Rehearsed::Done => Status::Done,

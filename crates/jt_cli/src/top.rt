@@ -1,99 +1,134 @@
 //! All that the program does.
 
-ghost use Rattle.std.specs.Prelude.{◌≡◌, ◌≢◌, ◌⊎◌, ◌^◌, ℕ, List, None, map, string_bytes, IfSome};
+ghost use Rattle.std.specs.Prelude.{◌≡◌, ◌≢◌, ◌≤◌, ◌⊎◌, ◌^◌, ℕ, List, [], None, Option, map, string_bytes, IfSome};
 ghost use Rattle.std.specs.Io.KnownBytes.{IsAtEnd, Appends};
 ghost use Rattle.jt_io.specs.Count.{Rose};
+ghost use Rattle.jt_platform.specs.History.{newest, tables_after};
+ghost use Rattle.jt_platform.specs.declared.desk.HubOpening.{HubOpening};
+ghost use Rattle.jt_platform_command.specs.Platform.{first_limit};
+ghost use Rattle.jt_platform_command.specs.Running.{RunsPlatform, scene_of};
 ghost use Rattle.jt_runner.specs.Answer.{Answers, IsFault, Runs, ReadsNoFurther, PrintsTaken, StopsAtWrite};
 ghost use Rattle.jt_view.specs.Answer.{IsOpen};
-ghost use Rattle.jt_cli.specs.Usage.{usage};
 ghost use Rattle.jt_view.specs.Report.{answer_of};
-ghost use Rattle.jt_cli.specs.Acting.{Acts};
-ghost use Rattle.jt_cli.specs.Script.{RunsScript};
-ghost use Rattle.jt_cli.specs.Words.{words_of, words_of_task};
-ghost use Rattle.jt_cli.specs.declared.task.Task.{Task};
+ghost use Rattle.jt_view.specs.declared.command.Command.{Command};
+ghost use Rattle.jt_words.specs.Platform.{PlatformWords as AreWords};
 ghost use Rattle.jt_world.specs.Claim.{Kept};
 ghost use Rattle.jt_world.specs.Rehearsal.{script_reply, world_of};
 ghost use Rattle.jt_world.specs.Rehearsing.{IsHeard};
-ghost use Rattle.jt_view.specs.declared.command.Command.{Command};
+ghost use Rattle.jt_cli.specs.Script.{RunsScript};
+ghost use Rattle.jt_cli.specs.Usage.{usage};
+ghost use Rattle.jt_cli.specs.Words.{words_of, words_of_task};
+ghost use Rattle.jt_cli.specs.declared.task.Task.{Task};
+ghost use Rattle.jt_cli.specs.declared.task.Task.TheVariants.{Rehearse};
 
-use crate::playing::play;
-use crate::task::Task;
-use crate::usage::push_usage_line;
-use jt_io::{Sink, Source, write_all};
+use crate::alone::run_alone;
+use crate::outside::{Ended, Outside};
+use jt_io::{Sink, Source};
+use jt_link::Listen;
+use jt_platform_command::{PlatformRun, platform};
 use jt_runner::Status;
-use jt_view::report;
+use jt_store::Keeper;
+use jt_words::PlatformWords;
 use std::alloc::Global;
+use std::sync::Wait;
+use std::thread::Threads;
 
-/// What the program is run over.
-#[derive(Drop)]
-pub struct Outside<S, K> {
-    pub source: S,
-    pub sink: K,
-}
-
-/// How a run ended, and what it was run over, given back.
-#[derive(Drop)]
-pub struct Ended<S, K> {
-    pub status: Status,
-    pub outside: Outside<S, K>,
-}
-
-// How many octets of one input are reported at most.
-const MOST: u64 = 1 << 40;
-
-// The answer for words that are no command.
-#[tactic(auto, unfolding(crate::specs::Usage::usage))]
-fn refuse<K: Sink>(alloc: Global, sink: &mut K) -> Status
-    ensures answer { Answers result usage (K.written sink.old) (K.written sink.new) }
-    ensures status { (result ≡ Status.Usage) ⊎ IsFault result }
-    ensures not_read_fault { result ≢ Status.ReadFault }
-    ensures write_fault { result ≡ Status.WriteFault → Rose (K.faults sink.old) (K.faults sink.new) }
-{
-    let mut line = String::new(alloc);
-    match push_usage_line(&mut line) {
-        Ok(()) => {
-            if write_all(sink, line.as_bytes()) {
-                Status::Usage
-            } else {
-                Status::WriteFault
-            }
-        }
-        Err(_) => Status::Memory,
-    }
-}
-
-// Does a task, or answers that there is none.
-fn act<S: Source, K: Sink>(
+// Serves links, and leaves all that `platform` does not need as it is.
+fn run_platform<
+    R: Threads + Wait + Sync,
+    S: Source,
+    K: Sink,
+    D,
+    L: Listen,
+    C,
+    P: Keeper + Send + Drop,
+    V,
+>(
+    rt: &R,
     alloc: Global,
-    source: &mut S,
-    sink: &mut K,
-    task: Option<Task>,
-) -> Status
-    ensures acts { Acts task (S.left source.old) (S.left source.new) (K.written sink.old) (K.written sink.new) result }
-    ensures nothing_read { task ≡ None → source.new ≡ source.old }
-    ensures usage_only { result ≡ Status.Usage → task ≡ None }
-    ensures to_the_end { result ≡ Status.Done → IsAtEnd (S.left source.new) }
-    ensures read_fault { result ≡ Status.ReadFault → Rose (S.faults source.old) (S.faults source.new) }
-    ensures write_fault { result ≡ Status.WriteFault → Rose (K.faults sink.old) (K.faults sink.new) }
+    words: PlatformWords,
+    outside: Outside<S, K, D, L, C, P, V>,
+) -> Ended<S, K, D, L, C, P, V>
+where
+    L::Link: Send,
+    requires sessions { 1 ≤ words.sessions }
+    ensures runs { RunsPlatform (Option (HubOpening P)) words.sessions (S.left outside.source) (S.left result.outside.source)
+        (scene_of (L.pool outside.listen) (L.faults outside.listen) (P.tables outside.keeper) (P.limit outside.keeper) (P.faults outside.keeper))
+        (scene_of (L.pool result.outside.listen) (L.faults result.outside.listen) (P.tables result.outside.keeper) (P.limit result.outside.keeper) (P.faults result.outside.keeper))
+        (K.written outside.sink) (K.written result.outside.sink) result.reports result.history result.status }
+    ensures keeper { (P.tables result.outside.keeper ≡ tables_after (P.tables outside.keeper) (newest result.history)) × (P.limit result.outside.keeper ≡ P.limit outside.keeper) }
+    ensures rest { (result.outside.dial ≡ outside.dial) × (result.outside.clock ≡ outside.clock) × (result.outside.vault ≡ outside.vault) }
+    ensures read_fault { result.status ≡ Status.ReadFault → Rose (S.faults outside.source) (S.faults result.outside.source) }
+    ensures write_fault { result.status ≡ Status.WriteFault → Rose (K.faults outside.sink) (K.faults result.outside.sink) }
+    ensures net_fault { result.status ≡ Status.NetFault → Rose (L.faults outside.listen) (L.faults result.outside.listen) }
+    ensures store_fault { result.status ≡ Status.StoreFault → Rose (P.faults outside.keeper) (P.faults result.outside.keeper) ⊎ (first_limit result.reports ≢ None) }
+    ensures to_the_end { result.status ≡ Status.Done → IsAtEnd (S.left result.outside.source) }
+    ensures not_usage { result.status ≢ Status.Usage }
 {
-    match task {
-        Some(Task::Tell(command)) => report(alloc, source, sink, command, MOST),
-        Some(Task::Rehearse) => play(alloc, source, sink),
-        None => refuse(alloc, sink),
+    let Outside {
+        mut source,
+        mut sink,
+        dial,
+        mut listen,
+        clock,
+        keeper,
+        vault,
+    } = outside;
+    let ran = platform(
+        rt,
+        alloc,
+        &mut source,
+        &mut sink,
+        &mut listen,
+        keeper,
+        words,
+    );
+    let PlatformRun {
+        status,
+        keeper,
+        reports,
+        history,
+    } = ran;
+    Ended {
+        status,
+        outside: Outside {
+            source,
+            sink,
+            dial,
+            listen,
+            clock,
+            keeper,
+            vault,
+        },
+        reports,
+        history,
     }
 }
 
-/// Does what the words say, which are those after the program's name. The runtime is for commands that are to come.
+/// Does what the words say, which are those after the program's name.
 ///
-/// The commands are `view` and `check`, each with or without `--hex`, and `rehearse`. All other words are answered the usage
-/// line, and then nothing is read. Of the source at most 2^40 octets are reported, and of a script at most 10,000,000 lines
-/// of at most 4,096 octets are heard.
-pub fn run<R, S: Source, K: Sink>(
-    _rt: &R,
+/// The commands are `view` and `check`, each with or without `--hex`, `rehearse`, and `platform` with its port and its number of
+/// sessions. All other words are answered the usage line, and then nothing is read. Of the source at most 2^40 octets are
+/// reported, and of a script or of a fleet at most 10,000,000 lines of at most 4,096 octets are heard.
+///
+/// `platform` may wait for peers; its promises hold where it returns. All other words are left to `run_alone`.
+pub fn run<
+    R: Threads + Wait + Sync,
+    S: Source,
+    K: Sink,
+    D,
+    L: Listen,
+    C,
+    P: Keeper + Send + Drop,
+    V,
+>(
+    rt: &R,
     alloc: Global,
     words: &Vec<String>,
-    outside: Outside<S, K>,
-) -> Ended<S, K>
+    outside: Outside<S, K, D, L, C, P, V>,
+) -> Ended<S, K, D, L, C, P, V>
+where
+    L::Link: Send,
     // The words are those of a command: the octets that were taken, what was written of the answer to them, and that it
     // is the answer to the whole source, whatever else the source has.
     ensures runs { (command : Command) → map string_bytes words.now.items ≡ words_of command →
@@ -119,44 +154,54 @@ pub fn run<R, S: Source, K: Sink>(
 
     // The words are those of a rehearsal: the octets of the script that were taken, what was written of the answer to them,
     // that it is the answer to the whole script, whatever else it has, and that the claim of delivery holds of its world.
-    ensures rehearses { map string_bytes words.now.items ≡ words_of_task Task.Rehearse →
+    ensures rehearses { map string_bytes words.now.items ≡ words_of_task Rehearse →
         RunsScript (S.left outside.source) (S.left result.outside.source)
         (K.written outside.sink) (K.written result.outside.sink) result.status }
     // So, where the source tells its octets, and no fault came:
-    ensures rehearses_whole { map string_bytes words.now.items ≡ words_of_task Task.Rehearse →
+    ensures rehearses_whole { map string_bytes words.now.items ≡ words_of_task Rehearse →
         IfSome (S.left outside.source) (λ script. IsFault result.status ⊎ ((result.status ≡ (script_reply script).status)
         × Appends (K.written outside.sink) (K.written result.outside.sink) (script_reply script).text × Kept (world_of script))) }
     // The script is read no further than the piece of at most 2^14 octets that has its first bad line.
-    ensures rehearses_no_further { map string_bytes words.now.items ≡ words_of_task Task.Rehearse →
+    ensures rehearses_no_further { map string_bytes words.now.items ≡ words_of_task Rehearse →
         ReadsNoFurther IsHeard (2 ^ 14) (S.left outside.source) (S.left result.outside.source) }
     // What is printed of a piece is written before the next is read.
-    ensures rehearses_prints_taken { map string_bytes words.now.items ≡ words_of_task Task.Rehearse → result.status ≡ Status.ReadFault →
+    ensures rehearses_prints_taken { map string_bytes words.now.items ≡ words_of_task Rehearse → result.status ≡ Status.ReadFault →
         PrintsTaken IsHeard (S.left outside.source) (S.left result.outside.source) (K.written outside.sink) (K.written result.outside.sink) }
     // A write that failed ends the run.
-    ensures rehearses_stops_at_write { map string_bytes words.now.items ≡ words_of_task Task.Rehearse → result.status ≡ Status.WriteFault →
+    ensures rehearses_stops_at_write { map string_bytes words.now.items ≡ words_of_task Rehearse → result.status ≡ Status.WriteFault →
         StopsAtWrite script_reply IsHeard (2 ^ 14) (S.left outside.source) (S.left result.outside.source)
         (K.written outside.sink) (K.written result.outside.sink) }
 
-    // The words are those of no task.
-    ensures usage { ((task : Task) → map string_bytes words.now.items ≢ words_of_task task) →
+    // The words are those of no task, and no words of `platform`.
+    ensures usage { ((task : Task) → map string_bytes words.now.items ≢ words_of_task task) → ((port sessions : ℕ) → AreWords port sessions (map string_bytes words.now.items) → ⊥) →
         Answers result.status usage (K.written outside.sink) (K.written result.outside.sink) }
-    ensures usage_reads_nothing { ((task : Task) → map string_bytes words.now.items ≢ words_of_task task) →
+    ensures usage_reads_nothing { ((task : Task) → map string_bytes words.now.items ≢ words_of_task task) → ((port sessions : ℕ) → AreWords port sessions (map string_bytes words.now.items) → ⊥) →
         result.outside.source ≡ outside.source }
-    ensures usage_no_read_fault { ((task : Task) → map string_bytes words.now.items ≢ words_of_task task) → result.status ≢ Status.ReadFault }
+    ensures usage_no_read_fault { ((task : Task) → map string_bytes words.now.items ≢ words_of_task task) → ((port sessions : ℕ) → AreWords port sessions (map string_bytes words.now.items) → ⊥) → result.status ≢ Status.ReadFault }
     ensures usage_only { result.status ≡ Status.Usage → (task : Task) → map string_bytes words.now.items ≢ words_of_task task }
+    ensures usage_only_so { result.status ≡ Status.Usage → (port sessions : ℕ) → AreWords port sessions (map string_bytes words.now.items) → ⊥ }
 
     ensures to_the_end { result.status ≡ Status.Done → IsAtEnd (S.left result.outside.source) }
     ensures read_fault { result.status ≡ Status.ReadFault → Rose (S.faults outside.source) (S.faults result.outside.source) }
     ensures write_fault { result.status ≡ Status.WriteFault → Rose (K.faults outside.sink) (K.faults result.outside.sink) }
+    // No link is served by any other words, and all but the source and the sink stays.
+    ensures no_link { ((port sessions : ℕ) → AreWords port sessions (map string_bytes words.now.items) → ⊥) →
+        (result.reports ≡ []) × (result.history ≡ []) × (result.outside.listen ≡ outside.listen) × (result.outside.keeper ≡ outside.keeper) }
+    ensures rest { (result.outside.dial ≡ outside.dial) × (result.outside.clock ≡ outside.clock) × (result.outside.vault ≡ outside.vault) }
+
+    // The words are those of `platform`: the octets that were taken, what was written, and what the listener, the keeper, the
+    // reports and the history say of it.
+    ensures platform { (port sessions : ℕ) → AreWords port sessions (map string_bytes words.now.items) →
+        RunsPlatform (Option (HubOpening P)) sessions (S.left outside.source) (S.left result.outside.source)
+        (scene_of (L.pool outside.listen) (L.faults outside.listen) (P.tables outside.keeper) (P.limit outside.keeper) (P.faults outside.keeper))
+        (scene_of (L.pool result.outside.listen) (L.faults result.outside.listen) (P.tables result.outside.keeper) (P.limit result.outside.keeper) (P.faults result.outside.keeper))
+        (K.written outside.sink) (K.written result.outside.sink) result.reports result.history result.status }
+    ensures keeper { (P.tables result.outside.keeper ≡ tables_after (P.tables outside.keeper) (newest result.history)) × (P.limit result.outside.keeper ≡ P.limit outside.keeper) }
+    ensures net_fault { result.status ≡ Status.NetFault → Rose (L.faults outside.listen) (L.faults result.outside.listen) }
+    ensures store_fault { result.status ≡ Status.StoreFault → Rose (P.faults outside.keeper) (P.faults result.outside.keeper) ⊎ (first_limit result.reports ≢ None) }
 {
-    let Outside {
-        mut source,
-        mut sink,
-    } = outside;
-    let task = Task::from_words(words.as_slice());
-    let status = act(alloc, &mut source, &mut sink, task);
-    Ended {
-        status,
-        outside: Outside { source, sink },
+    match PlatformWords::from_words(words.as_slice()) {
+        Some(told) => run_platform(rt, alloc, told, outside),
+        None => run_alone(rt, alloc, words, outside),
     }
 }

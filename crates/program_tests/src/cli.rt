@@ -1,4 +1,6 @@
-use jt_cli::{Command, Encoding, Outside, Report, Status, Task, refusal_line, run, view_line};
+use jt_cli::{
+    Command, Encoding, Outside, Report, Status, Task, refusal_line, run_alone, view_line,
+};
 use jt_codec::read_message;
 use jt_header::read_header;
 use jt_io::{MemSink, MemSource};
@@ -23,7 +25,7 @@ pub(crate) fn outside(
     alloc: Global,
     octets: &[u8],
     failing: (u64, u64),
-) -> Result<Outside<MemSource, MemSink>, Memory> {
+) -> Result<Outside<MemSource, MemSink, (), (), (), (), ()>, Memory> {
     let mut failing_reads = Seq::new(alloc);
     failing_reads.push(failing.0)?;
     let mut failing_writes = Seq::new(alloc);
@@ -31,6 +33,11 @@ pub(crate) fn outside(
     Ok(Outside {
         source: MemSource::new(Octets::from_vec(octets.to_vec(alloc)?), failing_reads),
         sink: MemSink::new(alloc, 8192, failing_writes)?,
+        dial: (),
+        listen: (),
+        clock: (),
+        keeper: (),
+        vault: (),
     })
 }
 
@@ -46,7 +53,7 @@ fn expect(
 ) {
     let words = words_of(alloc, words).expect(rt, "words");
     let outside = outside(alloc, octets, failing).expect(rt, "a source and a sink");
-    let ended = run(&(), alloc, &words, outside);
+    let ended = run_alone(&(), alloc, &words, outside);
     assert_eq!(rt; ended.status, status, "{octets:?}");
     assert_eq!(rt;
         ended.outside.sink.octets(),

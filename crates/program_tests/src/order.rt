@@ -3,7 +3,7 @@
 ghost use Rattle.std.specs.Prelude.{None};
 
 use crate::cli::{outside, words_of};
-use jt_cli::{Outside, Status, run};
+use jt_cli::{Outside, Status, run_alone};
 use jt_io::{Got, Put, Sink, Source};
 use std::alloc::{AllocError, Global};
 use std::cell::Cell;
@@ -24,7 +24,7 @@ fn a_failed_write_ends_the_run(rt: HostRuntime) {
     let script = long_script(alloc).expect(&rt, "a script");
     let words = words_of(alloc, &["rehearse"]).expect(&rt, "words");
     let outside = outside(alloc, script.as_slice(), (0, 1)).expect(&rt, "a source and a sink");
-    let mut ended = run(&(), alloc, &words, outside);
+    let mut ended = run_alone(&(), alloc, &words, outside);
     assert_eq!(&rt; ended.status, Status::WriteFault);
     // One piece of 16,384 octets was read, and no more.
     let mut rest = [0; 16_384];
@@ -85,8 +85,13 @@ fn is_written_first(alloc: Global, words: &Vec<String>, octets: &[u8]) -> bool {
             was_set: false,
         },
         sink: FlagSink { flag: &flag },
+        dial: (),
+        listen: (),
+        clock: (),
+        keeper: (),
+        vault: (),
     };
-    run(&(), alloc, words, outside).outside.source.was_set
+    run_alone(&(), alloc, words, outside).outside.source.was_set
 }
 
 #[test]

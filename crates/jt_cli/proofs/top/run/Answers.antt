@@ -1,37 +1,71 @@
-use Rattle.std.proofs.Common.{ap, ◌∙◌, map, string_bytes}
+use Rattle.std.proofs.Common.{map, string_bytes, sym, subst, ap, ◌∙◌}
+use Rattle.jt_words.specs.Platform.{PlatformWords as AreWords}
+use Rattle.jt_cli.specs.Statuses.{IsAlone}
 use Rattle.jt_cli.specs.Words.{words_of_task}
 use Rattle.jt_cli.specs.declared.task.Task.TheVariants.{Tell, Rehearse}
+use Rattle.jt_cli.proofs.TaskWords.{platform_alone}
 use Rattle.jt_cli.proofs.top.run.Goals as goal
 
-pub returns-clause-runs : goal.returns-clause-runs
+pub returns-in-Some-clause-runs : goal.returns-in-Some-clause-runs
 unfolding words_of_task
-returns-clause-runs g c = λ command words.
-    (rw (c.from_words-task.ensures.that_one (Tell command) (ap (map string_bytes) c.as_slice.ensures.value ∙ words)) at c.act-status.ensures.acts).runs
+returns-in-Some-clause-runs g c = λ command words.
+    absurd (platform_alone _ _ _ c.in-Some.ensures.some (Tell command) (ap (map string_bytes) c.as_slice.ensures.value ∙ words))
 
-pub returns-clause-rehearses : goal.returns-clause-rehearses
-returns-clause-rehearses g c = λ words.
-    (rw (c.from_words-task.ensures.that_one Rehearse (ap (map string_bytes) c.as_slice.ensures.value ∙ words)) at c.act-status.ensures.acts).runs
-
-pub returns-clause-whole : goal.returns-clause-whole
+pub returns-in-Some-clause-whole : goal.returns-in-Some-clause-whole
 unfolding words_of_task
-returns-clause-whole g c = λ command words.
-    (rw (c.from_words-task.ensures.that_one (Tell command) (ap (map string_bytes) c.as_slice.ensures.value ∙ words)) at c.act-status.ensures.acts).whole
+returns-in-Some-clause-whole g c = λ command words.
+    absurd (platform_alone _ _ _ c.in-Some.ensures.some (Tell command) (ap (map string_bytes) c.as_slice.ensures.value ∙ words))
 
-pub returns-clause-no_further : goal.returns-clause-no_further
+pub returns-in-Some-clause-no_further : goal.returns-in-Some-clause-no_further
 unfolding words_of_task
-returns-clause-no_further g c = λ command words.
-    (rw (c.from_words-task.ensures.that_one (Tell command) (ap (map string_bytes) c.as_slice.ensures.value ∙ words)) at c.act-status.ensures.acts).no_further
+returns-in-Some-clause-no_further g c = λ command words.
+    absurd (platform_alone _ _ _ c.in-Some.ensures.some (Tell command) (ap (map string_bytes) c.as_slice.ensures.value ∙ words))
 
-pub returns-clause-prints_taken : goal.returns-clause-prints_taken
+pub returns-in-Some-clause-prints_taken : goal.returns-in-Some-clause-prints_taken
 unfolding words_of_task
-returns-clause-prints_taken g c = λ command words.
-    (rw (c.from_words-task.ensures.that_one (Tell command) (ap (map string_bytes) c.as_slice.ensures.value ∙ words)) at c.act-status.ensures.acts).prints_taken
+returns-in-Some-clause-prints_taken g c = λ command words fault.
+    absurd (platform_alone _ _ _ c.in-Some.ensures.some (Tell command) (ap (map string_bytes) c.as_slice.ensures.value ∙ words))
 
-pub returns-clause-stops_at_write : goal.returns-clause-stops_at_write
+pub returns-in-Some-clause-stops_at_write : goal.returns-in-Some-clause-stops_at_write
 unfolding words_of_task
-returns-clause-stops_at_write g c = λ command words.
-    (rw (c.from_words-task.ensures.that_one (Tell command) (ap (map string_bytes) c.as_slice.ensures.value ∙ words)) at c.act-status.ensures.acts).stops_at_write
+returns-in-Some-clause-stops_at_write g c = λ command words fault.
+    absurd (platform_alone _ _ _ c.in-Some.ensures.some (Tell command) (ap (map string_bytes) c.as_slice.ensures.value ∙ words))
 
-pub returns-clause-rehearses_stops_at_write : goal.returns-clause-rehearses_stops_at_write
-returns-clause-rehearses_stops_at_write g c = λ words.
-    (rw (c.from_words-task.ensures.that_one Rehearse (ap (map string_bytes) c.as_slice.ensures.value ∙ words)) at c.act-status.ensures.acts).stops_at_write
+pub returns-in-Some-clause-rehearses : goal.returns-in-Some-clause-rehearses
+returns-in-Some-clause-rehearses g c = λ words.
+    absurd (platform_alone _ _ _ c.in-Some.ensures.some Rehearse (ap (map string_bytes) c.as_slice.ensures.value ∙ words))
+
+pub returns-in-Some-clause-rehearses_whole : goal.returns-in-Some-clause-rehearses_whole
+returns-in-Some-clause-rehearses_whole g c = λ words.
+    absurd (platform_alone _ _ _ c.in-Some.ensures.some Rehearse (ap (map string_bytes) c.as_slice.ensures.value ∙ words))
+
+pub returns-in-Some-clause-rehearses_no_further : goal.returns-in-Some-clause-rehearses_no_further
+returns-in-Some-clause-rehearses_no_further g c = λ words.
+    absurd (platform_alone _ _ _ c.in-Some.ensures.some Rehearse (ap (map string_bytes) c.as_slice.ensures.value ∙ words))
+
+pub returns-in-Some-clause-rehearses_prints_taken : goal.returns-in-Some-clause-rehearses_prints_taken
+returns-in-Some-clause-rehearses_prints_taken g c = λ words fault.
+    absurd (platform_alone _ _ _ c.in-Some.ensures.some Rehearse (ap (map string_bytes) c.as_slice.ensures.value ∙ words))
+
+pub returns-in-Some-clause-rehearses_stops_at_write : goal.returns-in-Some-clause-rehearses_stops_at_write
+returns-in-Some-clause-rehearses_stops_at_write g c = λ words fault.
+    absurd (platform_alone _ _ _ c.in-Some.ensures.some Rehearse (ap (map string_bytes) c.as_slice.ensures.value ∙ words))
+
+pub returns-in-Some-clause-platform : goal.returns-in-Some-clause-platform
+returns-in-Some-clause-platform g c = λ port sessions words.
+    let same = c.in-Some.ensures.that_one port sessions (subst (AreWords port sessions) (sym (ap (map string_bytes) c.as_slice.ensures.value)) words) in
+    rw (same.1) at c.run_platform.ensures.runs
+
+pub returns-in-None-clause-usage_only_so : goal.returns-in-None-clause-usage_only_so
+returns-in-None-clause-usage_only_so g c = λ usage port sessions words.
+    c.in-None.ensures.that_one port sessions (subst (AreWords port sessions) (sym (ap (map string_bytes) c.as_slice.ensures.value)) words)
+
+pub returns-in-None-clause-platform : goal.returns-in-None-clause-platform
+returns-in-None-clause-platform g c = λ port sessions words.
+    absurd (c.in-None.ensures.that_one port sessions (subst (AreWords port sessions) (sym (ap (map string_bytes) c.as_slice.ensures.value)) words))
+
+pub returns-in-None-clause-net_fault : goal.returns-in-None-clause-net_fault
+returns-in-None-clause-net_fault g c = λ fault. absurd (subst IsAlone fault c.run_alone.ensures.alone)
+
+pub returns-in-None-clause-store_fault : goal.returns-in-None-clause-store_fault
+returns-in-None-clause-store_fault g c = λ fault. absurd (subst IsAlone fault c.run_alone.ensures.alone)

@@ -1,0 +1,173 @@
+//! All that the program does alone, without links.
+
+ghost use Rattle.std.specs.Prelude.{◌≡◌, ◌≢◌, ◌⊎◌, ◌^◌, ℕ, List, [], None, map, string_bytes, IfSome};
+ghost use Rattle.std.specs.Io.KnownBytes.{IsAtEnd, Appends};
+ghost use Rattle.jt_io.specs.Count.{Rose};
+ghost use Rattle.jt_runner.specs.Answer.{Answers, IsFault, Runs, ReadsNoFurther, PrintsTaken, StopsAtWrite};
+ghost use Rattle.jt_view.specs.Answer.{IsOpen};
+ghost use Rattle.jt_cli.specs.Usage.{usage};
+ghost use Rattle.jt_view.specs.Report.{answer_of};
+ghost use Rattle.jt_cli.specs.Acting.{Acts};
+ghost use Rattle.jt_cli.specs.Script.{RunsScript};
+ghost use Rattle.jt_cli.specs.Statuses.{IsAlone};
+ghost use Rattle.jt_cli.specs.Words.{words_of, words_of_task};
+ghost use Rattle.jt_cli.specs.declared.task.Task.{Task};
+ghost use Rattle.jt_world.specs.Claim.{Kept};
+ghost use Rattle.jt_world.specs.Rehearsal.{script_reply, world_of};
+ghost use Rattle.jt_world.specs.Rehearsing.{IsHeard};
+ghost use Rattle.jt_view.specs.declared.command.Command.{Command};
+
+use crate::outside::{Ended, Outside};
+use crate::playing::play;
+use crate::task::Task;
+use crate::usage::push_usage_line;
+use jt_io::{Sink, Source, write_all};
+use jt_runner::Status;
+use jt_value::Seq;
+use jt_view::report;
+use std::alloc::Global;
+
+// How many octets of one input are reported at most.
+const MOST: u64 = 1 << 40;
+
+// The answer for words that are no command.
+#[tactic(auto, unfolding(crate::specs::Usage::usage))]
+fn refuse<K: Sink>(alloc: Global, sink: &mut K) -> Status
+    ensures answer { Answers result usage (K.written sink.old) (K.written sink.new) }
+    ensures status { (result ≡ Status.Usage) ⊎ IsFault result }
+    ensures not_read_fault { result ≢ Status.ReadFault }
+    ensures write_fault { result ≡ Status.WriteFault → Rose (K.faults sink.old) (K.faults sink.new) }
+{
+    let mut line = String::new(alloc);
+    match push_usage_line(&mut line) {
+        Ok(()) => {
+            if write_all(sink, line.as_bytes()) {
+                Status::Usage
+            } else {
+                Status::WriteFault
+            }
+        }
+        Err(_) => Status::Memory,
+    }
+}
+
+// Does a task, or answers that there is none.
+fn act<S: Source, K: Sink>(
+    alloc: Global,
+    source: &mut S,
+    sink: &mut K,
+    task: Option<Task>,
+) -> Status
+    ensures acts { Acts task (S.left source.old) (S.left source.new) (K.written sink.old) (K.written sink.new) result }
+    ensures nothing_read { task ≡ None → source.new ≡ source.old }
+    ensures usage_only { result ≡ Status.Usage → task ≡ None }
+    ensures alone { IsAlone result }
+    ensures to_the_end { result ≡ Status.Done → IsAtEnd (S.left source.new) }
+    ensures read_fault { result ≡ Status.ReadFault → Rose (S.faults source.old) (S.faults source.new) }
+    ensures write_fault { result ≡ Status.WriteFault → Rose (K.faults sink.old) (K.faults sink.new) }
+{
+    match task {
+        Some(Task::Tell(command)) => report(alloc, source, sink, command, MOST),
+        Some(Task::Rehearse) => play(alloc, source, sink),
+        None => refuse(alloc, sink),
+    }
+}
+
+/// Does what the words say, which are those after the program's name and no words of `platform`. It waits for nobody, and needs no
+/// runtime; it takes one so that it stands for `run`.
+///
+/// The commands are `view` and `check`, each with or without `--hex`, and `rehearse`. All other words are answered the usage
+/// line, and then nothing is read. Of the source at most 2^40 octets are reported, and of a script at most 10,000,000 lines
+/// of at most 4,096 octets are heard.
+pub fn run_alone<R, S: Source, K: Sink, D, L, C, P, V>(
+    _rt: &R,
+    alloc: Global,
+    words: &Vec<String>,
+    outside: Outside<S, K, D, L, C, P, V>,
+) -> Ended<S, K, D, L, C, P, V>
+    // The words are those of a command: the octets that were taken, what was written of the answer to them, and that it
+    // is the answer to the whole source, whatever else the source has.
+    ensures runs { (command : Command) → map string_bytes words.now.items ≡ words_of command →
+        Runs (answer_of command (2 ^ 40)) (S.left outside.source) (S.left result.outside.source)
+        (K.written outside.sink) (K.written result.outside.sink) result.status }
+    // So, where the source tells its octets, and no fault came:
+    ensures whole { (command : Command) → map string_bytes words.now.items ≡ words_of command →
+        IfSome (S.left outside.source) (λ octets. IsFault result.status ⊎
+        ((result.status ≡ (answer_of command (2 ^ 40) octets).status)
+        × Appends (K.written outside.sink) (K.written result.outside.sink) (answer_of command (2 ^ 40) octets).text)) }
+
+    // The source is read no further than the piece of at most 2^14 octets that settles the report.
+    ensures no_further { (command : Command) → map string_bytes words.now.items ≡ words_of command →
+        ReadsNoFurther (IsOpen command (2 ^ 40)) (2 ^ 14) (S.left outside.source) (S.left result.outside.source) }
+    // What is printed of a piece is written before the next is read, so it is there also where that read fails.
+    ensures prints_taken { (command : Command) → map string_bytes words.now.items ≡ words_of command → result.status ≡ Status.ReadFault →
+        PrintsTaken (IsOpen command (2 ^ 40)) (S.left outside.source) (S.left result.outside.source) (K.written outside.sink) (K.written result.outside.sink) }
+    // A write that failed ends the run: what was taken is a front and one piece of at most 2^14 octets; all that is printed
+    // of the front was written, and of the rest of the answer a prefix.
+    ensures stops_at_write { (command : Command) → map string_bytes words.now.items ≡ words_of command → result.status ≡ Status.WriteFault →
+        StopsAtWrite (answer_of command (2 ^ 40)) (IsOpen command (2 ^ 40)) (2 ^ 14) (S.left outside.source) (S.left result.outside.source)
+        (K.written outside.sink) (K.written result.outside.sink) }
+
+    // The words are those of a rehearsal: the octets of the script that were taken, what was written of the answer to them,
+    // that it is the answer to the whole script, whatever else it has, and that the claim of delivery holds of its world.
+    ensures rehearses { map string_bytes words.now.items ≡ words_of_task Task.Rehearse →
+        RunsScript (S.left outside.source) (S.left result.outside.source)
+        (K.written outside.sink) (K.written result.outside.sink) result.status }
+    // So, where the source tells its octets, and no fault came:
+    ensures rehearses_whole { map string_bytes words.now.items ≡ words_of_task Task.Rehearse →
+        IfSome (S.left outside.source) (λ script. IsFault result.status ⊎ ((result.status ≡ (script_reply script).status)
+        × Appends (K.written outside.sink) (K.written result.outside.sink) (script_reply script).text × Kept (world_of script))) }
+    // The script is read no further than the piece of at most 2^14 octets that has its first bad line.
+    ensures rehearses_no_further { map string_bytes words.now.items ≡ words_of_task Task.Rehearse →
+        ReadsNoFurther IsHeard (2 ^ 14) (S.left outside.source) (S.left result.outside.source) }
+    // What is printed of a piece is written before the next is read.
+    ensures rehearses_prints_taken { map string_bytes words.now.items ≡ words_of_task Task.Rehearse → result.status ≡ Status.ReadFault →
+        PrintsTaken IsHeard (S.left outside.source) (S.left result.outside.source) (K.written outside.sink) (K.written result.outside.sink) }
+    // A write that failed ends the run.
+    ensures rehearses_stops_at_write { map string_bytes words.now.items ≡ words_of_task Task.Rehearse → result.status ≡ Status.WriteFault →
+        StopsAtWrite script_reply IsHeard (2 ^ 14) (S.left outside.source) (S.left result.outside.source)
+        (K.written outside.sink) (K.written result.outside.sink) }
+
+    // The words are those of no task.
+    ensures usage { ((task : Task) → map string_bytes words.now.items ≢ words_of_task task) →
+        Answers result.status usage (K.written outside.sink) (K.written result.outside.sink) }
+    ensures usage_reads_nothing { ((task : Task) → map string_bytes words.now.items ≢ words_of_task task) →
+        result.outside.source ≡ outside.source }
+    ensures usage_no_read_fault { ((task : Task) → map string_bytes words.now.items ≢ words_of_task task) → result.status ≢ Status.ReadFault }
+    ensures usage_only { result.status ≡ Status.Usage → (task : Task) → map string_bytes words.now.items ≢ words_of_task task }
+
+    ensures to_the_end { result.status ≡ Status.Done → IsAtEnd (S.left result.outside.source) }
+    ensures read_fault { result.status ≡ Status.ReadFault → Rose (S.faults outside.source) (S.faults result.outside.source) }
+    ensures write_fault { result.status ≡ Status.WriteFault → Rose (K.faults outside.sink) (K.faults result.outside.sink) }
+    ensures alone { IsAlone result.status }
+    // No link is served, and all but the source and the sink stays.
+    ensures no_link { (result.reports ≡ []) × (result.history ≡ []) }
+    ensures rest { (result.outside.dial ≡ outside.dial) × (result.outside.listen ≡ outside.listen) × (result.outside.clock ≡ outside.clock)
+        × (result.outside.keeper ≡ outside.keeper) × (result.outside.vault ≡ outside.vault) }
+{
+    let Outside {
+        mut source,
+        mut sink,
+        dial,
+        listen,
+        clock,
+        keeper,
+        vault,
+    } = outside;
+    let task = Task::from_words(words.as_slice());
+    let status = act(alloc, &mut source, &mut sink, task);
+    Ended {
+        status,
+        outside: Outside {
+            source,
+            sink,
+            dial,
+            listen,
+            clock,
+            keeper,
+            vault,
+        },
+        reports: Seq::new(alloc),
+        history: Seq::new(alloc),
+    }
+}

@@ -1,0 +1,4 @@
+pub mod Places
+pub mod Limits
+pub mod Together
+pub mod Joins

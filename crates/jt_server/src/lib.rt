@@ -1,0 +1,10 @@
+//! A thread for each connection.
+#![tactic(auto)]
+
+mod held;
+mod served;
+mod threads;
+mod work;
+
+pub use served::{ServeEnd, Served};
+pub use threads::serve;

@@ -1,0 +1,345 @@
+//! The links of a listener, each in a thread of its own, over one hub.
+
+ghost use Rattle.std.specs.Prelude.{◌≡◌, ◌≢◌, ◌≤◌, ◌<◌, ◌+◌, ◌-◌, ◌^◌, ◌++◌, ◌⊎◌, ℕ, List, [], map, max, reverse, length, Option, Some, IfOk, IfSome, IsSomeAnd, MatchResult, option_map};
+ghost use Rattle.std.specs.Thread.{IsSync};
+ghost use Rattle.jt_io.specs.Count.{Counts, RoseBy};
+ghost use Rattle.jt_link.specs.Link.{wire_of};
+ghost use Rattle.jt_link.specs.Pool.{Script, used_of};
+ghost use Rattle.jt_turn.specs.Passes.{TurnId};
+ghost use Rattle.jt_turn.specs.Histories.{entries_of};
+ghost use Rattle.jt_platform.specs.Allowed.{Legal};
+ghost use Rattle.jt_platform.specs.Desks.{as_ask};
+ghost use Rattle.jt_platform.specs.History.{newest};
+ghost use Rattle.jt_platform.specs.Hub.{opening_of};
+ghost use Rattle.jt_platform.specs.declared.desk.HubOpening.{HubOpening};
+ghost use Rattle.jt_session.specs.Hearing.{IsSamePass};
+ghost use Rattle.jt_session.specs.Serving.{Serves};
+ghost use Rattle.jt_server.specs.Served.{AreServed, EndsAs, store_faults};
+ghost use Rattle.jt_server.specs.Jobs.{AreUpTo, HasFailed, IsGiven, IsJoined, IsRoot, IsWorked, lent_to};
+ghost use lib.ListN.{get_elem?};
+ghost use mathlib.Core.Option.{some};
+
+use crate::held::{Door, Held};
+use crate::served::{ServeEnd, Served};
+use crate::work::{Given, Job, Work, serve_one};
+use jt_link::{Accepted, Link, Listen};
+use jt_platform::Hub;
+use jt_session::Report;
+use jt_store::Keeper;
+use jt_turn::{Pass, Turn};
+use jt_value::{Buffer, Memory, Seq};
+use std::alloc::Global;
+use std::snapshot::Snapshot;
+use std::sync::Wait;
+use std::thread;
+use std::thread::{Scope, Threads};
+
+// What serving in threads gives back: the listener, the first pass, the links that were served, the last one first, and why no
+// more were accepted.
+#[derive(Drop)]
+struct Done<D: Door, P: Keeper> {
+    door: D,
+    pass: Pass<Hub<P>>,
+    links: Buffer<Back<D::Link>>,
+    end: ServeEnd,
+}
+
+// A link that was served.
+#[derive(Drop)]
+struct Back<K> {
+    link: K,
+    report: Report,
+}
+
+/// Accepts links, up to as many as `sessions` says, at least 1, and serves each in a thread of its own, under the number of its
+/// place, from 1 on. Where a thread cannot be started the caller serves that link itself. All threads are joined, and the links
+/// are given back to the listener in order. The hub's history is empty.
+///
+/// Memory for the Closes and the reports is taken before the first link is accepted: where it is wanted there, no link is.
+pub fn serve<R: Threads + Wait + Sync, L: Listen, P: Keeper + Send + Drop>(
+    rt: &R,
+    alloc: Global,
+    listen: &mut L,
+    mut hub: Hub<P>,
+    sessions: u32,
+) -> Served<P>
+where
+    L::Link: Send,
+    requires history { hub.history ≡ [] }
+    requires sessions { 1 ≤ sessions }
+    // Each reply is one that the entries before it allow, over the opening of the hub, which stays but for its reserved number.
+    ensures legal { Legal (opening_of (P.tables hub.start) (P.limit hub.start) hub.fleet hub.secret) (newest result.hub.history) }
+    ensures opening { (result.hub.start ≡ hub.start) × (result.hub.fleet ≡ hub.fleet) × (result.hub.secret ≡ hub.secret) }
+    // What was served, and what came back to the listener.
+    ensures served { AreServed (Option (HubOpening P)) (opening_of (P.tables hub.start) (P.limit hub.start) hub.fleet hub.secret) result.hub.history (L.pool listen.old) (L.pool listen.new) result.reports }
+    ensures no_other { (n : ℕ) → (n ≡ 0) ⊎ (length result.reports < n) → entries_of n (map as_ask result.hub.history) ≡ [] }
+    ensures end { EndsAs result.end (length result.reports) sessions (L.pool listen.new) (L.faults listen.old) (L.faults listen.new) }
+    ensures count { Counts (L.faults listen.old) (L.faults listen.new) }
+    // The keeper's count rose by at least as many as the reports that end as StoreFault.
+    ensures faults { RoseBy (store_faults result.reports) (P.faults hub.keeper) (P.faults result.hub.keeper) }
+{
+    let Ok(()) = hub.reserve(sessions) else {
+        return refused(alloc, hub);
+    };
+    let Ok(mut reports) = room(alloc, sessions) else {
+        return refused(alloc, hub);
+    };
+    let Ok(jobs) = room(alloc, sessions) else {
+        return refused(alloc, hub);
+    };
+    let Ok(links) = room(alloc, sessions) else {
+        return refused(alloc, hub);
+    };
+    let (turn, pass) = match Turn::begin(alloc, hub) {
+        Ok(begun) => begun,
+        Err((hub, Memory)) => return refused(alloc, hub),
+    };
+    let held = Held { listen };
+    let done = serve_all(rt, alloc, held, &turn, pass, jobs, links, sessions);
+    let Done {
+        door,
+        pass,
+        links,
+        end,
+    } = done;
+    let Held { listen } = door;
+    let hub = turn.close(pass);
+    give_back(listen, links.into_seq().into_vec(), &mut reports);
+    let _entries = hub.history();
+    Served {
+        reports: reports.into_seq(),
+        hub,
+        end,
+    }
+}
+
+// No link was accepted.
+fn refused<P: Keeper>(alloc: Global, hub: Hub<P>) -> Served<P>
+    ensures reports { result.reports ≡ [] }
+    ensures hub { result.hub ≡ hub }
+    ensures end { result.end ≡ ServeEnd.Memory }
+{
+    Served {
+        reports: Seq::new(alloc),
+        hub,
+        end: ServeEnd::Memory,
+    }
+}
+
+// An empty list with room for so many.
+fn room<T: Drop>(alloc: Global, count: u32) -> Result<Buffer<T>, Memory>
+    ensures { IfOk result (λ list. (list.items ≡ []) × (count ≤ list.spare)) }
+{
+    let mut list = Buffer::new(alloc);
+    list.reserve(u64::from(count))?;
+    Ok(list)
+}
+
+// Gives the links back to the listener, the last of the list first, and puts their reports in this order.
+fn give_back<L: Listen>(listen: &mut L, mut links: Vec<Back<L::Link>>, reports: &mut Buffer<Report>)
+    requires lent { IfSome (L.pool listen.old).lent (λ lent. length links.items ≤ lent) }
+    requires room { length links.items ≤ reports.old.spare }
+    ensures reports { reports.new.items ≡ reports.old.items ++ reverse (map (λ b. b.report) links.items) }
+    ensures coming { (L.pool listen.new).coming ≡ (L.pool listen.old).coming }
+    ensures back { (L.pool listen.new).back ≡ option_map (λ back. back ++ map used_of (reverse (map (λ b. wire_of L.Link.inbound L.Link.written L.Link.faults b.link) links.items))) (L.pool listen.old).back }
+    ensures lent { (L.pool listen.new).lent ≡ option_map (λ lent. lent - length links.items) (L.pool listen.old).lent }
+    ensures count { L.faults listen.new ≡ L.faults listen.old }
+{
+    while let Some(back) = links.pop() {
+        let Back { link, report } = back;
+        listen.back(link);
+        let Ok(()) = reports.push(report) else {
+            unreachable!();
+        };
+    }
+}
+
+// Serves the links of the listener, each in a thread of its own, and joins all threads.
+fn serve_all<R: Threads + Wait + Sync, D: Door + Drop, P: Keeper + Send + Drop>(
+    rt: &R,
+    alloc: Global,
+    door: D,
+    turn: &Turn<Hub<P>>,
+    pass: Pass<Hub<P>>,
+    jobs: Buffer<Job<D::Link, P>>,
+    links: Buffer<Back<D::Link>>,
+    sessions: u32,
+) -> Done<D, P>
+where
+    D::Link: Send,
+    requires root { IsRoot pass.opening turn.now pass.base pass }
+    requires fresh { (pass.given ≡ 0) × (pass.lent ≡ 0) × (pass.ended ≡ []) × (pass.failed ≡ 0) }
+    requires reserved { IsSomeAnd pass.opening (λ o. sessions ≤ o.reserved) }
+    requires room { (jobs.items ≡ []) × (sessions ≤ jobs.spare) × (links.items ≡ []) × (sessions ≤ links.spare) }
+    ensures root { IsRoot pass.opening turn.now pass.base result.pass }
+    ensures lent { result.pass.lent ≡ 0 }
+    ensures up_to { AreUpTo (length result.links.items) result.pass }
+    ensures failed { HasFailed (store_faults (map (λ b. b.report) result.links.items)) result.pass }
+    ensures links { (i : ℕ) (b : _) → get_elem? result.links.items i ≡ some b → IsJoined (option_map (λ o. opening_of (P.tables o.start) (P.limit o.start) o.fleet o.secret) pass.opening) pass.opening turn.now (D.pool door).coming (length result.links.items - 1 - i) result.pass (wire_of D.Link.inbound D.Link.written D.Link.faults b.link) b.report }
+    ensures pool { D.pool result.door ≡ lent_to (length result.links.items) (D.pool door) }
+    ensures name { D.name result.door ≡ D.name door }
+    ensures count { Counts (D.faults door) (D.faults result.door) }
+    ensures few { length result.links.items ≤ sessions }
+    ensures end { EndsAs result.end (length result.links.items) sessions (D.pool result.door) (D.faults door) (D.faults result.door) }
+{
+    thread::scope(
+        thread::scope_env(),
+        rt,
+        move |scope| -> Done<D, P>
+            requires { IsSync R.row }
+        {
+            let mut door = door;
+            let mut pass = pass;
+            let mut jobs = jobs;
+            let mut links = links;
+            let before = Snapshot::of(&door);
+            let end = accept_all(
+                scope, rt, alloc, &mut door, turn, &mut pass, &mut jobs, sessions,
+            );
+            join_all(
+                rt,
+                turn,
+                &mut pass,
+                before,
+                jobs.into_seq().into_vec(),
+                &mut links,
+            );
+            Done {
+                door,
+                pass,
+                links,
+                end,
+            }
+        },
+    )
+}
+
+// Accepts links and starts a thread for each. A pass is split before a link is accepted.
+fn accept_all<'s, E, R: Threads + Wait + Sync + 's, D: Door, P: Keeper + Send + Drop + 's>(
+    scope: &'s Scope<'s, E>,
+    rt: &'s R,
+    alloc: Global,
+    door: &mut D,
+    turn: &'s Turn<Hub<P>>,
+    pass: &mut Pass<Hub<P>>,
+    jobs: &mut Buffer<Job<D::Link, P>>,
+    sessions: u32,
+) -> ServeEnd
+where
+    D::Link: Send + 's,
+    requires root { IsRoot pass.old.opening turn.now pass.old.base pass.old }
+    requires fresh { (pass.old.given ≡ 0) × (pass.old.lent ≡ 0) × (pass.old.ended ≡ []) × (pass.old.failed ≡ 0) }
+    requires reserved { IsSomeAnd pass.old.opening (λ o. sessions ≤ o.reserved) }
+    requires room { (jobs.old.items ≡ []) × (sessions ≤ jobs.old.spare) }
+    ensures root { IsRoot pass.old.opening turn.now pass.old.base pass.new }
+    ensures lent { pass.new.lent ≡ length jobs.new.items }
+    ensures failed { pass.new.failed ≡ 0 }
+    ensures up_to { AreUpTo 0 pass.new }
+    ensures jobs { (m : ℕ) (job : _) → get_elem? jobs.new.items m ≡ some job → MatchResult job (λ h. IsGiven pass.old.opening turn.now (D.pool door.old).coming m h.promise.pass.value (wire_of D.Link.inbound D.Link.written D.Link.faults h.promise.link.value)) (λ w. IsWorked (option_map (λ o. opening_of (P.tables o.start) (P.limit o.start) o.fleet o.secret) pass.old.opening) pass.old.opening turn.now (D.pool door.old).coming m w.pass (wire_of D.Link.inbound D.Link.written D.Link.faults w.link) w.report) }
+    ensures pool { D.pool door.new ≡ lent_to (length jobs.new.items) (D.pool door.old) }
+    ensures name { D.name door.new ≡ D.name door.old }
+    ensures count { Counts (D.faults door.old) (D.faults door.new) }
+    ensures few { length jobs.new.items ≤ sessions }
+    ensures end { EndsAs result (length jobs.new.items) sessions (D.pool door.new) (D.faults door.old) (D.faults door.new) }
+{
+    let mut accepted = 0;
+    while accepted < sessions {
+        let number = accepted + 1;
+        let Ok(one) = turn.split(pass, number) else {
+            return ServeEnd::Memory;
+        };
+        match door.accept() {
+            Accepted::Link(link) => {
+                let job = start(scope, rt, alloc, turn, one, link);
+                let Ok(()) = jobs.push(job) else {
+                    unreachable!();
+                };
+                accepted = number;
+            }
+            Accepted::Over => {
+                turn.join(pass, one);
+                return ServeEnd::Over;
+            }
+            Accepted::Failed => {
+                turn.join(pass, one);
+                return ServeEnd::ListenFault;
+            }
+        }
+    }
+    ServeEnd::All
+}
+
+// Starts a thread that serves the link. Where none can be made the caller serves it.
+fn start<
+    's,
+    E,
+    R: Threads + Wait + Sync + 's,
+    K: Link + Send + Drop + 's,
+    P: Keeper + Send + Drop + 's,
+>(
+    scope: &'s Scope<'s, E>,
+    rt: &'s R,
+    alloc: Global,
+    turn: &'s Turn<Hub<P>>,
+    pass: Pass<Hub<P>>,
+    link: K,
+) -> Job<K, P>
+    requires turn { pass.turn ≡ turn.now }
+    requires number { (1 ≤ pass.number) × IsSomeAnd pass.opening (λ o. pass.number ≤ o.reserved) }
+    requires new { pass.mine ≡ [] }
+    ensures { MatchResult result (λ h. (h.promise.pass.value ≡ pass) × (h.promise.link.value ≡ link)) (λ w. Serves (option_map (λ o. opening_of (P.tables o.start) (P.limit o.start) o.fleet o.secret) pass.opening) (2 ^ 40) pass w.pass (wire_of K.inbound K.written K.faults link) (wire_of K.inbound K.written K.faults w.link) w.report × IsSamePass pass w.pass) }
+{
+    let given = Given {
+        link: Snapshot::of(&link),
+        pass: Snapshot::of(&pass),
+    };
+    match scope.spawn_with(given, move || serve_one(rt, alloc, turn, pass, link)) {
+        Ok(handle) => Ok(handle),
+        Err(refused) => Err((refused.value)()),
+    }
+}
+
+// What a thread brought back, once it has ended.
+fn finish<R: Threads, K: Link + Drop, P: Keeper>(rt: &R, job: Job<K, P>) -> Work<K, P>
+    ensures { (opening : Option (HubOpening P)) (of_turn : TurnId) (coming : Option (List Script)) (m : ℕ) → MatchResult job (λ h. IsGiven opening of_turn coming m h.promise.pass.value (wire_of K.inbound K.written K.faults h.promise.link.value)) (λ w. IsWorked (option_map (λ o. opening_of (P.tables o.start) (P.limit o.start) o.fleet o.secret) opening) opening of_turn coming m w.pass (wire_of K.inbound K.written K.faults w.link) w.report) → IsWorked (option_map (λ o. opening_of (P.tables o.start) (P.limit o.start) o.fleet o.secret) opening) opening of_turn coming m result.pass (wire_of K.inbound K.written K.faults result.link) result.report }
+{
+    match job {
+        Ok(handle) => handle.join(rt),
+        Err(work) => work,
+    }
+}
+
+// Joins the threads, the last one first, and their passes.
+fn join_all<R: Threads, D: Door, P: Keeper>(
+    rt: &R,
+    turn: &Turn<Hub<P>>,
+    pass: &mut Pass<Hub<P>>,
+    before: Snapshot<D>,
+    mut jobs: Vec<Job<D::Link, P>>,
+    links: &mut Buffer<Back<D::Link>>,
+)
+    requires root { IsRoot pass.old.opening turn.now pass.old.base pass.old }
+    requires lent { pass.old.lent ≡ length jobs.items }
+    requires failed { pass.old.failed ≡ 0 }
+    requires up_to { AreUpTo 0 pass.old }
+    requires jobs { (m : ℕ) (job : _) → get_elem? jobs.items m ≡ some job → MatchResult job (λ h. IsGiven pass.old.opening turn.now (D.pool before.value).coming m h.promise.pass.value (wire_of D.Link.inbound D.Link.written D.Link.faults h.promise.link.value)) (λ w. IsWorked (option_map (λ o. opening_of (P.tables o.start) (P.limit o.start) o.fleet o.secret) pass.old.opening) pass.old.opening turn.now (D.pool before.value).coming m w.pass (wire_of D.Link.inbound D.Link.written D.Link.faults w.link) w.report) }
+    requires room { (links.old.items ≡ []) × (length jobs.items ≤ links.old.spare) }
+    ensures root { IsRoot pass.old.opening turn.now pass.old.base pass.new }
+    ensures lent { pass.new.lent ≡ 0 }
+    ensures as_many { length links.new.items ≡ length jobs.items }
+    ensures up_to { AreUpTo (length links.new.items) pass.new }
+    ensures failed { HasFailed (store_faults (map (λ b. b.report) links.new.items)) pass.new }
+    ensures links { (i : ℕ) (b : _) → get_elem? links.new.items i ≡ some b → IsJoined (option_map (λ o. opening_of (P.tables o.start) (P.limit o.start) o.fleet o.secret) pass.old.opening) pass.old.opening turn.now (D.pool before.value).coming (length links.new.items - 1 - i) pass.new (wire_of D.Link.inbound D.Link.written D.Link.faults b.link) b.report }
+{
+    while let Some(job) = jobs.pop() {
+        let Work {
+            link,
+            pass: one,
+            report,
+        } = finish(rt, job);
+        turn.join(pass, one);
+        let Ok(()) = links.push(Back { link, report }) else {
+            unreachable!();
+        };
+    }
+}
