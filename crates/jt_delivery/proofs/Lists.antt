@@ -70,9 +70,6 @@ put_elim P lines l x here k there = go (cases_eq k l)
 pub put_same : (lines : ℕ → Line) (l : ℕ) (x : Line) → put lines l x l ≡ x
 put_same lines l x = put_elim (λ k y. k ≡ l → y ≡ x) lines l x (λ e. refl) l (λ n e. absurd (n e)) refl
 
-pub put_other : (lines : ℕ → Line) (l : ℕ) (x : Line) (k : ℕ) → k ≢ l → put lines l x k ≡ lines k
-put_other lines l x k n = put_elim (λ j y. j ≢ l → y ≡ lines j) lines l x (λ m. absurd (m refl)) k (λ m r. refl) n
-
 -- what was sent is below the top
 pub sent_top : (first : ℕ) (g : List Up) (i : ℕ) → IsSentIn g i → i < top first g
 sent_top first [] i h = absurd h

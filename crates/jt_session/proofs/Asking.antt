@@ -6,7 +6,6 @@ use Rattle.jt_value.specs.Octets.{AreOctets}
 use Rattle.jt_value.specs.declared.phone.Edition.{Edition}
 use Rattle.jt_value.specs.declared.phone.Edition.TheVariants.{E2013, E2019}
 use Rattle.jt_value.specs.declared.refusal.Refusal.{Refusal}
-use Rattle.jt_value.specs.declared.refusal.CodecError.TheVariants.{Refused}
 use Rattle.jt_header.specs.declared.header.Header.{Header}
 use Rattle.jt_layout.specs.Layout.{word}
 use Rattle.jt_layout.specs.Answer.{Answers}
@@ -23,9 +22,6 @@ pub asked_read : AreOneToOne → (h : Header) (octets : List ℕ) (m : Message) 
 asked_read law h octets m q are fills is =
     ap Some is ∙ ap (request_read (h, octets)) (sym (((law h.edition h.id).reads_value octets m are).1 fills))
 
-pub refused_read : AreOneToOne → (h : Header) (octets : List ℕ) (r : Refusal) → AreOctets octets → Answers (body h.edition h.id) octets (Err (Refused r)) → None ≡ asked_by (Some (h, octets))
-refused_read law h octets r are refuses = ap (request_read (h, octets)) (sym (((law h.edition h.id).reads_reason octets r are).1 refuses))
-
 unplaced_ok : (start : ℕ) (r : Result Message Refusal) (m : Message) → placed start r ≡ Ok m → r ≡ Ok m
 unplaced_ok start (Ok x) m e = e
 unplaced_ok start (Err x) m e = absurd cc
@@ -33,12 +29,6 @@ unplaced_ok start (Err x) m e = absurd cc
 unplaced_err : (start : ℕ) (h : Header) (octets : List ℕ) (r : Result Message Refusal) (refusal : Refusal) → placed start r ≡ Err refusal → None ≡ request_read (h, octets) r
 unplaced_err start h octets (Ok x) refusal e = absurd cc
 unplaced_err start h octets (Err x) refusal e = refl
-
-pub asked_view : (start : ℕ) (h : Header) (octets : List ℕ) (m : Message) (q : Request) → placed start ((body h.edition h.id).read octets 0) ≡ Ok m → q ≡ request_of h octets m → Some q ≡ asked_by (Some (h, octets))
-asked_view start h octets m q e is = ap Some is ∙ ap (request_read (h, octets)) (sym (unplaced_ok start ((body h.edition h.id).read octets 0) m e))
-
-pub refused_view : (start : ℕ) (h : Header) (octets : List ℕ) (refusal : Refusal) → placed start ((body h.edition h.id).read octets 0) ≡ Err refusal → None ≡ asked_by (Some (h, octets))
-refused_view start h octets refusal e = unplaced_err start h octets ((body h.edition h.id).read octets 0) refusal e
 
 pub resend_octets : (edition : Edition) (first : ℕ) (missing : List ℕ) → body_octets edition (message.Resend (record { first = first; wide = is_wide edition; numbers = missing })) ≡ word.spell first ++ ((count (is_wide edition)).spell (length missing) ++ flat_map word.spell missing)
 unfolding body resend

@@ -1,12 +1,11 @@
 -- A session over a link: its talk, and its Close.
-use Rattle.std.proofs.Common.{◌≡◌, ◌≢◌, ◌≤◌, ◌<◌, ◌+◌, ◌-◌, ◌^◌, ◌==◌, ◌&&◌, ◌||◌, ◌⊎◌, ◌↔◌, ℕ, List, [], ◌∷◌, ◌++◌, length, map, reverse, Bool, true, false, if◌then◌else◌, Option, Some, None, IfSome, inl, inr, refl, sym, ap, ◌∙◌, subst, arith, eq-eqb, append_assoc}
-use Rattle.std.specs.Prelude.{IsSome, IsSomeAnd, filter}
-use Rattle.std.specs.Option.{option_map, option_to_list}
+use Rattle.std.proofs.Common.{◌≡◌, ◌≤◌, ◌==◌, ◌&&◌, ◌||◌, ◌⊎◌, ℕ, List, [], ◌∷◌, ◌++◌, map, Bool, true, false, if◌then◌else◌, Option, Some, None, IfSome, inl, inr, refl, sym, ap, ◌∙◌, subst, arith, append_assoc}
+use Rattle.std.specs.Prelude.{IsSomeAnd}
+use Rattle.std.specs.Option.{option_to_list}
 use Rattle.std.proofs.lemmas.Bool.{false≢true}
 use Rattle.std.proofs.lemmas.List.{append-nil, reverse-append}
 use Rattle.std.proofs.KnownBytes.{Appends-nil, Consumes-nil}
 use mathlib.Core.List.{IsPrefix}
-use Rattle.jt_io.specs.Count.{Counts, RoseBy}
 use Rattle.jt_link.specs.Link.{Wire}
 use Rattle.jt_stream.specs.Unplaced.{Unplaced, items}
 use Rattle.jt_turn.specs.declared.entry.Entry.{Entry as Turned}
@@ -15,26 +14,26 @@ use Rattle.jt_turn.specs.Passes.{PassState}
 use Rattle.jt_platform.specs.Allowed.{Opening, makes_entry}
 use Rattle.jt_platform.specs.Desks.{Gives, as_entry}
 use Rattle.jt_platform.specs.History.{closed, is_close, newest}
-use Rattle.jt_platform.specs.Hub.{IsOwed}
 use Rattle.jt_platform.specs.declared.request.Entry.{Entry}
 use Rattle.jt_platform.specs.declared.request.Request.{Request}
 use Rattle.jt_platform.specs.declared.request.Request.TheVariants as ask
 use Rattle.jt_platform.specs.declared.request.Reply.{Reply}
 use Rattle.jt_platform.specs.declared.request.Reply.TheVariants as say
+use Rattle.jt_value.proofs.OctetLists.{AreOctets-nil}
 use Rattle.jt_session.specs.declared.end.End.{End}
 use Rattle.jt_session.specs.declared.end.End.TheVariants as ends
 use Rattle.jt_session.specs.declared.end.Fed.{Fed}
 use Rattle.jt_session.specs.declared.end.Fed.TheVariants.{On, Stop}
 use Rattle.jt_session.specs.declared.report.Report.{Report}
-use Rattle.jt_session.specs.Talk.{State, Way, Goes, Stops, Turn, Talk, Talked, FitsFrom, IsReplied, asks, at_state, items_of, start, talk_from, turn_on}
+use Rattle.jt_session.specs.Talk.{Way, Goes, Stops, Turn, Talked, FitsFrom, IsReplied, asks, at_state, items_of, start, talk_from, turn_on}
 use Rattle.jt_session.specs.Sessions.{Seen, before, end_by, end_of, fed_by}
 use Rattle.jt_session.specs.Sessions as sessions
 use Rattle.jt_session.specs.TurnLaw.{IsNew}
-use Rattle.jt_session.specs.Hearing.{FailedMore, IsFilled, acts_on, last_asked}
+use Rattle.jt_session.specs.Hearing.{IsFilled, acts_on, last_asked}
 use Rattle.jt_session.specs.Serving.{AreNoCloses, Converses, HasCause, Names, Serves, ServesUpTo, close_of, newest_reply}
 use Rattle.jt_session.proofs.Ending.{turns_end}
 use Rattle.jt_session.proofs.Hubs.{asks_no_close}
-use Rattle.jt_session.proofs.Onward.{all_or_over, begun, no_octets}
+use Rattle.jt_session.proofs.Onward.{all_or_over, begun}
 
 -- ---- no request is a Close
 
@@ -170,7 +169,7 @@ module _ {O : Type 0} (o : Option Opening) (octets : ℕ) (pass pass_now : PassS
       let h = did.hears in
       let turns : List Turn = h.turns in
       let same : before s ≡ at_state start = begun s new in
-      let found = h.went.items [] [] no_octets new.stream (empty ∙ ap option_to_list (sym new.waiting)) in
+      let found = h.went.items [] [] AreOctets-nil new.stream (empty ∙ ap option_to_list (sym new.waiting)) in
       let fits : FitsFrom (at_state start) turns = subst (λ k. FitsFrom k turns) same h.went.fits in
       let named : Names report.end (end_of turns) = subst (λ f. Names report.end f) h.ended did.named in record {
         taken = did.taken;

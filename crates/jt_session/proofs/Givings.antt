@@ -1,6 +1,6 @@
 -- What the hub of a turn gave to an ask.
-use Rattle.std.proofs.Common.{◌≡◌, ◌≢◌, ◌≤◌, ◌<◌, ◌+◌, ◌-◌, ◌^◌, ◌==◌, ◌&&◌, ◌||◌, ◌⊎◌, ℕ, List, [], ◌∷◌, ◌++◌, length, map, Bool, true, false, if◌then◌else◌, Option, Some, None, IfSome, inl, inr, refl, sym, ap, ◌∙◌, subst, arith, eq-eqb, ne_eqb}
-use Rattle.std.specs.Prelude.{IsSome, IsSomeAnd}
+use Rattle.std.proofs.Common.{◌≡◌, ◌≤◌, ◌+◌, ◌==◌, ℕ, List, ◌++◌, length, map, Bool, true, false, if◌then◌else◌, Option, Some, None, IfSome, inl, inr, refl, sym, ◌∙◌, subst, arith, ne_eqb}
+use Rattle.std.specs.Prelude.{IsSome}
 use Rattle.std.specs.Option.{option_map}
 use Rattle.std.proofs.lemmas.Bool.{false≢true}
 use mathlib.Core.List.{IsPrefix}
@@ -12,7 +12,7 @@ use Rattle.jt_store.specs.Tables.{Tables, Told, Rose}
 use Rattle.jt_turn.specs.declared.entry.Entry.{Entry as Turned}
 use Rattle.jt_turn.specs.Histories.{entry_if}
 use Rattle.jt_turn.specs.Passes.{PassState}
-use Rattle.jt_platform.specs.Allowed.{Opening, Allowed, FencedReply, GuardedReply, IsHolder, IsMore, StoreReply, makes_entry}
+use Rattle.jt_platform.specs.Allowed.{Opening, Allowed, FencedReply, GuardedReply, IsMore, StoreReply, makes_entry}
 use Rattle.jt_platform.specs.Desks.{Gives, as_entry}
 use Rattle.jt_platform.specs.History.{holder, newest, tables_after}
 use Rattle.jt_platform.specs.declared.request.Entry.{Entry}

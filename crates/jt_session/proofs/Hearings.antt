@@ -1,16 +1,16 @@
 -- A session over a pass of a turn.
-use Rattle.std.proofs.Common.{◌≡◌, ◌↔◌, ◌≤◌, ◌<◌, ◌+◌, ◌-◌, ◌⊎◌, ℕ, List, [], ◌∷◌, ◌++◌, length, take, drop, map, Bool, true, false, if◌then◌else◌, Option, Some, None, IfSome, IsSomeAnd, inl, inr, refl, sym, ap, ◌∙◌, subst, arith, append_assoc, length-drop}
+use Rattle.std.proofs.Common.{◌≡◌, ◌≤◌, ◌+◌, ◌-◌, ℕ, List, [], ◌∷◌, ◌++◌, length, take, drop, Bool, true, false, if◌then◌else◌, Option, Some, IfSome, IsSomeAnd, inl, inr, refl, sym, ap, ◌∙◌, subst, arith, append_assoc, length-drop}
 use Rattle.std.proofs.lemmas.List.{append-nil, take_all, take-append-drop}
 use Rattle.std.proofs.Math.Seq.{take-add}
 use Rattle.jt_value.specs.Octets.{AreOctets}
 use Rattle.jt_stream.specs.Unplaced.{Unplaced}
-use Rattle.jt_turn.specs.declared.entry.Entry.{Entry as Turned}
 use Rattle.jt_turn.specs.Histories.{entry_if}
 use Rattle.jt_turn.specs.Passes.{PassState}
 use Rattle.jt_platform.specs.Allowed.{Opening, makes_entry}
 use Rattle.jt_platform.specs.declared.request.Request.{Request}
 use Rattle.jt_platform.specs.declared.request.Reply.{Reply}
 use Rattle.jt_platform.specs.declared.request.Reply.TheVariants as say
+use Rattle.jt_value.proofs.OctetLists.{AreOctets-take}
 use Rattle.jt_session.specs.declared.end.End.{End}
 use Rattle.jt_session.specs.declared.end.End.TheVariants as ends
 use Rattle.jt_session.specs.declared.end.Fed.{Fed}
@@ -20,7 +20,7 @@ use Rattle.jt_session.specs.Sessions.{Seen, Takes, IsRepliedTo, before, end_of, 
 use Rattle.jt_session.specs.Hearing.{Hears, FailedMore, IsFilled, IsSamePass, acts_on, last_asked}
 use Rattle.jt_session.proofs.Ending.{reply_gains, unasked_entries}
 use Rattle.jt_session.proofs.Hubs.{on_end, short_end, end_way, waits_for}
-use Rattle.jt_session.proofs.Joining.{are_taken, both_talk, both_turns, end_append, state_behind, onto}
+use Rattle.jt_session.proofs.Joining.{both_talk, both_turns, end_append, state_behind, onto}
 use Rattle.jt_session.proofs.Onward.{FrontFirst, turns_beyond}
 
 pub acts_append : (n : ℕ) (a b : List (Request × Reply)) → acts_on n (a ++ b) ≡ acts_on n b ++ acts_on n a
@@ -181,7 +181,7 @@ module _ {O : Type 0} where
   hears_more o first mid now octets taken count pass pass_mid pass_now front out out_now fed are so_far on same more =
       let piece : take (length octets - taken) (drop taken octets) ≡ drop taken octets = take_all (length octets - taken) (drop taken octets) (omega (arith, length-drop taken octets)) in
       subst (λ some. Hears o first now some pass pass_now front out_now fed) (ap (λ rest. take taken octets ++ take count rest) piece ∙ sym (take-add taken count octets))
-      (hears_both o first mid now (take taken octets) (take count (take (length octets - taken) (drop taken octets))) pass pass_mid pass_now front out out_now fed so_far more on same (are_taken octets taken are))
+      (hears_both o first mid now (take taken octets) (take count (take (length octets - taken) (drop taken octets))) pass pass_mid pass_now front out out_now fed so_far more on same (AreOctets-take taken octets are))
 
   pub hears_then : (o : Option Opening) (first mid now : Seen) (octets : List ℕ) (pass pass_now : PassState Request Reply O) (front out out_now : List ℕ) (fed : Fed) → AreOctets octets → Hears o first mid octets pass pass front out On → mid.over ≡ false
       → Hears o mid now [] pass pass_now out out_now fed → Hears o first now octets pass pass_now front out_now fed

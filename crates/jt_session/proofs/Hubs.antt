@@ -23,6 +23,7 @@ use Rattle.jt_platform.specs.declared.request.Request.TheVariants as ask
 use Rattle.jt_platform.specs.declared.request.Reply.{Reply}
 use Rattle.jt_platform.specs.declared.request.Reply.TheVariants as say
 use Rattle.jt_value.specs.declared.phone.Phone.{Phone}
+use Rattle.jt_value.proofs.OctetLists.{AreOctets-take}
 use Rattle.jt_session.specs.declared.step.Step.{Step}
 use Rattle.jt_session.specs.declared.step.Step.TheVariants.{Ask, Memory}
 use Rattle.jt_session.specs.declared.end.End.{End}
@@ -33,7 +34,7 @@ use Rattle.jt_session.specs.Replies.{HasRoomFor}
 use Rattle.jt_session.specs.Talk.{State, Way, Goes, Stops, Turn, Talked, turn_on, talk_from, asks, asked_by, is_own, message_of, request_of, request_read, FitsFrom}
 use Rattle.jt_session.specs.Sessions.{Seen, LedTo, Takes, Feeds, HasFedReason, IsRepliedTo, AreUnasked, is_unasked, before, end_by, end_of, entries_on, fed_by, turn_by, MayGo, MayTurn}
 use Rattle.jt_session.proofs.Ending.{entry_by, unasked_entries}
-use Rattle.jt_session.proofs.Joining.{are_taken, feeds_both, stops_over}
+use Rattle.jt_session.proofs.Joining.{feeds_both, stops_over}
 use Rattle.jt_session.proofs.Onward.{FrontFirst, turns_beyond}
 
 -- ---- turns without replies make no entries
@@ -255,15 +256,12 @@ pub feeds_more : (first mid now : Seen) (octets : List ℕ) (taken count : ℕ) 
 feeds_more first mid now octets taken count o h h_mid h_now front out out_now fed are so_far on more =
     let piece : take (length octets - taken) (drop taken octets) ≡ drop taken octets = take_all (length octets - taken) (drop taken octets) (omega (arith, length-drop taken octets)) in
     subst (λ some. Feeds first now some o h h_now front out_now fed) (ap (λ rest. take taken octets ++ take count rest) piece ∙ sym (take-add taken count octets))
-    (feeds_both first mid now (take taken octets) (take count (take (length octets - taken) (drop taken octets))) o h h_mid h_now front out out_now fed so_far more on (are_taken octets taken are))
+    (feeds_both first mid now (take taken octets) (take count (take (length octets - taken) (drop taken octets))) o h h_mid h_now front out out_now fed so_far more on (AreOctets-take taken octets are))
 
 pub feeds_then : (first mid now : Seen) (octets : List ℕ) (o : Opening) (h h_mid h_now : List Entry) (front out out_now : List ℕ) (fed : Fed) → AreOctets octets → Feeds first mid octets o h h_mid front out On → mid.over ≡ false
     → Feeds mid now [] o h_mid h_now out out_now fed → Feeds first now octets o h h_now front out_now fed
 feeds_then first mid now octets o h h_mid h_now front out out_now fed are so_far on more =
     subst (λ some. Feeds first now some o h h_now front out_now fed) (append-nil octets) (feeds_both first mid now octets [] o h h_mid h_now front out out_now fed so_far more on are)
-
-pub feeds_all : (first now : Seen) (octets : List ℕ) (taken : ℕ) (o : Opening) (h h_now : List Entry) (front out_now : List ℕ) (fed : Fed) → Feeds first now (take taken octets) o h h_now front out_now fed → length octets ≤ taken → Feeds first now octets o h h_now front out_now fed
-feeds_all first now octets taken o h h_now front out_now fed so_far all = subst (λ some. Feeds first now some o h h_now front out_now fed) (take_all taken octets all) so_far
 
 pub feeds_ended : FrontFirst → (first now : Seen) (octets : List ℕ) (taken : ℕ) (o : Opening) (h h_now : List Entry) (front out_now : List ℕ) (fed : Fed)
     → Feeds first now (take taken octets) o h h_now front out_now fed → now.over ≡ true → Feeds first now octets o h h_now front out_now fed

@@ -1,5 +1,5 @@
 -- Turns behind turns.
-use Rattle.std.proofs.Common.{◌≡◌, ℕ, zero, suc, List, [], ◌∷◌, ◌++◌, take, Bool, true, false, Option, Some, None, refl, sym, ap, ◌∙◌, subst, append_assoc, arith}
+use Rattle.std.proofs.Common.{◌≡◌, ℕ, List, [], ◌∷◌, ◌++◌, Bool, true, false, Option, Some, None, refl, sym, ap, ◌∙◌, subst, append_assoc}
 use Rattle.std.proofs.lemmas.Bool.{false≢true}
 use Rattle.std.proofs.lemmas.List.{append-nil, map-append}
 use Rattle.std.specs.Option.{option_to_list}
@@ -10,6 +10,7 @@ use Rattle.jt_platform.specs.Allowed.{Opening}
 use Rattle.jt_platform.specs.declared.request.Entry.{Entry}
 use Rattle.jt_platform.specs.declared.request.Request.{Request}
 use Rattle.jt_platform.specs.declared.request.Reply.{Reply}
+use Rattle.jt_value.proofs.OctetLists.{AreOctets-append}
 use Rattle.jt_session.specs.Law.{ran_short}
 use Rattle.jt_session.specs.Talk.{Way, Goes, Stops, Turn, Talked, Turned, turn_on, turned, talk_from, quiet, told, asks, frame_said, is_fenced, IsReplied, FitsFrom, items_of}
 use Rattle.jt_session.specs.declared.end.Fed.{Fed}
@@ -85,17 +86,6 @@ pub items_append : (newer older : List Turn) → items_of (newer ++ older) ≡ i
 items_append [] older = sym (append-nil (items_of older))
 items_append (t ∷ newer) older = ap (λ l. l ++ t.item ∷ []) (items_append newer older) ∙ append_assoc (items_of older) (items_of newer) (t.item ∷ [])
 
-pub are_both : (a b : List ℕ) → AreOctets a → AreOctets b → AreOctets (a ++ b)
-are_both [] b of_a of_b place = of_b place
-are_both (x ∷ a) b of_a of_b zero = of_a 0
-are_both (x ∷ a) b of_a of_b (suc place) = are_both a b (λ k. of_a (suc k)) of_b place
-
-pub are_taken : (octets : List ℕ) (n : ℕ) → AreOctets octets → AreOctets (take n octets)
-are_taken octets zero are place = omega arith
-are_taken [] (suc n) are place = omega arith
-are_taken (octet ∷ octets) (suc n) are zero = are 0
-are_taken (octet ∷ octets) (suc n) are (suc place) = are_taken octets n (λ k. are (suc k)) place
-
 module _ (s mid now : Seen) (a b : List ℕ) (older newer : List Turn) (first : Turns s mid a older) (second : Turns mid now b newer) (on : mid.over ≡ false) where
   abbrev k : Talked
   k = talk_from (before s) older
@@ -129,7 +119,7 @@ module _ (s mid now : Seen) (a b : List ℕ) (older newer : List Turn) (first : 
         let up_to : items (read ++ a) ≡ (gone ++ items_of older) ++ option_to_list mid.waiting =
         one.1 ∙ (ap (λ r. gone ++ (items_of older ++ (option_to_list mid.waiting ++ r))) open_mid.0
         ∙ (ap (λ w. gone ++ (items_of older ++ w)) (append-nil (option_to_list mid.waiting)) ∙ sym (append_assoc gone (items_of older) (option_to_list mid.waiting)))) in
-        let two = second.items (read ++ a) (gone ++ items_of older) (are_both read a are are_a) open_mid.1 up_to in (
+        let two = second.items (read ++ a) (gone ++ items_of older) (AreOctets-append read a are are_a) open_mid.1 up_to in (
           two.0,
           ap items (sym (append_assoc read a b)) ∙ (two.1 ∙ (append_assoc gone (items_of older) (items_of newer ++ (option_to_list now.waiting ++ two.0))
               ∙ ap (λ l. gone ++ l) (sym (append_assoc (items_of older) (items_of newer) (option_to_list now.waiting ++ two.0)) ∙ ap (λ l. l ++ (option_to_list now.waiting ++ two.0)) (sym (items_append newer older))))),

@@ -1,9 +1,9 @@
 -- The laws of turns.
-use Rattle.std.proofs.Common.{◌≡◌, ℕ, List, [], ◌++◌, Bool, true, false, ◌⊎◌, None, inl, inr, refl, sym, ap, ◌∙◌, subst, append_assoc, arith}
+use Rattle.std.proofs.Common.{◌≡◌, ℕ, List, [], ◌++◌, Bool, true, false, ◌⊎◌, None, inl, inr, refl, sym, ap, ◌∙◌, subst, append_assoc}
 use Rattle.std.proofs.lemmas.Bool.{false≢true}
 use Rattle.std.specs.Option.{option_to_list}
-use Rattle.jt_value.specs.Octets.{AreOctets}
 use Rattle.jt_stream.specs.Unplaced.{Unplaced, items}
+use Rattle.jt_value.proofs.OctetLists.{AreOctets-nil}
 use Rattle.jt_session.specs.Talk.{Turn, Talk, Talked, FitsFrom, at_state, items_of, start, talk_from}
 use Rattle.jt_session.specs.Sessions.{Seen, Turns, before}
 use Rattle.jt_session.specs.TurnLaw.{IsNew, TurnsGoOn}
@@ -38,12 +38,9 @@ all_or_over false rest k all is = inl (all refl)
 pub begun : (s : Seen) → IsNew s → before s ≡ at_state start
 begun s new = ap (λ state. record { state = state; entries = []; written = []; over = s.over }) new.state ∙ ap (λ over. record { state = start; entries = []; written = []; over = over }) new.over
 
-pub no_octets : AreOctets []
-no_octets place = omega arith
-
 pub is_talk : items [] ≡ [] → (s now : Seen) (read : List ℕ) (turns : List Turn) → IsNew s → now.waiting ≡ None → Turns s now read turns → Talk read (talk_from (before s) turns).entries (talk_from (before s) turns).written
 is_talk empty s now read turns new free went =
-    let found = went.items [] [] no_octets new.stream (empty ∙ ap option_to_list (sym new.waiting)) in
+    let found = went.items [] [] AreOctets-nil new.stream (empty ∙ ap option_to_list (sym new.waiting)) in
     record {
       turns = turns;
       fits = subst (λ k. FitsFrom k turns) (begun s new) went.fits;

@@ -1,9 +1,9 @@
 -- A session over a link: what is read, and how it ends.
-use Rattle.std.proofs.Common.{◌≡◌, ◌≢◌, ◌≤◌, ◌<◌, ◌+◌, ◌-◌, ◌*◌, ◌^◌, ◌⊎◌, ℕ, List, [], ◌∷◌, ◌++◌, length, take, drop, Bool, true, false, Option, Some, None, IfSome, inl, inr, refl, sym, ap, ◌∙◌, subst, arith, append_assoc, length-append}
+use Rattle.std.proofs.Common.{◌≡◌, ◌≤◌, ◌<◌, ◌+◌, ◌*◌, ℕ, List, [], ◌∷◌, ◌++◌, length, take, drop, Bool, true, false, Option, Some, None, inl, inr, refl, sym, ap, ◌∙◌, subst, arith, append_assoc, length-append}
 use Rattle.std.proofs.lemmas.Bool.{false≢true}
 use Rattle.std.proofs.lemmas.List.{append-nil, length-take, take_all, take-append-drop}
 use Rattle.std.proofs.KnownBytes.{Appends-nil, Appends-trans, Appends-kept, Consumes-nil, Consumes-trans, Consumes-kept}
-use Rattle.std.specs.Io.KnownBytes.{Appends, Consumes, IsAtEnd}
+use Rattle.std.specs.Io.KnownBytes.{Appends}
 use mathlib.Core.List.{IsPrefix}
 use Rattle.jt_value.specs.Octets.{AreOctets}
 use Rattle.jt_io.specs.Count.{Counts, Rose, RoseBy, counted}
@@ -15,16 +15,16 @@ use Rattle.jt_platform.specs.Allowed.{Opening}
 use Rattle.jt_platform.specs.declared.request.Request.{Request}
 use Rattle.jt_platform.specs.declared.request.Reply.{Reply}
 use Rattle.jt_platform.specs.declared.request.Reply.TheVariants as say
+use Rattle.jt_value.proofs.OctetLists.{AreOctets-append}
 use Rattle.jt_session.specs.declared.end.End.{End as Ending}
 use Rattle.jt_session.specs.declared.end.End.TheVariants as ends
 use Rattle.jt_session.specs.declared.end.Fed.{Fed}
 use Rattle.jt_session.specs.declared.end.Fed.TheVariants.{On, Stop}
-use Rattle.jt_session.specs.Talk.{Way, Goes, Stops, Turn, Talked, talk_from}
-use Rattle.jt_session.specs.Sessions.{Seen, before, end_by, end_of, fed_by}
+use Rattle.jt_session.specs.Talk.{Way, Goes, Stops, Turn}
+use Rattle.jt_session.specs.Sessions.{Seen, end_by, end_of, fed_by}
 use Rattle.jt_session.specs.TurnLaw.{IsNew}
 use Rattle.jt_session.specs.Hearing.{Hears, FailedMore, IsSamePass}
 use Rattle.jt_session.specs.Serving.{Answers, AnswersEnd, Converses, Course, HasCause, Names}
-use Rattle.jt_session.proofs.Joining.{are_both}
 use Rattle.jt_session.proofs.Turning.{takes_none}
 use Rattle.jt_session.proofs.Hearings.{hears_as, hears_both, hears_on, same_both}
 
@@ -224,7 +224,7 @@ module _ {O : Type 0} (o : Option Opening) (s : Seen) (pass : PassState Request 
             taken = taken_now;
             said = c.said ++ did.said;
             hears = subst (λ f. Hears o s next taken_now pass pass_next [] (c.said ++ did.said) f) on_all.0 heard_now;
-            are = are_both c.taken piece c.are are;
+            are = AreOctets-append c.taken piece c.are are;
             gives = gave_now;
             read = omega (arith, c.read, is, length-append c.taken piece);
             writes = subst (λ l. Appends link.written w_next.written (c.said ++ l)) all wrote_now;

@@ -6,6 +6,7 @@ use Rattle.jt_value.specs.Octets.{AreOctets}
 use Rattle.jt_escape.specs.Scan.{State as Splitting}
 use Rattle.jt_header.specs.declared.header.Header.{Header}
 use Rattle.jt_platform.specs.declared.request.Request.{Request}
+use Rattle.jt_value.proofs.OctetLists.{AreOctets-take}
 use Rattle.jt_session.specs.declared.step.Step.{Step}
 use Rattle.jt_session.specs.declared.step.Step.TheVariants.{More}
 use Rattle.jt_session.specs.declared.step.Came.{Came}
@@ -15,7 +16,6 @@ use Rattle.jt_session.specs.Sessions.{Seen, LedTo, Takes}
 use Rattle.jt_session.specs.Steps.{GoesOn}
 use Rattle.jt_session.specs.Waiting.{message_at, state_of, waiting_of}
 use Rattle.jt_session.specs.Reading.{OctetsCame}
-use Rattle.jt_session.proofs.Joining.{are_taken}
 use Rattle.jt_session.proofs.Turning.{silent_goes, quiet_goes, asked_goes, short_goes}
 
 -- a session by its fields
@@ -80,7 +80,7 @@ pub takes_more : (first mid now : Seen) (octets : List ℕ) (taken count : ℕ) 
     → Takes first now (take (taken + count) octets) front out_now
 takes_more first mid now octets taken count front out out_now are so_far goes =
     let piece : take (length octets - taken) (drop taken octets) ≡ drop taken octets = take_all (length octets - taken) (drop taken octets) (omega (arith, length-drop taken octets)) in
-    subst (λ some. Takes first now some front out_now) (ap (λ rest. take taken octets ++ take count rest) piece ∙ sym (take-add taken count octets)) (goes first (take taken octets) front (are_taken octets taken are) so_far)
+    subst (λ some. Takes first now some front out_now) (ap (λ rest. take taken octets ++ take count rest) piece ∙ sym (take-add taken count octets)) (goes first (take taken octets) front (AreOctets-take taken octets are) so_far)
 
 pub led_on : (now : Seen) (step : Step) → step ≡ More → LedTo now step → (now.waiting ≡ None) × (now.over ≡ false)
 led_on now step is led = subst (LedTo now) is led

@@ -6,9 +6,10 @@ use Rattle.jt_value.specs.Octets.{AreOctets}
 use Rattle.jt_escape.specs.Splitter.{StandsFor}
 use Rattle.jt_stream.specs.Unplaced.{Unplaced, items}
 use Rattle.jt_platform.specs.declared.request.Request.{Request}
+use Rattle.jt_value.proofs.OctetLists.{AreOctets-append}
 use Rattle.jt_session.specs.Talk.{Goes, Stops, Talked, turn_on, turned, talk_from, quiet, asks, stopped, frame_said, is_frame, IsReplied, items_of}
 use Rattle.jt_session.specs.Sessions.{Seen, Takes, before, counts}
-use Rattle.jt_session.proofs.Joining.{are_both, not_short}
+use Rattle.jt_session.proofs.Joining.{not_short}
 use Rattle.jt_session.specs.Steps.{Brings, WasSilent, WasQuiet, HasAsked, RanShort, GoesOn}
 
 quiet_on : (k : Talked) (item : Unplaced) → asks k.state item ≡ None → turn_on k item (asks k.state item) (Goes None) ≡ turned k (quiet k.state item) [] false
@@ -44,7 +45,7 @@ module _ (s now : Seen) (octets out out_now : List ℕ) (free : s.waiting ≡ No
       let open_then = old.2 on in
       let here : items (read ++ so_far) ≡ gone ++ items_of tk.turns =
       old.1 ∙ (ap (λ w. gone ++ (items_of tk.turns ++ (option_to_list w ++ old.0))) free ∙ (ap (λ r. gone ++ (items_of tk.turns ++ r)) open_then.0 ∙ ap (λ l. gone ++ l) (append-nil (items_of tk.turns)))) in
-      let brought = brings (read ++ so_far) (are_both read so_far are are_so_far) open_then.1 in (
+      let brought = brings (read ++ so_far) (AreOctets-append read so_far are are_so_far) open_then.1 in (
         ap items (sym (append_assoc read so_far octets)) ∙ (brought.0 ∙ (ap (λ l. l ++ gained) here ∙ append_assoc gone (items_of tk.turns) gained)),
         subst (λ o. StandsFor now.stream o) (append_assoc read so_far octets) brought.1,
       )

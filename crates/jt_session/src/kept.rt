@@ -12,7 +12,7 @@ ghost use Rattle.jt_session.specs.Replies.{HasRoomFor};
 
 use arrayvec::ArrayVec;
 use jt_codec::{frame_into, law_of_acks};
-use jt_header::Header;
+use jt_header::{BODY_LIMIT, Header};
 use jt_platform::Reply;
 use jt_subpacket::Assembler;
 use jt_value::{Buffer, Phone};
@@ -87,7 +87,7 @@ fn put(out: &mut Buffer<u8>, octets: &[u8])
 }
 
 // The body of a general response that names the message.
-fn ack_body(header: &Header, outcome: u8) -> ArrayVec<u8, 1023>
+fn ack_body(header: &Header, outcome: u8) -> ArrayVec<u8, BODY_LIMIT>
     ensures octets { result.items ≡ body_octets header.now.edition (ack header.now outcome) }
     ensures short { length result.items ≡ 5 }
 {
@@ -120,7 +120,7 @@ fn accepted_result(id: u16) -> u8
 
 // The body of a reply to the registration.
 #[tactic(auto, using(std::proofs::Common::append_assoc, jt_layout::proofs::Laws::spell_rest_if), unfolding(jt_codec::specs::Bodies::body, jt_register::specs::Registration::register_reply, jt_layout::specs::Layout::number))]
-fn register_body(header: &Header, outcome: u8, code: &[u8]) -> ArrayVec<u8, 1023>
+fn register_body(header: &Header, outcome: u8, code: &[u8]) -> ArrayVec<u8, BODY_LIMIT>
     requires room { length code.now ≤ 1020 }
     requires code { (outcome ≡ 0) ⊎ (code.now ≡ []) }
     ensures octets { result.items ≡ body_octets header.now.edition (register_reply header.now outcome code.now) }

@@ -17,7 +17,8 @@ use crate::kept::{FAILURE, Kept, MESSAGE_ERROR};
 use crate::request::request_of;
 use crate::step::Came;
 use arrayvec::ArrayVec;
-use jt_header::Header;
+use jt_escape::FRAME_LIMIT;
+use jt_header::{BODY_LIMIT, Header};
 use jt_stream::{Stream, StreamItem, law_items, law_one_list};
 use jt_subpacket::{Fate, PartKey, Taken};
 use jt_value::{Buffer, Edition, Memory, Phone};
@@ -27,11 +28,11 @@ use std::alloc::Global;
 const RESEND: u16 = 0x8003;
 
 /// The most octets of a frame (the standard's framing).
-const MOST_IN_A_FRAME: u64 = 2092;
+const MOST_IN_A_FRAME: u64 = FRAME_LIMIT as u64;
 
 // Puts a number of two octets.
 #[tactic(auto, unfolding(jt_layout::specs::Layout::number))]
-fn put_word(body: &mut ArrayVec<u8, 1023>, number: u16)
+fn put_word(body: &mut ArrayVec<u8, BODY_LIMIT>, number: u16)
     requires { length body.old.items ≤ 1021 }
     ensures octets { body.new.items ≡ body.old.items ++ word.spell number }
     ensures len { length body.new.items ≡ length body.old.items + 2 }
@@ -41,7 +42,7 @@ fn put_word(body: &mut ArrayVec<u8, 1023>, number: u16)
 
 // The serial of the first packet, and how many are asked for: in one octet to 2013, and in two to 2019.
 #[tactic(auto, unfolding(jt_layout::specs::Layout::number))]
-fn resend_front(edition: Edition, first: u16, count: u16) -> ArrayVec<u8, 1023>
+fn resend_front(edition: Edition, first: u16, count: u16) -> ArrayVec<u8, BODY_LIMIT>
     requires { count ≤ 255 }
     ensures octets { result.items ≡ word.spell first ++ (count_part (talk.is_wide edition)).spell count }
     ensures short { length result.items ≤ 4 }
@@ -61,7 +62,7 @@ fn resend_front(edition: Edition, first: u16, count: u16) -> ArrayVec<u8, 1023>
 }
 
 // The body of a request to send packets again.
-fn resend_body(edition: Edition, first: u16, missing: &[u16]) -> ArrayVec<u8, 1023>
+fn resend_body(edition: Edition, first: u16, missing: &[u16]) -> ArrayVec<u8, BODY_LIMIT>
     requires { length missing.now ≤ 255 }
     ensures octets { result.items ≡ body_octets edition (message.Resend (record { first = first; wide = talk.is_wide edition; numbers = missing.now })) }
     ensures short { length result.items < 2 ^ 10 }

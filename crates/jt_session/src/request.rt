@@ -7,14 +7,14 @@ ghost use Rattle.jt_session.specs.Talk as talk;
 ghost use Rattle.jt_platform.specs.declared.request.Request.TheVariants as ask;
 
 use jt_codec::{Message, MessageView, law_of_bodies, read_body, view_message};
-use jt_header::Header;
+use jt_header::{BODY_LIMIT, Header};
 use jt_platform::Request;
 use jt_register::Auth;
 use jt_value::{CodecError, Memory, Octets};
 use std::alloc::Global;
 
 /// The most octets of a body in one piece (the standard's header).
-const MOST_IN_ONE_PIECE: usize = 1023;
+const MOST_IN_ONE_PIECE: usize = BODY_LIMIT;
 
 fn unit(alloc: Global, header: &Header, body: &[u8]) -> Result<Request, Memory>
     ensures { IfOk result (λ request. request ≡ ask.Unit header.now.phone header.now.serial header.now.id body.now) }

@@ -1,10 +1,10 @@
-use Rattle.std.proofs.Common.{◌≡◌, ◌+◌, ◌-◌, [], length, take, drop, refl, ap, ◌∙◌, arith, length-drop}
+use Rattle.std.proofs.Common.{◌+◌, ◌-◌, [], length, take, drop, refl, ap, ◌∙◌, arith, length-drop}
 use Rattle.std.specs.Option.{option_map}
 use Rattle.jt_platform.specs.Hub.{opening_of}
 use Rattle.jt_session.specs.declared.end.Fed.TheVariants.{On, Stop}
 use Rattle.jt_session.proofs.Turning.{takes_none}
 use Rattle.jt_session.proofs.Hubs.{ended}
-use Rattle.jt_session.proofs.Hearings.{hears_all, hears_as, hears_ended, hears_more, hears_on, same_both}
+use Rattle.jt_session.proofs.Hearings.{hears_as, hears_ended, hears_more, hears_on, same_both}
 use Rattle.jt_session.proofs.hearing.hear.Goals as goal
 
 pub loop-taken-init : goal.loop-taken-init

@@ -1,4 +1,4 @@
-use Rattle.std.proofs.Common.{◌≡◌, ◌≤◌, ◌+◌, length, take, ap, sym, arith, rules, refl, length-take}
+use Rattle.std.proofs.Common.{◌≤◌, ◌+◌, take, ap, arith, rules, refl, length-take}
 use Rattle.std.specs.Option.{option_map}
 use Rattle.jt_link.specs.Link.{wire_of}
 use Rattle.jt_platform.specs.Hub.{opening_of}

@@ -1,4 +1,4 @@
-use Rattle.std.proofs.Common.{◌≡◌, ◌≤◌, ◌==◌, sym, subst, arith}
+use Rattle.std.proofs.Common.{◌≤◌, ◌==◌, sym, subst, arith}
 use Rattle.std.specs.Prelude.{IsSomeAnd}
 use Rattle.std.specs.Option.{option_map}
 use Rattle.jt_link.specs.Link.{wire_of}
