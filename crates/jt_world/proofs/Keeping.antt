@@ -21,7 +21,7 @@ use Rattle.jt_world.specs.World.{World, Line, written, moved, completed, carried
 use Rattle.jt_world.specs.Events.{Event, Record, Form, Send, Up, Down, Accept, IsPrefixOf, MayForm, MaySend, MayCome, after, was_sent, frame_at, is_accepted_by, accepted_by, oldest_by, may_accept, told_of, heard, sent, answered, is_above, is_new, stored, seen, unit_taken, moved_up, moved_down}
 use Rattle.jt_world.specs.Reaching.{MayAll, after_all, Reached}
 use Rattle.jt_world.specs.Claim.{Kept}
-use Rattle.jt_world.proofs.Lists.{some_is, none_some, get_left, get_push, get_pushed, get_within, get_has, get_take, take_next, and_left, and_right, filter_passes}
+use Rattle.jt_world.proofs.Lists.{some_is, none_some, heads, tails, get_left, get_push, get_pushed, get_within, get_has, get_take, take_next, and_left, and_right, filter_passes}
 use Rattle.jt_world.proofs.View.{Laws, View, Comes, view_silent, view_written, view_moved}
 use Rattle.jt_world.proofs.Meaning.{IsGood, unit_header_good, unit_content_is, answer_content_is, answer_read, content_fits, fix_one, good_unit, good_of}
 use Rattle.jt_world.proofs.Invariant.{Sent, Reply, content_sent, content_replied, end_of, InOrder, AllStored, UnitsOk, Inv}
@@ -332,12 +332,6 @@ up_kept below w v (m ∷ ms) order sent (inr came) =
     good : IsGood m.unit
     good = v.units.good m.place m.unit order.0
 
-    heads : (a b : List ℕ) (xs ys : List (List ℕ)) → a ∷ xs ≡ b ∷ ys → b ≡ a
-    heads a b xs ys e = cc
-
-    tails : (a b : List ℕ) (xs ys : List (List ℕ)) → a ∷ xs ≡ b ∷ ys → xs ≡ ys
-    tails a b xs ys e = cc
-
     rest : map content_sent ms ≡ came.1
     rest = tails (content_sent m) came.0 (map content_sent ms) came.1 came.2
 
@@ -416,12 +410,6 @@ down_kept below w v (r ∷ rs) all (inr came) =
   where
     good : IsHeader (unit_header r.unit)
     good = unit_header_good r.unit (v.units.good r.place r.unit all.0)
-
-    heads : (a b : List ℕ) (xs ys : List (List ℕ)) → a ∷ xs ≡ b ∷ ys → b ≡ a
-    heads a b xs ys e = cc
-
-    tails : (a b : List ℕ) (xs ys : List (List ℕ)) → a ∷ xs ≡ b ∷ ys → xs ≡ ys
-    tails a b xs ys e = cc
 
     rest : map content_replied rs ≡ came.1
     rest = tails (content_replied r) came.0 (map content_replied rs) came.1 came.2

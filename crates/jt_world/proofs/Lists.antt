@@ -11,6 +11,13 @@ some_is x y e = cc
 pub none_some : {A B : Type 0} (x : A) → ◌≡◌ {A = Option A} None (Some x) → B
 none_some x e = absurd cc
 
+-- equal lists have equal first items and equal rests
+pub heads : {A : Type 0} (a b : A) (xs ys : List A) → a ∷ xs ≡ b ∷ ys → b ≡ a
+heads a b xs ys e = cc
+
+pub tails : {A : Type 0} (a b : A) (xs ys : List A) → a ∷ xs ≡ b ∷ ys → xs ≡ ys
+tails a b xs ys e = cc
+
 pub at_length : {A : Type 0} (xs : List A) → slice_get xs (length xs) ≡ None
 at_length [] = refl
 at_length (x ∷ xs) = at_length xs

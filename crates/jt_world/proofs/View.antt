@@ -9,7 +9,7 @@ use Rattle.jt_escape.specs.Span.{IsContent}
 use Rattle.jt_header.specs.Content.{Content}
 use Rattle.jt_header.specs.declared.header.Header.{Header}
 use Rattle.jt_stream.specs.Unplaced.{Unplaced, Message, items, of_content}
-use Rattle.jt_world.proofs.Lists.{at_length, at_push}
+use Rattle.jt_world.proofs.Lists.{at_length, at_push, heads}
 use Rattle.jt_world.specs.World.{Wire, written, moved, completed, silent}
 
 -- what streams promise of their items
@@ -90,9 +90,6 @@ comes_by wire waiting v lt (item ∷ []) rest grown whole one = inr (next waitin
       },
     )
       where
-        heads : (a b : Unplaced) (xs ys : List Unplaced) → a ∷ xs ≡ b ∷ ys → b ≡ a
-        heads a b xs ys h = cc
-
         first : item ≡ of_content content
         first = heads (of_content content) item (map of_content more) rest (ap (map of_content) (sym is) ∙ e)
 
