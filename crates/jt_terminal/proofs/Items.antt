@@ -16,12 +16,11 @@ use Rattle.jt_stream.specs.declared.stream.StreamItem.TheVariants as answer
 use Rattle.jt_stream.specs.Unplaced.{Unplaced, Fault, items, unplaced}
 use Rattle.jt_store.specs.Vaults.{Held}
 use Rattle.jt_subpacket.specs.Partials.{Partial}
-use Rattle.jt_terminal_rule.specs.declared.settings.Settings.{Settings}
 use Rattle.jt_terminal_rule.specs.declared.state.State.{State}
 use Rattle.jt_terminal_rule.specs.declared.state.GiveUp.{GiveUp}
-use Rattle.jt_terminal_rule.specs.Rule.{Step, Ruled, and_then, heard, stays}
-use Rattle.jt_terminal_steps.specs.Running.{CutShort, Ran, holds_after}
-use Rattle.jt_terminal.specs.Line.{LineValue, StandsForLine, fed, fed_items, goes_on, goes_on_unless, hears, kept_behind, kept_by, more_unless, new_items, of_item, partial_of, told_at, told_items, told_one}
+use Rattle.jt_terminal_rule.specs.Rule.{Step, Ruled, and_then, stays}
+use Rattle.jt_terminal_steps.specs.Running.{CutShort, Ran}
+use Rattle.jt_terminal.specs.Line.{StandsForLine, fed, fed_items, goes_on, goes_on_unless, hears, kept_behind, kept_by, more_unless, new_items, of_item, told_at, told_items, told_one}
 use Rattle.jt_terminal.specs.Feeding.{Brings, HasFed, HasFedFront, Scene, WasCut, message_at}
 use Rattle.jt_terminal_steps.proofs.Chaining.{cut_then, ran_then}
 

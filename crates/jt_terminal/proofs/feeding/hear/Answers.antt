@@ -1,4 +1,4 @@
-use Rattle.std.proofs.Common.{◌+◌, None, subst, sym, arith, length-drop}
+use Rattle.std.proofs.Common.{◌+◌, None, subst, arith, length-drop}
 use Rattle.jt_terminal_steps.proofs.Chaining.{any_err}
 use Rattle.jt_terminal.specs.Feeding.{HasFed, scene}
 use Rattle.jt_terminal.proofs.Looping.{cut_more_octets, fed_more_octets, fed_nothing, front_given_up, same_on, same_state, steady_at_first, steady_on}

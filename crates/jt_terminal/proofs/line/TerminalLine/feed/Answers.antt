@@ -1,4 +1,4 @@
-use Rattle.std.proofs.Common.{◌≡◌, List, ℕ, [], ◌++◌, None, sym, ◌∙◌, ap, arith}
+use Rattle.std.proofs.Common.{◌≡◌, [], ◌++◌, None, arith}
 use Rattle.std.proofs.lemmas.Result.{on_err_weaker}
 use Rattle.jt_terminal_rule.specs.Rule.{sends}
 use Rattle.jt_terminal_steps.specs.Running.{holds_after}
