@@ -150,7 +150,7 @@ fn each_message_is_answered(rt: HostRuntime) -> Result<(), Fail> {
 
 #[test]
 fn before_live_nothing_is_answered(rt: HostRuntime) -> Result<(), Fail> {
-    let rows: [(u8, u32, &[u8], &[u8]); 15] = [
+    let rows: [(u8, u32, &[u8], &[u8]); 18] = [
         (
             b'O',
             0,
@@ -208,6 +208,24 @@ fn before_live_nothing_is_answered(rt: HostRuntime) -> Result<(), Fail> {
         (
             b'D',
             0,
+            b"\x7e\x80\x01\x00\x05\x01\x39\x12\x34\x56\x78\x00\x6d\x00\x05\x02\x00\x00\xde\x7e",
+            b"",
+        ),
+        (
+            b'D',
+            0,
+            b"\x7e\x81\x00\x00\x05\x01\x39\x12\x34\x56\x78\x00\x6e\x00\x07\x00\x41\x42\xde\x7e",
+            b"",
+        ),
+        (
+            b'D',
+            0,
+            b"\x7e\x80\x03\x00\x05\x01\x39\x12\x34\x56\x78\x00\x6f\x00\x0a\x01\x00\x01\xd3\x7e",
+            b"",
+        ),
+        (
+            b'D',
+            0,
             b"\x7e\x81\x06\x20\x01\x01\x39\x12\x34\x56\x78\x03\x86\x00\x03\x00\x03\x03\x10\x7e",
             b"",
         ),
@@ -242,7 +260,7 @@ fn before_live_nothing_is_answered(rt: HostRuntime) -> Result<(), Fail> {
             b"\x7e\x01\x04\x00\x1e\x01\x39\x12\x34\x56\x78\x00\x02\x00\x6c\x03\x00\x00\x00\x01\x04\x00\x00\x00\x3c\x00\x00\x00\x02\x04\x00\x00\x00\x0a\x00\x00\x00\x03\x04\x00\x00\x00\x03\x77\x7e",
         ),
     ];
-    assert_eq!(rt; first_wrong(rt.alloc(), Edition::E2013, &rows), 15);
+    assert_eq!(rt; first_wrong(rt.alloc(), Edition::E2013, &rows), 18);
     Ok(())
 }
 
