@@ -34,6 +34,8 @@ const FLEET: &str = "# one vehicle\nsecret 3132\nplate 4a54383038\n\nterminal 31
 struct Scene {
     source: &'static str,
     octets: &'static [u8],
+    source_fails: u64,
+    sink_fails: u64,
     link_fails: u64,
     listen_fails: u64,
     keeper_fails: u64,
@@ -45,6 +47,8 @@ fn calm(source: &'static str, octets: &'static [u8]) -> Scene {
     Scene {
         source,
         octets,
+        source_fails: 0,
+        sink_fails: 0,
         link_fails: 0,
         listen_fails: 0,
         keeper_fails: 0,
@@ -77,8 +81,9 @@ fn ran<R: Threads + Wait + Sync>(
     alloc: Global,
     scene: &Scene,
 ) -> Result<(Status, Octets, Octets), Memory> {
-    let mut source = MemSource::new(octets(alloc, scene.source.as_bytes())?, Seq::new(alloc));
-    let mut sink = MemSink::new(alloc, 65_536, Seq::new(alloc))?;
+    let fleet = octets(alloc, scene.source.as_bytes())?;
+    let mut source = MemSource::new(fleet, failing(alloc, scene.source_fails)?);
+    let mut sink = MemSink::new(alloc, 65_536, failing(alloc, scene.sink_fails)?)?;
     let mut listen = listener(alloc, scene)?;
     let keeper = MemKeeper::new(alloc, scene.limit, failing(alloc, scene.keeper_fails)?);
     let words = PlatformWords {
@@ -136,6 +141,14 @@ fn what_is_printed(rt: HostRuntime) -> Result<(), Fail> {
         listen_fails: 1,
         ..calm("secret 3132", HEARTBEAT)
     };
+    let source_fails = Scene {
+        source_fails: 1,
+        ..calm("secret 3132", HEARTBEAT)
+    };
+    let sink_fails = Scene {
+        sink_fails: 1,
+        ..calm("secret 3132", HEARTBEAT)
+    };
     let full = Scene {
         limit: 1,
         ..calm(FLEET, TERMINAL)
@@ -166,6 +179,8 @@ fn what_is_printed(rt: HostRuntime) -> Result<(), Fail> {
             Status::NetFault,
         ),
         (start_fails, "listen fault\n", Status::NetFault),
+        (source_fails, "", Status::ReadFault),
+        (sink_fails, "", Status::WriteFault),
         (
             calm("secret 3132", PACKETS),
             "session 1 ended read=105 written=0 frames=5 refused=0 dropped=1\nentries=1 stored=0 repeat=0 renumbered=0\n",
