@@ -1,5 +1,5 @@
 -- Why a run of `platform` ends with a status.
-use Rattle.std.proofs.Common.{◌≡◌, ◌≢◌, ◌≤◌, ◌+◌, ◌⊎◌, inl, inr, ℕ, Bool, true, false, if◌then◌else◌, List, [], ◌∷◌, length, Option, Some, None, refl, sym, ap, subst, ◌∙◌, arith}
+use Rattle.std.proofs.Common.{◌≡◌, ◌≢◌, ◌≤◌, ◌+◌, ◌⊎◌, inl, inr, ℕ, Bool, true, false, if◌then◌else◌, List, [], ◌∷◌, length, Option, Some, None, refl, sym, subst, ◌∙◌, arith}
 use Rattle.jt_io.specs.Count.{Rose, RoseBy}
 use Rattle.jt_link.specs.Pool.{Pool}
 use Rattle.jt_runner.specs.Answer.{IsFault}
@@ -11,7 +11,7 @@ use Rattle.jt_server.specs.declared.served.ServeEnd.TheVariants as served
 use Rattle.jt_session.specs.declared.end.End.{End}
 use Rattle.jt_session.specs.declared.end.End.TheVariants as ends
 use Rattle.jt_session.specs.declared.report.Report.{Report}
-use Rattle.jt_platform_command.specs.Platform.{some_end, is_memory, is_store_fault, first_limit, last_reply, store_reply, full_reply}
+use Rattle.jt_platform_command.specs.Platform.{some_end, is_store_fault, first_limit, last_reply, store_reply}
 
 -- the status of a run with sessions
 abbrev pub status_of : Bool → Status → Status

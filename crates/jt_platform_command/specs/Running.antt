@@ -13,8 +13,10 @@ use Rattle.jt_platform.specs.declared.request.Entry.{Entry}
 use Rattle.jt_platform.specs.declared.request.Fleet.{Fleet}
 use Rattle.jt_runner.specs.Answer.{Answers}
 use Rattle.jt_runner.specs.declared.status.Status.{Status}
+use Rattle.jt_runner.specs.declared.status.Status.TheVariants as status
 use Rattle.jt_server.specs.Served.{AreServed, EndsAs, store_faults}
 use Rattle.jt_server.specs.declared.served.ServeEnd.{ServeEnd}
+use Rattle.jt_server.specs.declared.served.ServeEnd.TheVariants as served
 use Rattle.jt_session.specs.declared.report.Report.{Report}
 use Rattle.jt_fleet.specs.FleetText.{FleetOf, fleet_in}
 use Rattle.jt_fleet.specs.FleetText as text
@@ -73,6 +75,20 @@ Does O NoListener sessions taken left_now old now reports history = (secret : Li
 Does O (Served end told entries) sessions taken left_now old now reports history = (secret : List ℕ) × (fleet : Fleet) × NamesFleet taken left_now secret fleet
     × Listens O (Served end told entries) (opening_of old.tables old.limit fleet secret) sessions old now reports history
 
+-- where memory was wanted for a further link, the status says so
+abbrev pub EndsOf : ServeEnd → Status → Type 0
+EndsOf served.All s = Unit {0}
+EndsOf served.Over s = Unit {0}
+EndsOf served.ListenFault s = Unit {0}
+EndsOf served.Memory s = s ≡ status.Memory
+
+-- why no link was served, or no more: memory was wanted or a read failed, where what came of the run does not tell it
+abbrev pub EndsSo : Came → Status → Type 0
+EndsSo (BadLine number) s = Unit {0}
+EndsSo Unserved s = (s ≡ status.Memory) ⊎ (s ≡ status.ReadFault)
+EndsSo NoListener s = Unit {0}
+EndsSo (Served end reports history) s = EndsOf end s
+
 -- A run of `platform`: octets of the source were taken, this came of it, and its text was written, or a prefix of it at a fault.
 pub record RunsPlatform (O : Type 0) (sessions : ℕ) (left left_now : Option (List ℕ)) (old now : Scene) (written written_now : Option (List ℕ)) (reports : List Report) (history : List Entry) (status : Status) : Type 0 where
   pub came : Came
@@ -80,3 +96,4 @@ pub record RunsPlatform (O : Type 0) (sessions : ℕ) (left left_now : Option (L
   pub consumed : Consumes left left_now taken
   pub does : Does O came sessions taken left_now old now reports history
   pub answers : Answers status (platform_text came) written written_now
+  pub ends : EndsSo came status

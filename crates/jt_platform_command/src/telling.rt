@@ -5,6 +5,7 @@ ghost use Rattle.jt_io.specs.Count.{Rose};
 ghost use Rattle.jt_runner.specs.Answer.{Answers, IsFault};
 ghost use Rattle.jt_runner.specs.declared.status.Status.TheVariants.{Memory};
 ghost use Rattle.jt_platform_command.specs.Platform.{BadLine, NoListener, Served, is_memory, last_reply, platform_text, some_end};
+ghost use Rattle.jt_platform_command.specs.Running.{EndsOf};
 
 use crate::printing::{push_entries_line, push_last_line, push_session_lines, served_status};
 use jt_io::{Sink, write_all};
@@ -14,13 +15,14 @@ use jt_server::ServeEnd;
 use jt_session::Report;
 use std::alloc::{AllocError, Global};
 
-// Writes a text, all at once.
+// Writes a text, all at once. Want of memory is told whatever becomes of the write.
 fn write_text<K: Sink>(sink: &mut K, text: &[u8], status: Status) -> Status
     ensures answers { Answers result (record { text = text.now; status = status }) (K.written sink.old) (K.written sink.new) }
     ensures status { (result ≡ status) ⊎ (result ≡ Status.WriteFault) }
+    ensures memory { status ≡ Status.Memory → result ≡ Status.Memory }
     ensures write_fault { result ≡ Status.WriteFault → status ≢ Status.WriteFault → Rose (K.faults sink.old) (K.faults sink.new) }
 {
-    if write_all(sink, text) {
+    if write_all(sink, text) || status == Status::Memory {
         status
     } else {
         Status::WriteFault
@@ -80,6 +82,7 @@ pub(crate) fn tell_served<K: Sink>(
     ensures status { (result ≡ (if some_end is_memory reports.now then Memory else (last_reply end reports.now).status)) ⊎ IsFault result }
     ensures write_fault { result ≡ Status.WriteFault → Rose (K.faults sink.old) (K.faults sink.new) }
     ensures no_read_fault { result ≢ Status.ReadFault }
+    ensures ends { EndsOf end result }
 {
     let mut text = String::new(alloc);
     match push_served(&mut text, end, reports, history) {

@@ -1,4 +1,4 @@
-use Rattle.std.proofs.Common.{◌≡◌, inl, inr, refl, sym, ap, subst, [], List, ℕ}
+use Rattle.std.proofs.Common.{inl, inr, refl, sym, ap, subst, []}
 use Rattle.std.proofs.KnownBytes.{Appends-nil}
 use Rattle.jt_runner.specs.Answer.{IsFault}
 use Rattle.jt_platform_command.specs.Platform.{Unserved, platform_text}
@@ -14,4 +14,5 @@ returns-in-Err-clause-runs g c =
       consumed = c.read_fleet.ensures.reads.consumed;
       does = record { none = ap (λ r. r.reports) out; no_entry = ap (λ r. r.history) out; pool = refl };
       answers = inr (subst IsFault (sym (ap (λ r. r.status) out)) tt, ([], [], refl, Appends-nil _));
+      ends = inl (ap (λ r. r.status) out);
     }
