@@ -1,5 +1,5 @@
 -- What is said of waits holds after each event, and where a line is given up all waits have passed.
-use Rattle.std.proofs.Common.{◌≡◌, ℕ, List, [], ◌∷◌, Option, Some, None, sym, ap, ◌∙◌, subst}
+use Rattle.std.proofs.Common.{◌≡◌, ℕ, List, [], ◌∷◌, Bool, true, false, Option, Some, None, sym, ap, ◌∙◌, subst}
 use Rattle.jt_stream.specs.Unplaced.{Unplaced}
 use Rattle.jt_subpacket.specs.Partials.{Partial}
 use Rattle.jt_terminal_rule.specs.declared.state.State.{State}
@@ -7,7 +7,9 @@ use Rattle.jt_terminal_rule.specs.declared.state.Event.{Event}
 use Rattle.jt_terminal_rule.specs.declared.state.Event.TheVariants.{Tick}
 use Rattle.jt_terminal_rule.specs.declared.state.GiveUp.{GiveUp}
 use Rattle.jt_terminal_rule.specs.declared.state.GiveUp.TheVariants.{TimedOut}
-use Rattle.jt_terminal_rule.specs.Rule.{Heard, Ruled, down, rule}
+use Rattle.jt_terminal_rule.specs.declared.state.Phase.{Phase}
+use Rattle.jt_terminal_rule.specs.declared.state.Phase.TheVariants.{Down}
+use Rattle.jt_terminal_rule.specs.Rule.{Heard, Ruled, is_waiting, rule}
 use Rattle.jt_terminal_rule.specs.Waits.{IsLate, IsTimed}
 use Rattle.jt_terminal_rule.proofs.Lasting.{passes_all_waits}
 use Rattle.jt_terminal.specs.Line.{fed_items, goes_on_unless, hears, kept_by, of_item}
@@ -15,8 +17,15 @@ use Rattle.jt_terminal.specs.Line.{fed_items, goes_on_unless, hears, kept_by, of
 pub timed_after : (s now : State) (event : Event) → now ≡ (rule s event).state → IsTimed s → IsTimed now
 timed_after s now event is timed = subst IsTimed (sym is) (passes_all_waits.kept s event timed)
 
-pub timed_down : (s now : State) → now ≡ down s → IsTimed now
-timed_down s now is = subst IsTimed (sym is) (passes_all_waits.lost s)
+never : {P : Type 0} (b : Bool) → b ≡ false → b ≡ true → P
+never true e f = absurd cc
+never false e f = absurd cc
+
+-- without a line nothing is waited for
+pub timed_without_line : (now : State) → now.phase ≡ Down → IsTimed now
+timed_without_line now is =
+    let quiet : is_waiting now.phase now.sent ≡ false = ap (λ (p : Phase). is_waiting p now.sent) is in
+    record { some = λ waits. never (is_waiting now.phase now.sent) quiet waits; passed = λ waits. never (is_waiting now.phase now.sent) quiet waits }
 
 pub late_of : (s : State) (event : Event) (end : Option GiveUp) (now since at : ℕ) → IsTimed s → event ≡ Tick now → end ≡ (rule s event).end → end ≡ Some (TimedOut since at) → IsLate s now since at
 late_of s event end now since at timed tick is e = passes_all_waits.late s now since at timed (ap (λ (x : Event). (rule s x).end) (sym tick) ∙ (sym is ∙ e))

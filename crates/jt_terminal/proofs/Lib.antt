@@ -5,3 +5,4 @@ mod Items
 mod Judging
 mod Lateness
 mod Looping
+mod Staying

@@ -55,10 +55,10 @@ front_whole old now octets count all fed = record { front = octets; back = []; p
 -- ---- what stays
 
 pub same_state : (s : State) → IsSame s s
-same_state s = record { settings = refl; time = refl }
+same_state s = record { settings = refl; time = refl; last = refl }
 
 pub same_on : (old mid now : State) → IsSame old mid → IsSame mid now → IsSame old now
-same_on old mid now one two = record { settings = two.settings ∙ one.settings; time = two.time ∙ one.time }
+same_on old mid now one two = record { settings = two.settings ∙ one.settings; time = two.time ∙ one.time; last = two.last ∙ one.last }
 
 pub steady_at_first : (faults most : ℕ) (may : Bool) → IsSteadySoFar faults faults most most may may
 steady_at_first faults most may = record { limit = refl; later = omega arith; steady = λ e. e }

@@ -73,6 +73,7 @@ impl TerminalLine {
         ensures sound { IsSound (V.holds terminal.new.vault) terminal.new.state }
         ensures settings { terminal.new.state.settings ≡ terminal.old.state.settings }
         ensures time { terminal.new.state.time ≡ terminal.old.state.time }
+        ensures last { terminal.new.state.last ≡ terminal.old.state.last }
         ensures outside { Outside (V.faults terminal.old.vault) (V.faults terminal.new.vault) (V.limit terminal.old.vault) (V.limit terminal.new.vault) (V.may_fail terminal.old.vault) (V.may_fail terminal.new.vault) result }
     {
         law_front();

@@ -7,6 +7,7 @@ ghost use Rattle.jt_store.specs.Vaults.{Held, Notes, Records, settled};
 ghost use Rattle.jt_terminal_rule.specs.Messages.{AreSettings};
 ghost use Rattle.jt_terminal_rule.specs.Rule as rule;
 ghost use Rattle.jt_terminal.specs.Feeding.{HasFedFront, WasCut, scene};
+ghost use Rattle.jt_terminal_steps.specs.AfterError.{AllTablesOrNone, AreSameParams, CutLists, lists_of, sets_params};
 ghost use Rattle.jt_terminal_steps.specs.Running.{Counts, CutShort, IsDone, IsDown, IsEvent, IsRefused, IsSame, IsSound, IsStarted, Outside, Ran, TerminalValue, holds_after, time_after};
 ghost use Rattle.jt_terminal_steps.specs.declared.error.TerminalError.TheVariants.{Store};
 ghost use Rattle.jt_terminal_rule.specs.declared.state.Event.TheVariants.{Lost, Tick};
@@ -120,6 +121,10 @@ fn run_rule<V: Vault>(
     ensures sound { IsSound (V.holds vault.new) state.new }
     ensures settings { state.new.settings ≡ state.old.settings }
     ensures time { state.new.time ≡ time_after state.old event.now }
+    ensures last { state.new.last ≡ state.old.last }
+    ensures params { sets_params event.now ≡ false → AreSameParams state.old state.new }
+    ensures tables { OnErr result (AllTablesOrNone state.old (rule.rule state.old event.now).state state.new) }
+    ensures lists { OnErr result (CutLists (rule.rule state.old event.now).steps (lists_of state.old) (lists_of state.new)) }
     ensures lost { event.now ≡ Lost → IsOk result }
     ensures outside { Outside (V.faults vault.old) (V.faults vault.new) (V.limit vault.old) (V.limit vault.new) (V.may_fail vault.old) (V.may_fail vault.new) result }
 {
@@ -175,6 +180,10 @@ fn act<V: Vault>(
     ensures timed { IsTimed state.new }
     ensures settings { state.new.settings ≡ state.old.settings }
     ensures time { state.new.time ≡ time_after state.old event.now }
+    ensures last { state.new.last ≡ state.old.last }
+    ensures params { sets_params event.now ≡ false → AreSameParams state.old state.new }
+    ensures tables { OnErr result (AllTablesOrNone state.old (rule.rule state.old event.now).state state.new) }
+    ensures lists { OnErr result (CutLists (rule.rule state.old event.now).steps (lists_of state.old) (lists_of state.new)) }
     ensures lost { event.now ≡ Lost → IsOk result }
     ensures outside { Outside (V.faults vault.old) (V.faults vault.new) (V.limit vault.old) (V.limit vault.new) (V.may_fail vault.old) (V.may_fail vault.new) result }
 {
@@ -320,7 +329,9 @@ impl<V: Vault> Terminal<V> {
     /// edition and has its id, and a moment is not before an earlier one.
     ///
     /// Store comes only where the vault's count of faults rose in this call. After an error the vault holds what some first
-    /// changes of the event make of it, and the terminal has no line and agrees with its vault. At Lost there is no error.
+    /// changes of the event make of it, and the terminal has no line and agrees with its vault: units, fixes, serials and code
+    /// are what some first steps of the event make of them, and times and tables are all as before or all the rule's. The last
+    /// fix stays at each event. At Lost there is no error.
     pub fn event(&mut self, alloc: Global, event: Event) -> Result<Actions, TerminalError>
         requires { IsEvent self.old.state event }
         ensures state { OnOk result (self.new.state ≡ (rule.rule self.old.state event).state) }
@@ -335,6 +346,11 @@ impl<V: Vault> Terminal<V> {
         ensures sound { IsSound (V.holds self.new.vault) self.new.state }
         ensures settings { self.new.state.settings ≡ self.old.state.settings }
         ensures time { self.new.state.time ≡ time_after self.old.state event }
+        ensures last { self.new.state.last ≡ self.old.state.last }
+        // A 0x8103 alone changes times and parameters.
+        ensures params { sets_params event ≡ false → AreSameParams self.old.state self.new.state }
+        ensures tables { OnErr result (AllTablesOrNone self.old.state (rule.rule self.old.state event).state self.new.state) }
+        ensures lists { OnErr result (CutLists (rule.rule self.old.state event).steps (lists_of self.old.state) (lists_of self.new.state)) }
         ensures lost { event ≡ Lost → IsOk result }
         ensures outside { Outside (V.faults self.old.vault) (V.faults self.new.vault) (V.limit self.old.vault) (V.limit self.new.vault) (V.may_fail self.old.vault) (V.may_fail self.new.vault) result }
     {

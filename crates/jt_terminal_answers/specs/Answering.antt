@@ -1,14 +1,15 @@
 -- What the calls that answer make of a terminal's state.
-use Rattle.std.specs.Prelude.{◌≡◌, Bool, true, false, List, Some, None}
+use Rattle.std.specs.Prelude.{◌≡◌, ◌⊎◌, Bool, true, false, List, Some, None}
 use Rattle.jt_params.specs.declared.param.Param.{Param}
 use Rattle.jt_regions.specs.declared.change.RegionChange.{RegionChange}
 use Rattle.jt_terminal_rule.specs.declared.state.State.{State}
-use Rattle.jt_terminal_rule.specs.Answers.{timing_after}
+use Rattle.jt_terminal_rule.specs.Answers.{Answer, timing_after}
+use Rattle.jt_terminal_rule.specs.Rule.{changed_by}
 use Rattle.jt_terminal_rule.specs.Tables.{params_after, regions_after}
 
--- nothing but times and tables is another
-abbrev pub OnlyTables : State → State → Type 0
-OnlyTables old now = now ≡ record old { timing = now.timing; params = now.params; regions = now.regions }
+-- nothing was done of an answer, or times and tables are all the answer's and nothing else is another
+abbrev pub AllOrNothing : State → Answer → State → Type 0
+AllOrNothing old a now = (now ≡ old) ⊎ (now ≡ changed_by old a)
 
 -- the table took the parameters, and with them the times, or would have had too many
 abbrev pub TookParams : Bool → State → List Param → State → Type 0

@@ -12,7 +12,7 @@ ghost use Rattle.jt_codec.specs.declared.message.Message.TheVariants as message;
 ghost use Rattle.jt_terminal_rule.specs.Messages.{AreSettings, BeginsWith};
 ghost use Rattle.jt_terminal_rule.specs.Answers as table;
 ghost use Rattle.jt_terminal_rule.specs.Rule as rule;
-ghost use Rattle.jt_terminal_answers.specs.Answering.{OnlyTables};
+ghost use Rattle.jt_terminal_answers.specs.Answering.{AllOrNothing};
 
 use crate::params::{set_params_of, tell_all, tell_some};
 use crate::position::tell_position;
@@ -59,7 +59,8 @@ fn deletion(alloc: Global, kind: RegionKind, ids: &Seq<u32>) -> Result<RegionCha
 }
 
 /// Answers a message by the table of answers: parameters and regions are set, told or changed, the position is told, and every
-/// other message but a response or a reply gets a general response. After want of memory at most times and tables are changed.
+/// other message but a response or a reply gets a general response. After want of memory nothing is changed, or times and
+/// tables alone, as the answer has them.
 pub fn answer(
     alloc: Global,
     state: &mut State,
@@ -72,7 +73,7 @@ pub fn answer(
     requires fits { Fits header.now.edition message.now }
     ensures state { OnOk result (state.new ≡ (rule.answers state.old (table.answer_to state.old header.now message.now)).state) }
     ensures out { OnOk result (out.new ≡ out.old ++ rule.sends state.old.settings (rule.answers state.old (table.answer_to state.old header.now message.now)).steps) }
-    ensures err { OnErr result (OnlyTables state.old state.new) }
+    ensures err { OnErr result (AllOrNothing state.old (table.answer_to state.old header.now message.now) state.new) }
     ensures octets { HasOctets state.new.params }
     ensures kept { BeginsWith out.new out.old }
 {

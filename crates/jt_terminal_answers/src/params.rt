@@ -10,7 +10,7 @@ ghost use Rattle.jt_terminal_rule.specs.Messages.{AreSettings, BeginsWith};
 ghost use Rattle.jt_terminal_rule.specs.Answers as table;
 ghost use Rattle.jt_terminal_rule.specs.Rule as rule;
 ghost use Rattle.jt_terminal_rule.specs.Tables.{params_after, set_params};
-ghost use Rattle.jt_terminal_answers.specs.Answering.{OnlyTables, TookParams};
+ghost use Rattle.jt_terminal_answers.specs.Answering.{AllOrNothing, TookParams};
 
 use crate::saying::{FAILURE, SUCCESS, respond, say_answer};
 use jt_codec::{Message, write_body};
@@ -106,7 +106,7 @@ pub(crate) fn set_params_of(
     requires held { HasOctets state.old.params }
     ensures state { OnOk result (state.new ≡ (rule.answers state.old (table.takes_params state.old header.now params.now (params_after params.now state.old.params))).state) }
     ensures out { OnOk result (out.new ≡ out.old ++ rule.sends state.old.settings (rule.answers state.old (table.takes_params state.old header.now params.now (params_after params.now state.old.params))).steps) }
-    ensures err { OnErr result (OnlyTables state.old state.new) }
+    ensures err { OnErr result (AllOrNothing state.old (table.takes_params state.old header.now params.now (params_after params.now state.old.params)) state.new) }
     ensures octets { HasOctets state.new.params }
     ensures kept { BeginsWith out.new out.old }
 {

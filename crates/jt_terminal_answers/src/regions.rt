@@ -5,7 +5,7 @@ ghost use Rattle.jt_regions.specs.Tables.{AtMost};
 ghost use Rattle.jt_terminal_rule.specs.Messages.{AreSettings, BeginsWith};
 ghost use Rattle.jt_terminal_rule.specs.Answers as table;
 ghost use Rattle.jt_terminal_rule.specs.Rule as rule;
-ghost use Rattle.jt_terminal_answers.specs.Answering.{OnlyTables, TookChange};
+ghost use Rattle.jt_terminal_answers.specs.Answering.{AllOrNothing, TookChange};
 
 use crate::saying::{FAILURE, SUCCESS, respond};
 use jt_header::Header;
@@ -39,7 +39,7 @@ pub(crate) fn change_regions(
     requires few { AtMost 65535 change.now }
     ensures state { OnOk result (state.new ≡ (rule.answers state.old (table.takes_change state.old header.now change.now)).state) }
     ensures out { OnOk result (out.new ≡ out.old ++ rule.sends state.old.settings (rule.answers state.old (table.takes_change state.old header.now change.now)).steps) }
-    ensures err { OnErr result (OnlyTables state.old state.new) }
+    ensures err { OnErr result (AllOrNothing state.old (table.takes_change state.old header.now change.now) state.new) }
     ensures params { state.new.params ≡ state.old.params }
     ensures kept { BeginsWith out.new out.old }
 {

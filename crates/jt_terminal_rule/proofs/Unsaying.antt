@@ -20,8 +20,8 @@ use Rattle.jt_terminal_rule.specs.Forming.{batch_unit, fitting, position_unit, u
 use Rattle.jt_terminal_rule.specs.Messages.{frame_of, header_of, is_acceptance}
 use Rattle.jt_terminal_rule.specs.Rule.{Step, Ruled, accepts, and_then, answered, answers, answers_if_live, authenticated, coded, fill, fills, forgets, forms_one, gives_up, is_registered, names, next_one, one_sent, or_stays, received, registered, replied, responded, sends, sends_one, stays, window}
 use Rattle.jt_terminal_rule.specs.Rule as rule
-use Rattle.jt_terminal_rule.specs.Unsaid.{EachFrameIsOneLess, unsaid, unsaid_in, unsent}
-use Rattle.jt_terminal_rule.specs.Answers.{Answer, answer_to}
+use Rattle.jt_terminal_rule.specs.Unsaid.{EachFrameIsOneLess, frames_in, unsaid, unsaid_in, unsent}
+use Rattle.jt_terminal_rule.specs.Answers.{Answer, answer_to, only_says}
 use Rattle.jt_terminal_rule.proofs.Answering.{answers_lists, answers_phase, answers_sent}
 use Rattle.jt_terminal_rule.proofs.Speaking.{at}
 
@@ -223,17 +223,26 @@ module _ (settings : Settings) where
       let both = ap (λ (fs : List (List ℕ)). length fs) (sends-append settings r.steps (fills r.state).steps) ∙ length-append (sends settings r.steps) (sends settings (fills r.state).steps) in
       omega (arith, both, rest, sent, units, waiting)
 
-  live_or_not : (s : State) (p : Phase) (a : Answer) → s.sent ≤ length s.units → LessAt (at s p) (length (sends settings (answers (at s p) a).steps) + unsaid (at s p)) (answers_if_live p (at s p) a)
-  live_or_not s Down a le = more_room (unsaid (at s Down)) (length (sends settings (answers (at s Down) a).steps)) (stays (at s Down)) (at s Down) (stays_less (at s Down))
-  live_or_not s (Registering serial) a le = more_room (unsaid (at s (Registering serial))) (length (sends settings (answers (at s (Registering serial)) a).steps)) (stays (at s (Registering serial))) (at s (Registering serial)) (stays_less (at s (Registering serial)))
-  live_or_not s (Authenticating serial) a le = more_room (unsaid (at s (Authenticating serial))) (length (sends settings (answers (at s (Authenticating serial)) a).steps)) (stays (at s (Authenticating serial))) (at s (Authenticating serial)) (stays_less (at s (Authenticating serial)))
-  live_or_not s (Live serial) a le = answers_less s serial a le
+-- ---- answers
 
-none_more : (a b : ℕ) → a ≤ b → a ≤ 0 + b
-none_more a b le = omega (arith, le)
+live_or_not : (s : State) (p : Phase) (a : Answer) → s.sent ≤ length s.units → LessAt s.settings (at s p) (frames_in p (at s p) a + unsaid (at s p)) (answers_if_live p (at s p) a)
+live_or_not s Down a le = more_room s.settings (unsaid (at s Down)) 0 (stays (at s Down)) (at s Down) (stays_less s.settings (at s Down))
+live_or_not s (Registering serial) a le = more_room s.settings (unsaid (at s (Registering serial))) 0 (stays (at s (Registering serial))) (at s (Registering serial)) (stays_less s.settings (at s (Registering serial)))
+live_or_not s (Authenticating serial) a le = more_room s.settings (unsaid (at s (Authenticating serial))) 0 (stays (at s (Authenticating serial))) (at s (Authenticating serial)) (stays_less s.settings (at s (Authenticating serial)))
+live_or_not s (Live serial) a le = answers_less s.settings s serial a le
+
+-- nothing is said
+none_said : (s : State) (p : Phase) → frames_in p s (only_says s None) ≡ 0
+none_said s Down = refl
+none_said s (Registering serial) = refl
+none_said s (Authenticating serial) = refl
+none_said s (Live serial) = refl
+
+none_more : (a b n : ℕ) → n ≡ 0 → a ≤ b → a ≤ n + b
+none_more a b n e le = omega (arith, e, le)
 
 pub each_frame : EachFrameIsOneLess
-each_frame s h (message.PlatformAck reply id result) le = none_more _ (unsaid s) (
-    responded_less s.settings s s.phase (record { reply = reply; id = id; result = result }) (body_octets h.edition (message.PlatformAck reply id result)) le)
-each_frame s h (message.RegisterReply reply) le = none_more _ (unsaid s) (registered_less s.settings s s.phase reply (body_octets h.edition (message.RegisterReply reply)) le)
-each_frame s h m le = live_or_not s.settings s s.phase (answer_to s h m) le
+each_frame s h (message.PlatformAck reply id result) le =
+    none_more _ (unsaid s) _ (none_said s s.phase) (responded_less s.settings s s.phase (record { reply = reply; id = id; result = result }) (body_octets h.edition (message.PlatformAck reply id result)) le)
+each_frame s h (message.RegisterReply reply) le = none_more _ (unsaid s) _ (none_said s s.phase) (registered_less s.settings s s.phase reply (body_octets h.edition (message.RegisterReply reply)) le)
+each_frame s h m le = live_or_not s s.phase (answer_to s h m) le

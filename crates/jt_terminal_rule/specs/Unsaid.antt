@@ -5,7 +5,7 @@ use Rattle.jt_codec.specs.declared.message.Message.{Message}
 use Rattle.jt_terminal_rule.specs.declared.state.State.{State}
 use Rattle.jt_terminal_rule.specs.declared.state.Phase.{Phase}
 use Rattle.jt_terminal_rule.specs.declared.state.Phase.TheVariants.{Down, Registering, Authenticating, Live}
-use Rattle.jt_terminal_rule.specs.Answers.{answer_to}
+use Rattle.jt_terminal_rule.specs.Answers.{Answer, answer_to}
 use Rattle.jt_terminal_rule.specs.Rule.{answers, received, sends}
 
 -- the units that were not sent on this line, and the fixes that wait
@@ -22,9 +22,16 @@ unsaid_in (Live serial) s = unsent s
 abbrev pub unsaid : State → ℕ
 unsaid s = unsaid_in s.phase s
 
--- how many frames the terminal answers the message with, if it is Live
+-- how many frames an answer has in this phase: none unless the terminal is Live
+abbrev pub frames_in : Phase → State → Answer → ℕ
+frames_in Down s a = 0
+frames_in (Registering serial) s a = 0
+frames_in (Authenticating serial) s a = 0
+frames_in (Live serial) s a = length (sends s.settings (answers s a).steps)
+
+-- how many frames the terminal answers the message with
 abbrev pub frames_of_answer : State → Header → Message → ℕ
-frames_of_answer s h m = length (sends s.settings (answers s (answer_to s h m)).steps)
+frames_of_answer s h m = frames_in s.phase s (answer_to s h m)
 
 -- At a message of the platform each frame that is sent, but for those of the answer, is one less that may still be said. Responses and
 -- replies have no answer.

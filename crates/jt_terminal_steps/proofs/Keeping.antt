@@ -1,5 +1,5 @@
 -- A terminal stays sound: in order, and at one with what its vault holds where that is told.
-use Rattle.std.proofs.Common.{ℕ, zero, suc, ◌≡◌, ◌<◌, ◌≤◌, ◌+◌, ◌-◌, ◌^◌, min, List, [], ◌∷◌, ◌++◌, length, take, drop, slice_get, Option, Some, None, Bool, true, false, cond, refl, ap, sym, ◌∙◌, subst, arith}
+use Rattle.std.proofs.Common.{ℕ, zero, suc, ◌≡◌, ◌<◌, ◌≤◌, ◌+◌, ◌-◌, ◌^◌, min, List, [], ◌∷◌, ◌++◌, length, take, drop, slice_get, Option, Some, None, Bool, true, false, cond, inl, inr, refl, ap, sym, ◌∙◌, subst, arith}
 use Rattle.std.specs.Prelude.{All, IfSome, nat_lt, ◌==◌}
 use Rattle.std.proofs.lemmas.List.{length-append, take-append-le}
 use Rattle.std.proofs.lemmas.Bool.{ltb-true}
@@ -27,7 +27,7 @@ use Rattle.jt_value.specs.declared.phone.Edition.TheVariants.{E2013, E2019}
 use Rattle.jt_terminal_rule.specs.Answers.{Answer, answer_to_lack}
 use Rattle.jt_terminal_rule.specs.Rule.{changed_by}
 use Rattle.jt_terminal_rule.proofs.Answering.{changed_agrees, changed_order, packets_agrees, packets_order}
-use Rattle.jt_terminal_answers.specs.Answering.{OnlyTables}
+use Rattle.jt_terminal_answers.specs.Answering.{AllOrNothing}
 use Rattle.jt_terminal_steps.specs.Running.{IsSound, Counts, took}
 use Rattle.jt_terminal_rule.proofs.Batches.{unit_carries}
 use Rattle.jt_terminal_rule.proofs.Forming.{gaps_push, serials_push, counts_push, next_gap, after_push, unit_serial, form_steps, with_unit}
@@ -332,11 +332,11 @@ sound_answers held s now a is octets sound =
     let same : now.params ≡ a.params = ap (λ (t : State). t.params) is ∙ says_params (changed_by s a) a.says in
     subst (λ (t : State). IsSound held t) (sym is) (sound_says held (changed_by s a) a.says (sound_changed held s a (subst HasOctets same octets) sound))
 
--- nothing but times and tables is another
-pub sound_tables : (held : Option Held) (s now : State) → OnlyTables s now → HasOctets now.params → IsSound held s → IsSound held now
-sound_tables held s now is octets sound =
-    subst (λ (t : State). IsSound held t) (sym is)
-    (sound_changed held s (record { timing = now.timing; params = now.params; regions = now.regions; says = None }) octets sound)
+-- nothing of an answer was done, or its times and tables were taken
+pub sound_tables : (held : Option Held) (s now : State) (a : Answer) → AllOrNothing s a now → HasOctets now.params → IsSound held s → IsSound held now
+sound_tables held s now a (inl is) octets sound = subst (λ (t : State). IsSound held t) (sym is) sound
+sound_tables held s now a (inr is) octets sound =
+    subst (λ (t : State). IsSound held t) (sym is) (sound_changed held s a (subst HasOctets (ap (λ (t : State). t.params) is) octets) sound)
 
 -- the same of an answer that leaves the parameters
 pub sound_answers_only : (held : Option Held) (s now : State) (a : Answer) → now ≡ (rule.answers s a).state → a.params ≡ s.params → IsSound held s → IsSound held now

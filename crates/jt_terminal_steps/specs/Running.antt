@@ -89,6 +89,7 @@ pub record IsSound (held : Option Held) (s : State) : Type 0 where
 pub record IsSame (old now : State) : Type 0 where
   pub settings : now.settings ≡ old.settings
   pub time : now.time ≡ old.time
+  pub last : now.last ≡ old.last
 
 -- What a call says of its vault beside what that holds: the limit stays, the count of faults never falls, and Store comes only where it
 -- rose; and where no call of the vault may fail, none may later, and Store does not come.

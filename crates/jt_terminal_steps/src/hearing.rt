@@ -1,11 +1,12 @@
 //! What a terminal does at the platform's messages.
 
-ghost use Rattle.std.specs.Prelude.{◌≡◌, ◌≤◌, ◌<◌, IfOk, OnOk, OnErr, None, Some, length};
+ghost use Rattle.std.specs.Prelude.{◌≡◌, ◌≤◌, ◌<◌, IfOk, OnOk, OnErr, None, Some, false, length};
 ghost use Rattle.jt_codec.specs.Bodies.{Fits, body_octets};
 ghost use Rattle.jt_store.specs.Vaults.{Accepts, changed};
 ghost use Rattle.jt_terminal_rule.specs.Messages as messages;
 ghost use Rattle.jt_terminal_rule.specs.Answers as table;
 ghost use Rattle.jt_terminal_rule.specs.Rule as rule;
+ghost use Rattle.jt_terminal_steps.specs.AfterError.{AllTablesOrNone, AreSameParams, AreSameTables, CutLists, lists_of, sets_params_in};
 ghost use Rattle.jt_terminal_steps.specs.Running.{CutShort, IsSame, IsSound, Outside, Ran, accepts_oldest, oldest_is, took};
 ghost use Rattle.jt_terminal_rule.specs.declared.state.GiveUp.TheVariants.{Denied};
 
@@ -61,8 +62,10 @@ fn coded<V: Vault>(
     requires sound { IsSound (V.holds vault.old) state.old }
     ensures ok { OnOk result (Ran state.old.settings (rule.coded state.old code.now) state.new (V.holds vault.old) (V.holds vault.new) out.old out.new None) }
     ensures err { OnErr result (CutShort (rule.coded state.old code.now).steps (V.holds vault.old) (V.holds vault.new)) }
+    ensures lists { OnErr result (CutLists (rule.coded state.old code.now).steps (lists_of state.old) (lists_of state.new)) }
     ensures sound { IsSound (V.holds vault.new) state.new }
     ensures same { IsSame state.old state.new }
+    ensures tables { AreSameTables state.old state.new }
     ensures outside { Outside (V.faults vault.old) (V.faults vault.new) (V.limit vault.old) (V.limit vault.new) (V.may_fail vault.old) (V.may_fail vault.new) result }
 {
     let copy = code.copy(alloc)?;
@@ -91,8 +94,10 @@ fn replied<V: Vault>(
     requires sound { IsSound (V.holds vault.old) state.old }
     ensures ok { IfOk result (λ end. Ran state.old.settings (rule.replied state.old reply.now (body_octets edition message.now)) state.new (V.holds vault.old) (V.holds vault.new) out.old out.new end) }
     ensures err { OnErr result (CutShort (rule.replied state.old reply.now (body_octets edition message.now)).steps (V.holds vault.old) (V.holds vault.new)) }
+    ensures lists { OnErr result (CutLists (rule.replied state.old reply.now (body_octets edition message.now)).steps (lists_of state.old) (lists_of state.new)) }
     ensures sound { IsSound (V.holds vault.new) state.new }
     ensures same { IsSame state.old state.new }
+    ensures tables { AreSameTables state.old state.new }
     ensures outside { Outside (V.faults vault.old) (V.faults vault.new) (V.limit vault.old) (V.limit vault.new) (V.may_fail vault.old) (V.may_fail vault.new) result }
 {
     if is_registered(reply) {
@@ -115,8 +120,10 @@ fn forgets<V: Vault>(
     requires sound { IsSound (V.holds vault.old) state.old }
     ensures ok { IfOk result (λ end. Ran state.old.settings (rule.forgets state.old (body_octets edition message.now)) state.new (V.holds vault.old) (V.holds vault.new) out.now out.now end) }
     ensures err { OnErr result (CutShort (rule.forgets state.old (body_octets edition message.now)).steps (V.holds vault.old) (V.holds vault.new)) }
+    ensures lists { OnErr result (CutLists (rule.forgets state.old (body_octets edition message.now)).steps (lists_of state.old) (lists_of state.new)) }
     ensures sound { IsSound (V.holds vault.new) state.new }
     ensures same { IsSame state.old state.new }
+    ensures tables { AreSameTables state.old state.new }
     ensures outside { Outside (V.faults vault.old) (V.faults vault.new) (V.limit vault.old) (V.limit vault.new) (V.may_fail vault.old) (V.may_fail vault.new) result }
 {
     let _frames = out;
@@ -146,8 +153,10 @@ fn authenticated<V: Vault>(
     requires sound { IsSound (V.holds vault.old) state.old }
     ensures ok { IfOk result (λ end. Ran state.old.settings (rule.authenticated state.old serial answer (body_octets edition message.now)) state.new (V.holds vault.old) (V.holds vault.new) out.old out.new end) }
     ensures err { OnErr result (CutShort (rule.authenticated state.old serial answer (body_octets edition message.now)).steps (V.holds vault.old) (V.holds vault.new)) }
+    ensures lists { OnErr result (CutLists (rule.authenticated state.old serial answer (body_octets edition message.now)).steps (lists_of state.old) (lists_of state.new)) }
     ensures sound { IsSound (V.holds vault.new) state.new }
     ensures same { IsSame state.old state.new }
+    ensures tables { AreSameTables state.old state.new }
     ensures outside { Outside (V.faults vault.old) (V.faults vault.new) (V.limit vault.old) (V.limit vault.new) (V.may_fail vault.old) (V.may_fail vault.new) result }
 {
     if answer == 0 {
@@ -203,6 +212,7 @@ fn accept<V: Vault>(alloc: Global, vault: &mut V, state: &mut State) -> Result<(
     ensures err { OnErr result ((state.new ≡ state.old) × (V.holds vault.new ≡ V.holds vault.old)) }
     ensures sound { IsSound (V.holds vault.new) state.new }
     ensures same { IsSame state.old state.new }
+    ensures tables { AreSameTables state.old state.new }
     ensures outside { Outside (V.faults vault.old) (V.faults vault.new) (V.limit vault.old) (V.limit vault.new) (V.may_fail vault.old) (V.may_fail vault.new) result }
 {
     match vault.accept(alloc) {
@@ -225,8 +235,10 @@ fn accepts<V: Vault>(
     requires sound { IsSound (V.holds vault.old) state.old }
     ensures ok { OnOk result (Ran state.old.settings (accepts_oldest state.old state.old.units) state.new (V.holds vault.old) (V.holds vault.new) out.old out.new None) }
     ensures err { OnErr result (CutShort (accepts_oldest state.old state.old.units).steps (V.holds vault.old) (V.holds vault.new)) }
+    ensures lists { OnErr result (CutLists (accepts_oldest state.old state.old.units).steps (lists_of state.old) (lists_of state.new)) }
     ensures sound { IsSound (V.holds vault.new) state.new }
     ensures same { IsSame state.old state.new }
+    ensures tables { AreSameTables state.old state.new }
     ensures outside { Outside (V.faults vault.old) (V.faults vault.new) (V.limit vault.old) (V.limit vault.new) (V.may_fail vault.old) (V.may_fail vault.new) result }
 {
     accept(alloc, vault, state)?;
@@ -247,8 +259,10 @@ fn answered<V: Vault>(
     requires sound { IsSound (V.holds vault.old) state.old }
     ensures ok { IfOk result (λ end. Ran state.old.settings (rule.answered state.old state.old.units ack (body_octets edition message.now)) state.new (V.holds vault.old) (V.holds vault.new) out.old out.new end) }
     ensures err { OnErr result (CutShort (rule.answered state.old state.old.units ack (body_octets edition message.now)).steps (V.holds vault.old) (V.holds vault.new)) }
+    ensures lists { OnErr result (CutLists (rule.answered state.old state.old.units ack (body_octets edition message.now)).steps (lists_of state.old) (lists_of state.new)) }
     ensures sound { IsSound (V.holds vault.new) state.new }
     ensures same { IsSame state.old state.new }
+    ensures tables { AreSameTables state.old state.new }
     ensures outside { Outside (V.faults vault.old) (V.faults vault.new) (V.limit vault.old) (V.limit vault.new) (V.may_fail vault.old) (V.may_fail vault.new) result }
 {
     if !names_oldest(state, ack) {
@@ -276,8 +290,10 @@ fn responded<V: Vault>(
     requires sound { IsSound (V.holds vault.old) state.old }
     ensures ok { IfOk result (λ end. Ran state.old.settings (rule.responded state.old.phase state.old ack (body_octets edition message.now)) state.new (V.holds vault.old) (V.holds vault.new) out.old out.new end) }
     ensures err { OnErr result (CutShort (rule.responded state.old.phase state.old ack (body_octets edition message.now)).steps (V.holds vault.old) (V.holds vault.new)) }
+    ensures lists { OnErr result (CutLists (rule.responded state.old.phase state.old ack (body_octets edition message.now)).steps (lists_of state.old) (lists_of state.new)) }
     ensures sound { IsSound (V.holds vault.new) state.new }
     ensures same { IsSame state.old state.new }
+    ensures tables { AreSameTables state.old state.new }
     ensures outside { Outside (V.faults vault.old) (V.faults vault.new) (V.limit vault.old) (V.limit vault.new) (V.may_fail vault.old) (V.may_fail vault.new) result }
 {
     match state.phase {
@@ -308,8 +324,10 @@ fn registered<V: Vault>(
     requires sound { IsSound (V.holds vault.old) state.old }
     ensures ok { IfOk result (λ end. Ran state.old.settings (rule.registered state.old.phase state.old reply.now (body_octets edition message.now)) state.new (V.holds vault.old) (V.holds vault.new) out.old out.new end) }
     ensures err { OnErr result (CutShort (rule.registered state.old.phase state.old reply.now (body_octets edition message.now)).steps (V.holds vault.old) (V.holds vault.new)) }
+    ensures lists { OnErr result (CutLists (rule.registered state.old.phase state.old reply.now (body_octets edition message.now)).steps (lists_of state.old) (lists_of state.new)) }
     ensures sound { IsSound (V.holds vault.new) state.new }
     ensures same { IsSame state.old state.new }
+    ensures tables { AreSameTables state.old state.new }
     ensures outside { Outside (V.faults vault.old) (V.faults vault.new) (V.limit vault.old) (V.limit vault.new) (V.may_fail vault.old) (V.may_fail vault.new) result }
 {
     match state.phase {
@@ -340,8 +358,11 @@ fn answers_and_fills<V: Vault>(
     requires sound { IsSound (V.holds vault.old) state.old }
     ensures ok { OnOk result (Ran state.old.settings (rule.and_then (rule.answers state.old (table.answer_to state.old header.now message.now)) rule.fills) state.new (V.holds vault.old) (V.holds vault.new) out.old out.new None) }
     ensures err { OnErr result (CutShort (rule.and_then (rule.answers state.old (table.answer_to state.old header.now message.now)) rule.fills).steps (V.holds vault.old) (V.holds vault.new)) }
+    ensures lists { OnErr result (CutLists (rule.and_then (rule.answers state.old (table.answer_to state.old header.now message.now)) rule.fills).steps (lists_of state.old) (lists_of state.new)) }
     ensures sound { IsSound (V.holds vault.new) state.new }
     ensures same { IsSame state.old state.new }
+    ensures tables { OnErr result (AllTablesOrNone state.old (rule.and_then (rule.answers state.old (table.answer_to state.old header.now message.now)) rule.fills).state state.new) }
+    ensures params { sets_params_in message.now ≡ false → AreSameParams state.old state.new }
     ensures outside { Outside (V.faults vault.old) (V.faults vault.new) (V.limit vault.old) (V.limit vault.new) (V.may_fail vault.old) (V.may_fail vault.new) result }
 {
     answer(alloc, state, header, message, out)?;
@@ -361,8 +382,11 @@ fn answers_if_live<V: Vault>(
     requires sound { IsSound (V.holds vault.old) state.old }
     ensures ok { OnOk result (Ran state.old.settings (rule.answers_if_live state.old.phase state.old (table.answer_to state.old header.now message.now)) state.new (V.holds vault.old) (V.holds vault.new) out.old out.new None) }
     ensures err { OnErr result (CutShort (rule.answers_if_live state.old.phase state.old (table.answer_to state.old header.now message.now)).steps (V.holds vault.old) (V.holds vault.new)) }
+    ensures lists { OnErr result (CutLists (rule.answers_if_live state.old.phase state.old (table.answer_to state.old header.now message.now)).steps (lists_of state.old) (lists_of state.new)) }
     ensures sound { IsSound (V.holds vault.new) state.new }
     ensures same { IsSame state.old state.new }
+    ensures tables { OnErr result (AllTablesOrNone state.old (rule.answers_if_live state.old.phase state.old (table.answer_to state.old header.now message.now)).state state.new) }
+    ensures params { sets_params_in message.now ≡ false → AreSameParams state.old state.new }
     ensures outside { Outside (V.faults vault.old) (V.faults vault.new) (V.limit vault.old) (V.limit vault.new) (V.may_fail vault.old) (V.may_fail vault.new) result }
 {
     match state.phase {
@@ -382,8 +406,10 @@ fn refuses_and_fills<V: Vault>(
     requires sound { IsSound (V.holds vault.old) state.old }
     ensures ok { OnOk result (Ran state.old.settings (rule.and_then (rule.answers state.old (table.answer_to_refused state.old header.now)) rule.fills) state.new (V.holds vault.old) (V.holds vault.new) out.old out.new None) }
     ensures err { OnErr result (CutShort (rule.and_then (rule.answers state.old (table.answer_to_refused state.old header.now)) rule.fills).steps (V.holds vault.old) (V.holds vault.new)) }
+    ensures lists { OnErr result (CutLists (rule.and_then (rule.answers state.old (table.answer_to_refused state.old header.now)) rule.fills).steps (lists_of state.old) (lists_of state.new)) }
     ensures sound { IsSound (V.holds vault.new) state.new }
     ensures same { IsSame state.old state.new }
+    ensures tables { AreSameTables state.old state.new }
     ensures outside { Outside (V.faults vault.old) (V.faults vault.new) (V.limit vault.old) (V.limit vault.new) (V.may_fail vault.old) (V.may_fail vault.new) result }
 {
     answer_refused(alloc, state, header, out)?;
@@ -401,8 +427,10 @@ pub fn refuses_if_live<V: Vault>(
     requires sound { IsSound (V.holds vault.old) state.old }
     ensures ok { OnOk result (Ran state.old.settings (rule.answers_if_live state.old.phase state.old (table.answer_to_refused state.old header.now)) state.new (V.holds vault.old) (V.holds vault.new) out.old out.new None) }
     ensures err { OnErr result (CutShort (rule.answers_if_live state.old.phase state.old (table.answer_to_refused state.old header.now)).steps (V.holds vault.old) (V.holds vault.new)) }
+    ensures lists { OnErr result (CutLists (rule.answers_if_live state.old.phase state.old (table.answer_to_refused state.old header.now)).steps (lists_of state.old) (lists_of state.new)) }
     ensures sound { IsSound (V.holds vault.new) state.new }
     ensures same { IsSame state.old state.new }
+    ensures tables { AreSameTables state.old state.new }
     ensures outside { Outside (V.faults vault.old) (V.faults vault.new) (V.limit vault.old) (V.limit vault.new) (V.may_fail vault.old) (V.may_fail vault.new) result }
 {
     match state.phase {
@@ -424,8 +452,10 @@ fn asks_and_fills<V: Vault>(
     requires few { length numbers ≤ 255 }
     ensures ok { OnOk result (Ran state.old.settings (rule.and_then (rule.answers state.old (table.answer_to_lack state.old state.old.settings.phone.edition first numbers)) rule.fills) state.new (V.holds vault.old) (V.holds vault.new) out.old out.new None) }
     ensures err { OnErr result (CutShort (rule.and_then (rule.answers state.old (table.answer_to_lack state.old state.old.settings.phone.edition first numbers)) rule.fills).steps (V.holds vault.old) (V.holds vault.new)) }
+    ensures lists { OnErr result (CutLists (rule.and_then (rule.answers state.old (table.answer_to_lack state.old state.old.settings.phone.edition first numbers)) rule.fills).steps (lists_of state.old) (lists_of state.new)) }
     ensures sound { IsSound (V.holds vault.new) state.new }
     ensures same { IsSame state.old state.new }
+    ensures tables { AreSameTables state.old state.new }
     ensures outside { Outside (V.faults vault.old) (V.faults vault.new) (V.limit vault.old) (V.limit vault.new) (V.may_fail vault.old) (V.may_fail vault.new) result }
 {
     answer_lack(alloc, state, first, numbers, out)?;
@@ -445,8 +475,10 @@ pub fn asks_if_live<V: Vault>(
     requires few { length numbers ≤ 255 }
     ensures ok { OnOk result (Ran state.old.settings (rule.answers_if_live state.old.phase state.old (table.answer_to_lack state.old state.old.settings.phone.edition first numbers)) state.new (V.holds vault.old) (V.holds vault.new) out.old out.new None) }
     ensures err { OnErr result (CutShort (rule.answers_if_live state.old.phase state.old (table.answer_to_lack state.old state.old.settings.phone.edition first numbers)).steps (V.holds vault.old) (V.holds vault.new)) }
+    ensures lists { OnErr result (CutLists (rule.answers_if_live state.old.phase state.old (table.answer_to_lack state.old state.old.settings.phone.edition first numbers)).steps (lists_of state.old) (lists_of state.new)) }
     ensures sound { IsSound (V.holds vault.new) state.new }
     ensures same { IsSame state.old state.new }
+    ensures tables { AreSameTables state.old state.new }
     ensures outside { Outside (V.faults vault.old) (V.faults vault.new) (V.limit vault.old) (V.limit vault.new) (V.may_fail vault.old) (V.may_fail vault.new) result }
 {
     match state.phase {
@@ -468,8 +500,11 @@ pub fn received<V: Vault>(
     requires sound { IsSound (V.holds vault.old) state.old }
     ensures ok { IfOk result (λ end. Ran state.old.settings (rule.received state.old header.now message.now) state.new (V.holds vault.old) (V.holds vault.new) out.old out.new end) }
     ensures err { OnErr result (CutShort (rule.received state.old header.now message.now).steps (V.holds vault.old) (V.holds vault.new)) }
+    ensures lists { OnErr result (CutLists (rule.received state.old header.now message.now).steps (lists_of state.old) (lists_of state.new)) }
     ensures sound { IsSound (V.holds vault.new) state.new }
     ensures same { IsSame state.old state.new }
+    ensures tables { OnErr result (AllTablesOrNone state.old (rule.received state.old header.now message.now).state state.new) }
+    ensures params { sets_params_in message.now ≡ false → AreSameParams state.old state.new }
     ensures outside { Outside (V.faults vault.old) (V.faults vault.new) (V.limit vault.old) (V.limit vault.new) (V.may_fail vault.old) (V.may_fail vault.new) result }
 {
     match message {

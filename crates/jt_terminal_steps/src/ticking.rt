@@ -2,6 +2,7 @@
 
 ghost use Rattle.std.specs.Prelude.{◌≡◌, ◌≤◌, None, IfOk, OnOk, OnErr};
 ghost use Rattle.jt_terminal_rule.specs.Rule as rule;
+ghost use Rattle.jt_terminal_steps.specs.AfterError.{AreSameTables, CutLists, lists_of};
 ghost use Rattle.jt_terminal_steps.specs.Running.{CutShort, IsSame, IsSound, Outside, Ran};
 
 use crate::error::TerminalError;
@@ -23,8 +24,10 @@ fn beats_and_fills<V: Vault>(
     requires sound { IsSound (V.holds vault.old) state.old }
     ensures ok { OnOk result (Ran state.old.settings (rule.and_then (rule.beats_if_silent state.old) rule.fills) state.new (V.holds vault.old) (V.holds vault.new) out.old out.new None) }
     ensures err { OnErr result (CutShort (rule.and_then (rule.beats_if_silent state.old) rule.fills).steps (V.holds vault.old) (V.holds vault.new)) }
+    ensures lists { OnErr result (CutLists (rule.and_then (rule.beats_if_silent state.old) rule.fills).steps (lists_of state.old) (lists_of state.new)) }
     ensures sound { IsSound (V.holds vault.new) state.new }
     ensures same { IsSame state.old state.new }
+    ensures tables { AreSameTables state.old state.new }
     ensures outside { Outside (V.faults vault.old) (V.faults vault.new) (V.limit vault.old) (V.limit vault.new) (V.may_fail vault.old) (V.may_fail vault.new) result }
 {
     beats_if_silent(alloc, state, out)?;
@@ -41,8 +44,10 @@ fn goes_on<V: Vault>(
     requires sound { IsSound (V.holds vault.old) state.old }
     ensures ok { OnOk result (Ran state.old.settings (rule.goes_on state.old.phase state.old) state.new (V.holds vault.old) (V.holds vault.new) out.old out.new None) }
     ensures err { OnErr result (CutShort (rule.goes_on state.old.phase state.old).steps (V.holds vault.old) (V.holds vault.new)) }
+    ensures lists { OnErr result (CutLists (rule.goes_on state.old.phase state.old).steps (lists_of state.old) (lists_of state.new)) }
     ensures sound { IsSound (V.holds vault.new) state.new }
     ensures same { IsSame state.old state.new }
+    ensures tables { AreSameTables state.old state.new }
     ensures outside { Outside (V.faults vault.old) (V.faults vault.new) (V.limit vault.old) (V.limit vault.new) (V.may_fail vault.old) (V.may_fail vault.new) result }
 {
     match state.phase {
@@ -62,8 +67,10 @@ fn repeats_and_goes_on<V: Vault>(
     requires sound { IsSound (V.holds vault.old) state.old }
     ensures ok { OnOk result (Ran state.old.settings (rule.and_then (rule.repeats state.old) (rule.goes_on state.old.phase)) state.new (V.holds vault.old) (V.holds vault.new) out.old out.new None) }
     ensures err { OnErr result (CutShort (rule.and_then (rule.repeats state.old) (rule.goes_on state.old.phase)).steps (V.holds vault.old) (V.holds vault.new)) }
+    ensures lists { OnErr result (CutLists (rule.and_then (rule.repeats state.old) (rule.goes_on state.old.phase)).steps (lists_of state.old) (lists_of state.new)) }
     ensures sound { IsSound (V.holds vault.new) state.new }
     ensures same { IsSame state.old state.new }
+    ensures tables { AreSameTables state.old state.new }
     ensures outside { Outside (V.faults vault.old) (V.faults vault.new) (V.limit vault.old) (V.limit vault.new) (V.may_fail vault.old) (V.may_fail vault.new) result }
 {
     repeats(alloc, state, out)?;
@@ -80,8 +87,10 @@ pub fn ticked<V: Vault>(
     requires sound { IsSound (V.holds vault.old) state.old }
     ensures ok { IfOk result (λ end. Ran state.old.settings (rule.ticked state.old) state.new (V.holds vault.old) (V.holds vault.new) out.old out.new end) }
     ensures err { OnErr result (CutShort (rule.ticked state.old).steps (V.holds vault.old) (V.holds vault.new)) }
+    ensures lists { OnErr result (CutLists (rule.ticked state.old).steps (lists_of state.old) (lists_of state.new)) }
     ensures sound { IsSound (V.holds vault.new) state.new }
     ensures same { IsSame state.old state.new }
+    ensures tables { AreSameTables state.old state.new }
     ensures outside { Outside (V.faults vault.old) (V.faults vault.new) (V.limit vault.old) (V.limit vault.new) (V.may_fail vault.old) (V.may_fail vault.new) result }
 {
     if !has_passed(state) {
@@ -113,8 +122,10 @@ fn beats_now<V: Vault>(
     requires sound { IsSound (V.holds vault.old) state.old }
     ensures ok { OnOk result (Ran state.old.settings (rule.and_then (rule.beats state.old) rule.fills) state.new (V.holds vault.old) (V.holds vault.new) out.old out.new None) }
     ensures err { OnErr result (CutShort (rule.and_then (rule.beats state.old) rule.fills).steps (V.holds vault.old) (V.holds vault.new)) }
+    ensures lists { OnErr result (CutLists (rule.and_then (rule.beats state.old) rule.fills).steps (lists_of state.old) (lists_of state.new)) }
     ensures sound { IsSound (V.holds vault.new) state.new }
     ensures same { IsSame state.old state.new }
+    ensures tables { AreSameTables state.old state.new }
     ensures outside { Outside (V.faults vault.old) (V.faults vault.new) (V.limit vault.old) (V.limit vault.new) (V.may_fail vault.old) (V.may_fail vault.new) result }
 {
     beats(alloc, state, out)?;
@@ -131,8 +142,10 @@ pub fn beaten<V: Vault>(
     requires sound { IsSound (V.holds vault.old) state.old }
     ensures ok { OnOk result (Ran state.old.settings (rule.beaten state.old.phase state.old) state.new (V.holds vault.old) (V.holds vault.new) out.old out.new None) }
     ensures err { OnErr result (CutShort (rule.beaten state.old.phase state.old).steps (V.holds vault.old) (V.holds vault.new)) }
+    ensures lists { OnErr result (CutLists (rule.beaten state.old.phase state.old).steps (lists_of state.old) (lists_of state.new)) }
     ensures sound { IsSound (V.holds vault.new) state.new }
     ensures same { IsSame state.old state.new }
+    ensures tables { AreSameTables state.old state.new }
     ensures outside { Outside (V.faults vault.old) (V.faults vault.new) (V.limit vault.old) (V.limit vault.new) (V.may_fail vault.old) (V.may_fail vault.new) result }
 {
     match state.phase {

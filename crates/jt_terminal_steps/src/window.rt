@@ -4,6 +4,7 @@ ghost use Rattle.std.specs.Prelude.{◌≡◌, ◌<◌, ◌≤◌, ◌^◌, ◌+
 ghost use Rattle.jt_store.specs.Tables.{Told};
 ghost use Rattle.jt_store.specs.Vaults.{Forms, IsUnit, MayForm, changed};
 ghost use Rattle.jt_terminal_rule.specs.Rule as rule;
+ghost use Rattle.jt_terminal_steps.specs.AfterError.{AreSameTables, CutLists, lists_of};
 ghost use Rattle.jt_terminal_steps.specs.Running.{CutShort, IsSame, IsSound, MayBeCut, Outside, Ran, Went};
 
 use crate::error::{TerminalError, trouble};
@@ -71,8 +72,10 @@ fn forms_one<V: Vault>(
     requires sound { IsSound (V.holds vault.old) state.old }
     ensures ok { IfOk result (λ more. Went state.old.settings (rule.forms_one state.old state.old.waiting) more state.old state.new (V.holds vault.old) (V.holds vault.new) out.old out.new) }
     ensures err { OnErr result (MayBeCut (rule.forms_one state.old state.old.waiting) (V.holds vault.old) (V.holds vault.new)) }
+    ensures lists { OnErr result (lists_of state.new ≡ lists_of state.old) }
     ensures sound { IsSound (V.holds vault.new) state.new }
     ensures same { IsSame state.old state.new }
+    ensures tables { AreSameTables state.old state.new }
     ensures outside { Outside (V.faults vault.old) (V.faults vault.new) (V.limit vault.old) (V.limit vault.new) (V.may_fail vault.old) (V.may_fail vault.new) result }
 {
     if state.waiting.is_empty() {
@@ -102,8 +105,10 @@ fn next_one<V: Vault>(
     requires sound { IsSound (V.holds vault.old) state.old }
     ensures ok { IfOk result (λ more. Went state.old.settings (rule.next_one state.old) more state.old state.new (V.holds vault.old) (V.holds vault.new) out.old out.new) }
     ensures err { OnErr result (MayBeCut (rule.next_one state.old) (V.holds vault.old) (V.holds vault.new)) }
+    ensures lists { OnErr result (lists_of state.new ≡ lists_of state.old) }
     ensures sound { IsSound (V.holds vault.new) state.new }
     ensures same { IsSame state.old state.new }
+    ensures tables { AreSameTables state.old state.new }
     ensures outside { Outside (V.faults vault.old) (V.faults vault.new) (V.limit vault.old) (V.limit vault.new) (V.may_fail vault.old) (V.may_fail vault.new) result }
 {
     if state.sent >= WINDOW {
@@ -128,8 +133,10 @@ fn fill<V: Vault>(
     requires sound { IsSound (V.holds vault.old) state.old }
     ensures ok { OnOk result (Ran state.old.settings (rule.fill room state.old) state.new (V.holds vault.old) (V.holds vault.new) out.old out.new None) }
     ensures err { OnErr result (CutShort (rule.fill room state.old).steps (V.holds vault.old) (V.holds vault.new)) }
+    ensures lists { OnErr result (CutLists (rule.fill room state.old).steps (lists_of state.old) (lists_of state.new)) }
     ensures sound { IsSound (V.holds vault.new) state.new }
     ensures same { IsSame state.old state.new }
+    ensures tables { AreSameTables state.old state.new }
     ensures outside { Outside (V.faults vault.old) (V.faults vault.new) (V.limit vault.old) (V.limit vault.new) (V.may_fail vault.old) (V.may_fail vault.new) result }
 {
     if room == 0 {
@@ -151,8 +158,10 @@ pub fn fills<V: Vault>(
     requires sound { IsSound (V.holds vault.old) state.old }
     ensures ok { OnOk result (Ran state.old.settings (rule.fills state.old) state.new (V.holds vault.old) (V.holds vault.new) out.old out.new None) }
     ensures err { OnErr result (CutShort (rule.fills state.old).steps (V.holds vault.old) (V.holds vault.new)) }
+    ensures lists { OnErr result (CutLists (rule.fills state.old).steps (lists_of state.old) (lists_of state.new)) }
     ensures sound { IsSound (V.holds vault.new) state.new }
     ensures same { IsSame state.old state.new }
+    ensures tables { AreSameTables state.old state.new }
     ensures outside { Outside (V.faults vault.old) (V.faults vault.new) (V.limit vault.old) (V.limit vault.new) (V.may_fail vault.old) (V.may_fail vault.new) result }
 {
     fill(alloc, vault, state, out, WINDOW)

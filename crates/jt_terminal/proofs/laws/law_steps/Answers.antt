@@ -1,4 +1,5 @@
 use Rattle.jt_terminal_steps.proofs.Chaining.{sends-append, holds_after-append, holds_after-told, holds_after-untold}
+use Rattle.jt_terminal_steps.proofs.Leaving.{lists_append}
 use Rattle.jt_terminal.proofs.laws.law_steps.Goals as goal
 
 pub returns-clause-sends : goal.returns-clause-sends
@@ -6,6 +7,9 @@ returns-clause-sends c = sends-append
 
 pub returns-clause-holds : goal.returns-clause-holds
 returns-clause-holds c = holds_after-append
+
+pub returns-clause-lists : goal.returns-clause-lists
+returns-clause-lists c = lists_append
 
 pub returns-clause-told : goal.returns-clause-told
 returns-clause-told c = holds_after-told

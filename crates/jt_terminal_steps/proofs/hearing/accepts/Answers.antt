@@ -1,6 +1,8 @@
 use Rattle.std.proofs.Common.{refl}
 use Rattle.std.proofs.lemmas.Result.{on_err_weaker, on_ok_weaker}
 use Rattle.jt_terminal_steps.proofs.Chaining.{accepted_ran, accepted_cut}
+use Rattle.jt_terminal_steps.specs.AfterError.{lists_of}
+use Rattle.jt_terminal_steps.proofs.Leaving.{lists_took}
 use Rattle.jt_terminal_steps.proofs.hearing.accepts.Goals as goal
 
 pub returns-clause-ok : goal.returns-clause-ok
@@ -10,3 +12,7 @@ returns-clause-ok g c =
 pub returns-clause-err : goal.returns-clause-err
 returns-clause-err g c =
     on_err_weaker c.fills.result (accepted_cut c.args.state.now c.args.state.now.units c.accept.new.state _ _ _ c.requires.some c.in_ok-accept.ensures.ok.0 c.in_ok-accept.ensures.ok.1) c.fills.ensures.err
+
+pub returns-clause-lists : goal.returns-clause-lists
+returns-clause-lists g c =
+    on_err_weaker c.fills.result (lists_took c.args.state.now c.args.state.now.units c.accept.new.state (lists_of c.fills.new.state) refl c.requires.some c.in_ok-accept.ensures.ok.0) c.fills.ensures.lists

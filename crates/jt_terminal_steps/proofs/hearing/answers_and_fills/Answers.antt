@@ -1,9 +1,11 @@
-use Rattle.std.proofs.Common.{None, refl, sym}
+use Rattle.std.proofs.Common.{None, sym}
 use Rattle.std.proofs.lemmas.Result.{on_err_weaker, on_ok_weaker}
 use Rattle.jt_terminal_rule.specs.Answers.{answer_to}
 use Rattle.jt_terminal_rule.specs.Rule.{answers, fills}
 use Rattle.jt_terminal_steps.proofs.Keeping.{answers_settings, sound_answers, sound_tables}
-use Rattle.jt_terminal_steps.proofs.Chaining.{cut_then, quiet_answers, ran_then}
+use Rattle.jt_terminal_steps.proofs.Chaining.{any_err, cut_then, quiet_answers, ran_then}
+use Rattle.jt_terminal_steps.specs.AfterError.{lists_of}
+use Rattle.jt_terminal_steps.proofs.Leaving.{filled_params, filled_tables, left_lists, left_params, left_tables, lists_answers, lists_none, lists_then}
 use Rattle.jt_terminal_steps.proofs.hearing.answers_and_fills.Goals as goal
 
 pub fills-requires : goal.fills-requires
@@ -22,4 +24,27 @@ returns-clause-err g c =
     (sym (quiet_answers c.args.state.now (answer_to c.args.state.now c.args.header.now c.args.message.now) (g.V.Vault.holds c.args.vault.now)))) c.fills.ensures.err
 
 pub returns-in_err-answer-clause-sound : goal.returns-in_err-answer-clause-sound
-returns-in_err-answer-clause-sound g c = sound_tables (g.V.Vault.holds c.args.vault.now) c.args.state.now c.answer.new.state c.in_err-answer.ensures.err c.in_err-answer.ensures.octets c.requires.sound
+returns-in_err-answer-clause-sound g c = sound_tables (g.V.Vault.holds c.args.vault.now) c.args.state.now c.answer.new.state (answer_to c.args.state.now c.args.header.now c.args.message.now) c.in_err-answer.ensures.err c.in_err-answer.ensures.octets c.requires.sound
+
+pub returns-clause-lists : goal.returns-clause-lists
+returns-clause-lists g c =
+    let a = answer_to c.args.state.now c.args.header.now c.args.message.now in
+    on_err_weaker c.fills.result (lists_then (answers c.args.state.now a) fills c.args.state.now c.answer.new.state (lists_of c.fills.new.state) c.in_ok-answer.ensures.state (lists_answers c.args.state.now a c.requires.sound.order.mark c.requires.sound.order.next)) c.fills.ensures.lists
+
+pub returns-clause-tables : goal.returns-clause-tables
+returns-clause-tables g c =
+    any_err c.fills.result (filled_tables c.args.state.now c.answer.new.state c.fills.new.state (answer_to c.args.state.now c.args.header.now c.args.message.now) c.in_ok-answer.ensures.state c.fills.ensures.tables)
+
+pub returns-clause-params : goal.returns-clause-params
+returns-clause-params g c = filled_params c.args.state.now c.answer.new.state c.fills.new.state c.args.header.now c.args.message.now c.in_ok-answer.ensures.state c.fills.ensures.tables
+
+pub returns-in_err-answer-clause-lists : goal.returns-in_err-answer-clause-lists
+returns-in_err-answer-clause-lists g c =
+    any_err _ (lists_none _ _ _ (left_lists c.args.state.now c.answer.new.state (answer_to c.args.state.now c.args.header.now c.args.message.now) c.in_err-answer.ensures.err))
+
+pub returns-in_err-answer-clause-tables : goal.returns-in_err-answer-clause-tables
+returns-in_err-answer-clause-tables g c =
+    any_err _ (left_tables c.args.state.now c.answer.new.state (answer_to c.args.state.now c.args.header.now c.args.message.now) c.in_err-answer.ensures.err)
+
+pub returns-in_err-answer-clause-params : goal.returns-in_err-answer-clause-params
+returns-in_err-answer-clause-params g c = left_params c.args.state.now c.answer.new.state c.args.header.now c.args.message.now c.in_err-answer.ensures.err

@@ -1,9 +1,11 @@
-use Rattle.std.proofs.Common.{None, refl, sym}
+use Rattle.std.proofs.Common.{None, sym}
 use Rattle.std.proofs.lemmas.Result.{on_err_weaker, on_ok_weaker}
 use Rattle.jt_terminal_rule.specs.Answers.{answer_to_lack}
 use Rattle.jt_terminal_rule.specs.Rule.{answers, fills}
 use Rattle.jt_terminal_steps.proofs.Keeping.{answers_settings, lack_params, sound_answers_only}
 use Rattle.jt_terminal_steps.proofs.Chaining.{cut_then, quiet_answers, ran_then}
+use Rattle.jt_terminal_steps.specs.AfterError.{lists_of}
+use Rattle.jt_terminal_steps.proofs.Leaving.{lack_tables, lists_answers, lists_then}
 use Rattle.jt_terminal_steps.proofs.hearing.asks_and_fills.Goals as goal
 
 pub fills-requires : goal.fills-requires
@@ -20,3 +22,11 @@ pub returns-clause-err : goal.returns-clause-err
 returns-clause-err g c =
     on_err_weaker c.fills.result (cut_then (answers c.args.state.now (answer_to_lack c.args.state.now c.args.state.now.settings.phone.edition c.args.first c.args.numbers)) fills c.answer_lack.new.state (g.V.Vault.holds c.args.vault.now) (g.V.Vault.holds c.args.vault.now) _ c.in_ok-answer_lack.ensures.state
     (sym (quiet_answers c.args.state.now (answer_to_lack c.args.state.now c.args.state.now.settings.phone.edition c.args.first c.args.numbers) (g.V.Vault.holds c.args.vault.now)))) c.fills.ensures.err
+
+pub returns-clause-lists : goal.returns-clause-lists
+returns-clause-lists g c =
+    let a = answer_to_lack c.args.state.now c.args.state.now.settings.phone.edition c.args.first c.args.numbers in
+    on_err_weaker c.fills.result (lists_then (answers c.args.state.now a) fills c.args.state.now c.answer_lack.new.state (lists_of c.fills.new.state) c.in_ok-answer_lack.ensures.state (lists_answers c.args.state.now a c.requires.sound.order.mark c.requires.sound.order.next)) c.fills.ensures.lists
+
+pub returns-clause-tables : goal.returns-clause-tables
+returns-clause-tables g c = lack_tables c.args.state.now c.answer_lack.new.state c.fills.new.state c.args.state.now.settings.phone.edition c.args.first c.args.numbers c.in_ok-answer_lack.ensures.state c.fills.ensures.tables

@@ -4,6 +4,8 @@ use Rattle.jt_terminal_rule.specs.Answers.{answer_to_refused}
 use Rattle.jt_terminal_rule.specs.Rule.{answers, fills}
 use Rattle.jt_terminal_steps.proofs.Keeping.{answers_settings, sound_answers_only}
 use Rattle.jt_terminal_steps.proofs.Chaining.{cut_then, quiet_answers, ran_then}
+use Rattle.jt_terminal_steps.specs.AfterError.{lists_of}
+use Rattle.jt_terminal_steps.proofs.Leaving.{lists_answers, lists_then}
 use Rattle.jt_terminal_steps.proofs.hearing.refuses_and_fills.Goals as goal
 
 pub fills-requires : goal.fills-requires
@@ -20,3 +22,8 @@ pub returns-clause-err : goal.returns-clause-err
 returns-clause-err g c =
     on_err_weaker c.fills.result (cut_then (answers c.args.state.now (answer_to_refused c.args.state.now c.args.header.now)) fills c.answer_refused.new.state (g.V.Vault.holds c.args.vault.now) (g.V.Vault.holds c.args.vault.now) _ c.in_ok-answer_refused.ensures.state
     (sym (quiet_answers c.args.state.now (answer_to_refused c.args.state.now c.args.header.now) (g.V.Vault.holds c.args.vault.now)))) c.fills.ensures.err
+
+pub returns-clause-lists : goal.returns-clause-lists
+returns-clause-lists g c =
+    let a = answer_to_refused c.args.state.now c.args.header.now in
+    on_err_weaker c.fills.result (lists_then (answers c.args.state.now a) fills c.args.state.now c.answer_refused.new.state (lists_of c.fills.new.state) c.in_ok-answer_refused.ensures.state (lists_answers c.args.state.now a c.requires.sound.order.mark c.requires.sound.order.next)) c.fills.ensures.lists

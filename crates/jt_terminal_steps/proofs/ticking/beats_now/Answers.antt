@@ -5,6 +5,8 @@ use Rattle.jt_terminal_rule.specs.Rule.{beats, fills}
 use Rattle.jt_terminal_steps.specs.Running.{IsSound}
 use Rattle.jt_terminal_steps.proofs.Keeping.{sound_beats}
 use Rattle.jt_terminal_steps.proofs.Chaining.{cut_then}
+use Rattle.jt_terminal_steps.specs.AfterError.{lists_of}
+use Rattle.jt_terminal_steps.proofs.Leaving.{lists_beats, lists_then}
 use Rattle.jt_terminal_steps.proofs.ticking.beats_now.Goals as goal
 
 pub fills-requires : goal.fills-requires
@@ -15,3 +17,7 @@ fills-requires g c = record {
 pub returns-clause-err : goal.returns-clause-err
 returns-clause-err g c =
     on_err_weaker c.fills.result (cut_then (beats c.args.state.now) fills c.beats.new.state (g.V.Vault.holds c.args.vault.now) (g.V.Vault.holds c.args.vault.now) _ c.in_ok-beats.ensures.state refl) c.fills.ensures.err
+
+pub returns-clause-lists : goal.returns-clause-lists
+returns-clause-lists g c =
+    on_err_weaker c.fills.result (lists_then (beats c.args.state.now) fills c.args.state.now c.beats.new.state (lists_of c.fills.new.state) c.in_ok-beats.ensures.state (lists_beats c.args.state.now)) c.fills.ensures.lists

@@ -6,6 +6,8 @@ use Rattle.jt_terminal_rule.specs.declared.state.Phase.{Phase}
 use Rattle.jt_terminal_steps.specs.Running.{CutShort, IsSound}
 use Rattle.jt_terminal_steps.proofs.Keeping.{first_short, sound_repeats}
 use Rattle.jt_terminal_steps.proofs.Chaining.{cut_then, quiet_again}
+use Rattle.jt_terminal_steps.specs.AfterError.{CutLists, lists_of}
+use Rattle.jt_terminal_steps.proofs.Leaving.{lists_repeats}
 use Rattle.jt_terminal_steps.proofs.ticking.repeats_and_goes_on.Goals as goal
 
 pub repeats-requires-clause-units : goal.repeats-requires-clause-units
@@ -23,3 +25,10 @@ returns-clause-err g c =
     let is = c.in_ok-repeats.ensures.state in
     on_err_weaker c.goes_on.result (λ cut. cut_then (repeats c.args.state.now) (goes_on c.args.state.now.phase) c.repeats.new.state held held now is (sym (quiet_again c.args.state.now c.args.state.now.phase held))
     (subst (λ (p : Phase). CutShort (goes_on p c.repeats.new.state).steps held now) (ap (λ (s : State). s.phase) is) cut)) c.goes_on.ensures.err
+
+pub returns-clause-lists : goal.returns-clause-lists
+returns-clause-lists g c =
+    let now = lists_of c.goes_on.new.state in
+    let is = c.in_ok-repeats.ensures.state in
+    on_err_weaker c.goes_on.result (λ cut. lists_repeats c.args.state.now c.repeats.new.state c.args.state.now.phase now is
+    (subst (λ (p : Phase). CutLists (goes_on p c.repeats.new.state).steps (lists_of c.repeats.new.state) now) (ap (λ (s : State). s.phase) is) cut)) c.goes_on.ensures.lists
