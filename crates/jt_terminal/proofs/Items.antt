@@ -1,5 +1,5 @@
 -- Items one after another: what the terminal does at them, and what is left of them.
-use Rattle.std.proofs.Common.{◌≡◌, ℕ, List, [], ◌∷◌, ◌++◌, length, drop, map, Option, Some, None, Result, Ok, Err, OnOk, refl, sym, ap, ◌∙◌, subst, append_assoc}
+use Rattle.std.proofs.Common.{◌≡◌, ℕ, List, [], ◌∷◌, ◌++◌, length, drop, map, Option, Some, None, Result, Ok, Err, OnOk, inl, inr, refl, sym, ap, ◌∙◌, subst, append_assoc}
 use Rattle.std.specs.Prelude.{IfOk}
 use Rattle.std.specs.Option.{option_to_list}
 use Rattle.std.proofs.lemmas.List.{append-nil, map-append}
@@ -18,10 +18,11 @@ use Rattle.jt_store.specs.Vaults.{Held}
 use Rattle.jt_subpacket.specs.Partials.{Partial}
 use Rattle.jt_terminal_rule.specs.declared.state.State.{State}
 use Rattle.jt_terminal_rule.specs.declared.state.GiveUp.{GiveUp}
-use Rattle.jt_terminal_rule.specs.Rule.{Step, Ruled, and_then, stays}
+use Rattle.jt_terminal_rule.specs.Rule.{Step, Ruled, and_then, down, stays}
+use Rattle.jt_terminal_steps.specs.AfterError.{AllTablesOrNone, AreSameTables}
 use Rattle.jt_terminal_steps.specs.Running.{CutShort, Ran}
-use Rattle.jt_terminal.specs.Line.{StandsForLine, fed, fed_items, goes_on, goes_on_unless, hears, kept_behind, kept_by, more_unless, new_items, of_item, told_at, told_items, told_one}
-use Rattle.jt_terminal.specs.Feeding.{Brings, HasFed, HasFedFront, Scene, WasCut, message_at}
+use Rattle.jt_terminal.specs.Line.{StandsForLine, TablesOfFirst, fed, fed_items, goes_on, goes_on_unless, hears, kept_behind, kept_by, more_unless, new_items, of_item, partial_of, told_at, told_items, told_one}
+use Rattle.jt_terminal.specs.Feeding.{Brings, HasFed, HasFedFront, Scene, WasCut, message_at, scene}
 use Rattle.jt_terminal_steps.proofs.Chaining.{cut_then, ran_then}
 
 -- ---- items behind items
@@ -205,15 +206,25 @@ fed_frame old now octets item end brings partial ran told =
       told = told ∙ ap (λ (more : List ℕ). old.told ++ more) (sym (append-nil (option_to_list (told_one old.state (of_item old.partial item)))) ∙ ap (λ (more : List ℕ). option_to_list (told_one old.state (of_item old.partial item)) ++ more) (sym (none_more r.end)));
     }
 
-pub cut_frame : (old : Scene) (stream : Splitting) (held : Option Held) (octets front back : List ℕ) (item : Unplaced) → octets ≡ front ++ back → Brings old.stream stream front (item ∷ [])
-    → CutShort (hears old.state (of_item old.partial item)).steps old.held held → WasCut old stream held octets
-cut_frame old stream held octets front back item parts brings cut = record {
+tables_of_one : (s : State) (partial : List Partial) (item : Unplaced) (now : State) → AllTablesOrNone s (hears s (of_item partial item)).state now → TablesOfFirst s partial (item ∷ []) now
+tables_of_one s partial item now (inl same) = record { front = []; back = item ∷ []; parts = refl; tables = same }
+tables_of_one s partial item now (inr same) = record {
+  front = item ∷ [];
+  back = [];
+  parts = refl;
+  tables = subst (λ (x : Ruled). AreSameTables x.state now) (sym (single (hears s (of_item partial item)))) same;
+}
+
+pub cut_frame : (old : Scene) (stream : Splitting) (state : State) (held : Option Held) (octets front back : List ℕ) (item : Unplaced) → octets ≡ front ++ back → Brings old.stream stream front (item ∷ [])
+    → CutShort (hears old.state (of_item old.partial item)).steps old.held held → AllTablesOrNone old.state (hears old.state (of_item old.partial item)).state state → WasCut old stream state held octets
+cut_frame old stream state held octets front back item parts brings cut tables = record {
   front = front;
   back = back;
   parts = parts;
   gone = item ∷ [];
   brings = brings;
   cut = subst (λ (x : Ruled). CutShort x.steps old.held held) (sym (single (hears old.state (of_item old.partial item)))) cut;
+  tables = tables_of_one old.state old.partial item state tables;
 }
 
 -- ---- octets behind octets
@@ -246,8 +257,16 @@ fed_then old mid now a b end are same one two =
           ∙ sym (told_more old.state old.partial one.gone two.gone open_end))));
     }
 
-pub cut_then_fed : (old mid : Scene) (stream : Splitting) (held : Option Held) (octets a b : List ℕ) → octets ≡ a ++ b → AreOctets a → HasFed old mid a None → WasCut mid stream held b → WasCut old stream held octets
-cut_then_fed old mid stream held octets a b parts are one cut =
+tables_then : (s : State) (partial : List Partial) (xs ys : List Unplaced) (now : State) → (fed_items s partial xs).end ≡ None → TablesOfFirst (fed_items s partial xs).state (kept_behind partial xs) ys now → TablesOfFirst s partial (xs ++ ys) now
+tables_then s partial xs ys now is t = record {
+  front = xs ++ t.front;
+  back = t.back;
+  parts = ap (λ (l : List Unplaced). xs ++ l) t.parts ∙ sym (append_assoc xs t.front t.back);
+  tables = subst (λ (r : Ruled). AreSameTables r.state now) (sym (fed_more s partial xs t.front is)) t.tables;
+}
+
+pub cut_then_fed : (old mid : Scene) (stream : Splitting) (state : State) (held : Option Held) (octets a b : List ℕ) → octets ≡ a ++ b → AreOctets a → HasFed old mid a None → WasCut mid stream state held b → WasCut old stream state held octets
+cut_then_fed old mid stream state held octets a b parts are one cut =
     let r = fed_items old.state old.partial one.gone in
     let open_end = sym one.ran.is_end in
     let next = λ (t : State). fed_items t (kept_behind old.partial one.gone) cut.gone in
@@ -260,6 +279,8 @@ cut_then_fed old mid stream held octets a b parts are one cut =
       brings = brings_then old.stream mid.stream stream a cut.front one.gone cut.gone are one.brings cut.brings;
       cut = subst (λ (x : Ruled). CutShort x.steps old.held held) (sym (fed_more old.state old.partial one.gone cut.gone open_end))
           (cut_then r next mid.state old.held mid.held held one.ran.is_state one.ran.held more);
+      tables = tables_then old.state old.partial one.gone cut.gone state open_end
+          (subst (λ (ps : List Partial). TablesOfFirst r.state ps cut.gone state) one.partial (subst (λ (m : State). TablesOfFirst m mid.partial cut.gone state) one.ran.is_state cut.tables));
     }
 
 -- ---- what a line that stood for octets was fed
@@ -315,13 +336,43 @@ module _ (old now : Scene) (octets : List ℕ) (end : Option GiveUp) (f : HasFed
             ∙ (sym (kept_append [] (items seen) f.fed.gone) ∙ ap (kept_behind []) (sym brought.0 ∙ ap (λ (o : List ℕ). items (seen ++ o)) (sym same))));
       }
 
-pub fed_cut : (old : Scene) (stream : Splitting) (held : Option Held) (octets seen : List ℕ) → HasFront → StandsForLine (record { stream = old.stream; partial = old.partial }) seen → WasCut old stream held octets
+pub fed_cut : (old : Scene) (stream : Splitting) (state : State) (held : Option Held) (octets seen : List ℕ) → HasFront → StandsForLine (record { stream = old.stream; partial = old.partial }) seen → WasCut old stream state held octets
     → CutShort (fed old.state seen octets).steps old.held held
-fed_cut old stream held octets seen has_front stands cut =
+fed_cut old stream state held octets seen has_front stands cut =
     let more = new_are has_front old.stream stream seen octets cut.front cut.back cut.gone cut.parts stands.octets stands.stream cut.brings in
     let is : fed old.state seen octets ≡ fed_items old.state old.partial (cut.gone ++ more.0) =
     ap (λ (ps : List Partial). fed_items old.state ps (new_items seen octets)) (sym stands.partial) ∙ ap (fed_items old.state old.partial) more.1 in
     subst (λ (r : Ruled). CutShort r.steps old.held held) (sym is) (cut_of_front old.state old.partial cut.gone more.0 old.held held cut.cut)
+
+pub fed_tables : (old : Scene) (stream : Splitting) (state : State) (held : Option Held) (octets seen : List ℕ) → HasFront → StandsForLine (record { stream = old.stream; partial = old.partial }) seen → WasCut old stream state held octets
+    → TablesOfFirst old.state (partial_of seen) (new_items seen octets) state
+fed_tables old stream state held octets seen has_front stands cut =
+    let more = new_are has_front old.stream stream seen octets cut.front cut.back cut.gone cut.parts stands.octets stands.stream cut.brings in
+    let first = cut.tables in
+    let here : TablesOfFirst old.state old.partial (new_items seen octets) state = record {
+      front = first.front;
+      back = first.back ++ more.0;
+      parts = more.1 ∙ (ap (λ (l : List Unplaced). l ++ more.0) first.parts ∙ append_assoc first.front first.back more.0);
+      tables = first.tables;
+    } in
+    subst (λ (ps : List Partial). TablesOfFirst old.state ps (new_items seen octets) state) stands.partial here
+
+-- without a line times and tables are as they were; what was written and told before does not count
+pub cut_down : (old : Scene) (stream : Splitting) (s now : State) (held : Option Held) (octets : List ℕ) → now ≡ down s → WasCut old stream s held octets
+    → WasCut (scene old.stream old.partial old.state old.held [] []) stream now held octets
+cut_down old stream s now held octets is cut =
+    let first = cut.tables in
+    let same = first.tables in
+    let still : AreSameTables (fed_items old.state old.partial first.front).state (down s) = record { timing = same.timing; params = same.params; regions = same.regions } in
+    record {
+      front = cut.front;
+      back = cut.back;
+      parts = cut.parts;
+      gone = cut.gone;
+      brings = cut.brings;
+      cut = cut.cut;
+      tables = record { front = first.front; back = first.back; parts = first.parts; tables = subst (AreSameTables (fed_items old.state old.partial first.front).state) (sym is) still };
+    }
 
 -- ---- results
 

@@ -1,5 +1,5 @@
 -- What is said of waits holds after each event, and where a line is given up all waits have passed.
-use Rattle.std.proofs.Common.{◌≡◌, ℕ, Bool, true, false, List, [], ◌∷◌, Option, Some, None, sym, ap, ◌∙◌, subst}
+use Rattle.std.proofs.Common.{◌≡◌, ℕ, List, [], ◌∷◌, Bool, true, false, Option, Some, None, sym, ap, ◌∙◌, subst}
 use Rattle.jt_stream.specs.Unplaced.{Unplaced}
 use Rattle.jt_subpacket.specs.Partials.{Partial}
 use Rattle.jt_terminal_rule.specs.declared.state.State.{State}

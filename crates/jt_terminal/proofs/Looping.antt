@@ -37,10 +37,10 @@ fed_more_octets old mid now octets taken count end are same one two =
     subst (λ some. HasFed old now some end) (ap (λ rest. take taken octets ++ take count rest) (rest_is octets taken) ∙ sym (take-add taken count octets))
     (fed_then old mid now (take taken octets) (take count (take (length octets - taken) (drop taken octets))) end (AreOctets-take taken octets are) same one two)
 
-pub cut_more_octets : (old mid : Scene) (stream : Splitting) (held : Option Held) (octets : List ℕ) (taken : ℕ) → AreOctets octets → HasFed old mid (take taken octets) None
-    → WasCut mid stream held (take (length octets - taken) (drop taken octets)) → WasCut old stream held octets
-cut_more_octets old mid stream held octets taken are one cut =
-    cut_then_fed old mid stream held octets (take taken octets) (take (length octets - taken) (drop taken octets)) (sym (take-append-drop taken octets) ∙ ap (λ rest. take taken octets ++ rest) (sym (rest_is octets taken))) (AreOctets-take taken octets are) one cut
+pub cut_more_octets : (old mid : Scene) (stream : Splitting) (state : State) (held : Option Held) (octets : List ℕ) (taken : ℕ) → AreOctets octets → HasFed old mid (take taken octets) None
+    → WasCut mid stream state held (take (length octets - taken) (drop taken octets)) → WasCut old stream state held octets
+cut_more_octets old mid stream state held octets taken are one cut =
+    cut_then_fed old mid stream state held octets (take taken octets) (take (length octets - taken) (drop taken octets)) (sym (take-append-drop taken octets) ∙ ap (λ rest. take taken octets ++ rest) (sym (rest_is octets taken))) (AreOctets-take taken octets are) one cut
 
 -- the terminal gave up, or all octets were fed
 pub front_ended : (old now : Scene) (octets : List ℕ) (count : ℕ) (cause : GiveUp) → HasFed old now (take count octets) (Some cause) → HasFedFront old now octets (Some cause)

@@ -10,7 +10,7 @@ use Rattle.jt_subpacket.specs.Partials.{Partial}
 use Rattle.jt_terminal_rule.specs.declared.state.State.{State}
 use Rattle.jt_terminal_rule.specs.declared.state.GiveUp.{GiveUp}
 use Rattle.jt_terminal_steps.specs.Running.{CutShort, Ran}
-use Rattle.jt_terminal.specs.Line.{fed_items, kept_behind, told_items}
+use Rattle.jt_terminal.specs.Line.{TablesOfFirst, fed_items, kept_behind, told_items}
 
 -- the stream went on by the octets, which brought these items
 abbrev pub Brings : Splitting → Splitting → List ℕ → List Unplaced → Type 0
@@ -50,13 +50,14 @@ pub record HasFedFront (old now : Scene) (octets : List ℕ) (end : Option GiveU
   pub fed : HasFed old now front end
 
 -- some first octets were fed, and what the terminal did at their items was cut short
-pub record WasCut (old : Scene) (stream : Splitting) (held : Option Held) (octets : List ℕ) : Type 0 where
+pub record WasCut (old : Scene) (stream : Splitting) (state : State) (held : Option Held) (octets : List ℕ) : Type 0 where
   pub front : List ℕ
   pub back : List ℕ
   pub parts : octets ≡ front ++ back
   pub gone : List Unplaced
   pub brings : Brings old.stream stream front gone
   pub cut : CutShort (fed_items old.state old.partial gone).steps old.held held
+  pub tables : TablesOfFirst old.state old.partial gone state
 
 -- what a vault says beside what it holds, while nothing failed
 pub record IsSteadySoFar (faults faults_now most most_now : ℕ) (may may_now : Bool) : Type 0 where

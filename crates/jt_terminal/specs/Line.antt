@@ -18,6 +18,7 @@ use Rattle.jt_subpacket.specs.declared.taken.Fate.TheVariants as fate
 use Rattle.jt_terminal_rule.specs.declared.state.State.{State}
 use Rattle.jt_terminal_rule.specs.declared.state.GiveUp.{GiveUp}
 use Rattle.jt_terminal_rule.specs.Law.{response_heard}
+use Rattle.jt_terminal_steps.specs.AfterError.{AreSameTables}
 use Rattle.jt_terminal_rule.specs.Rule.{Heard, Whole, Refused, Lacks, TooMany, Ruled, and_then, heard, stays, told}
 
 -- ---- what is heard
@@ -78,6 +79,13 @@ goes_on r more = goes_on_unless r.end r more
 abbrev pub fed_items : State → List Partial → List Unplaced → Ruled
 fed_items s partial [] = stays s
 fed_items s partial (item ∷ items) = goes_on (hears s (of_item partial item)) (λ t. fed_items t (kept_by partial item) items)
+
+-- times and tables are those that the rule has after some first ones of these items, perhaps after none and perhaps after all
+pub record TablesOfFirst (s : State) (partial : List Partial) (items : List Unplaced) (now : State) : Type 0 where
+  pub front : List Unplaced
+  pub back : List Unplaced
+  pub parts : items ≡ front ++ back
+  pub tables : AreSameTables (fed_items s partial front).state now
 
 -- the units whose acceptance it is told at them
 abbrev pub told_one : State → Option Heard → Option ℕ

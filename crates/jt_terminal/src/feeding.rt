@@ -9,6 +9,7 @@ ghost use Rattle.jt_terminal_rule.specs.Law.{response_heard};
 ghost use Rattle.jt_terminal_rule.specs.Rule as rule;
 ghost use Rattle.jt_terminal.specs.Feeding.{HasFed, HasFedFront, WasCut, message_at, scene};
 ghost use Rattle.jt_terminal.specs.Line as line;
+ghost use Rattle.jt_terminal_steps.specs.AfterError.{AllTablesOrNone};
 ghost use Rattle.jt_terminal_steps.specs.Running.{CutShort, IsSame, IsSound, Outside, Ran};
 
 use crate::telling::tell;
@@ -36,6 +37,7 @@ fn hear_read<V: Vault>(
     requires sound { IsSound (V.holds vault.old) state.old }
     ensures ok { IfOk result (λ end. Ran state.old.settings (rule.received state.old header.now message.now) state.new (V.holds vault.old) (V.holds vault.new) out.old out.new end) }
     ensures err { OnErr result (CutShort (rule.received state.old header.now message.now).steps (V.holds vault.old) (V.holds vault.new)) }
+    ensures tables { OnErr result (AllTablesOrNone state.old (rule.received state.old header.now message.now).state state.new) }
     ensures told { OnOk result (told.new ≡ told.old ++ option_to_list (rule.told state.old (rule.response_in message.now))) }
     ensures sound { IsSound (V.holds vault.new) state.new }
     ensures same { IsSame state.old state.new }
@@ -59,6 +61,7 @@ fn hear_message<V: Vault>(
     requires sound { IsSound (V.holds vault.old) state.old }
     ensures ok { IfOk result (λ end. Ran state.old.settings (rule.received state.old header.now message) state.new (V.holds vault.old) (V.holds vault.new) out.old out.new end) }
     ensures err { OnErr result (CutShort (rule.received state.old header.now message).steps (V.holds vault.old) (V.holds vault.new)) }
+    ensures tables { OnErr result (AllTablesOrNone state.old (rule.received state.old header.now message).state state.new) }
     ensures told { OnOk result (told.new ≡ told.old ++ option_to_list (rule.told state.old (rule.response_in message))) }
     ensures sound { IsSound (V.holds vault.new) state.new }
     ensures same { IsSame state.old state.new }
@@ -78,6 +81,7 @@ fn hear_refused<V: Vault>(
     requires sound { IsSound (V.holds vault.old) state.old }
     ensures ok { IfOk result (λ end. Ran state.old.settings (rule.heard state.old (rule.Refused header.now)) state.new (V.holds vault.old) (V.holds vault.new) out.old out.new end) }
     ensures err { OnErr result (CutShort (rule.heard state.old (rule.Refused header.now)).steps (V.holds vault.old) (V.holds vault.new)) }
+    ensures tables { OnErr result (AllTablesOrNone state.old (rule.heard state.old (rule.Refused header.now)).state state.new) }
     ensures sound { IsSound (V.holds vault.new) state.new }
     ensures same { IsSame state.old state.new }
     ensures outside { Outside (V.faults vault.old) (V.faults vault.new) (V.limit vault.old) (V.limit vault.new) (V.may_fail vault.old) (V.may_fail vault.new) result }
@@ -100,6 +104,7 @@ fn hear_lack<V: Vault>(
     requires few { length numbers ≤ 255 }
     ensures ok { IfOk result (λ end. Ran state.old.settings (rule.heard state.old (rule.Lacks header.now first numbers)) state.new (V.holds vault.old) (V.holds vault.new) out.old out.new end) }
     ensures err { OnErr result (CutShort (rule.heard state.old (rule.Lacks header.now first numbers)).steps (V.holds vault.old) (V.holds vault.new)) }
+    ensures tables { OnErr result (AllTablesOrNone state.old (rule.heard state.old (rule.Lacks header.now first numbers)).state state.new) }
     ensures sound { IsSound (V.holds vault.new) state.new }
     ensures same { IsSame state.old state.new }
     ensures outside { Outside (V.faults vault.old) (V.faults vault.new) (V.limit vault.old) (V.limit vault.new) (V.may_fail vault.old) (V.may_fail vault.new) result }
@@ -122,6 +127,7 @@ fn hear_body<V: Vault>(
     requires sound { IsSound (V.holds vault.old) state.old }
     ensures ok { IfOk result (λ end. Ran state.old.settings (rule.heard state.old (line.of_body header.now body.now)) state.new (V.holds vault.old) (V.holds vault.new) out.old out.new end) }
     ensures err { OnErr result (CutShort (rule.heard state.old (line.of_body header.now body.now)).steps (V.holds vault.old) (V.holds vault.new)) }
+    ensures tables { OnErr result (AllTablesOrNone state.old (rule.heard state.old (line.of_body header.now body.now)).state state.new) }
     ensures told { OnOk result (told.new ≡ told.old ++ option_to_list (rule.told state.old (response_heard (line.of_body header.now body.now)))) }
     ensures sound { IsSound (V.holds vault.new) state.new }
     ensures same { IsSame state.old state.new }
@@ -149,6 +155,7 @@ fn hear_fate<V: Vault>(
     requires sound { IsSound (V.holds vault.old) state.old }
     ensures ok { IfOk result (λ end. Ran state.old.settings (line.hears state.old (line.of_packet header.now fate)) state.new (V.holds vault.old) (V.holds vault.new) out.old out.new end) }
     ensures err { OnErr result (CutShort (line.hears state.old (line.of_packet header.now fate)).steps (V.holds vault.old) (V.holds vault.new)) }
+    ensures tables { OnErr result (AllTablesOrNone state.old (line.hears state.old (line.of_packet header.now fate)).state state.new) }
     ensures told { OnOk result (told.new ≡ told.old ++ option_to_list (line.told_one state.old (line.of_packet header.now fate))) }
     ensures sound { IsSound (V.holds vault.new) state.new }
     ensures same { IsSame state.old state.new }
@@ -184,6 +191,7 @@ fn hear_packet<V: Vault>(
     requires sound { IsSound (V.holds vault.old) state.old }
     ensures ok { IfOk result (λ end. Ran state.old.settings (line.hears state.old (line.of_packet header.now (taken_by assembler.old header.now body.now).fate)) state.new (V.holds vault.old) (V.holds vault.new) out.old out.new end) }
     ensures err { OnErr result (CutShort (line.hears state.old (line.of_packet header.now (taken_by assembler.old header.now body.now).fate)).steps (V.holds vault.old) (V.holds vault.new)) }
+    ensures tables { OnErr result (AllTablesOrNone state.old (line.hears state.old (line.of_packet header.now (taken_by assembler.old header.now body.now).fate)).state state.new) }
     ensures told { OnOk result (told.new ≡ told.old ++ option_to_list (line.told_one state.old (line.of_packet header.now (taken_by assembler.old header.now body.now).fate))) }
     ensures partial { OnOk result (assembler.new ≡ (taken_by assembler.old header.now body.now).partial) }
     ensures sound { IsSound (V.holds vault.new) state.new }
@@ -210,6 +218,7 @@ fn hear_frame<V: Vault>(
     requires sound { IsSound (V.holds vault.old) state.old }
     ensures ok { IfOk result (λ end. Ran state.old.settings (line.hears state.old (line.of_frame assembler.old header.now body.now header.now.packet)) state.new (V.holds vault.old) (V.holds vault.new) out.old out.new end) }
     ensures err { OnErr result (CutShort (line.hears state.old (line.of_frame assembler.old header.now body.now header.now.packet)).steps (V.holds vault.old) (V.holds vault.new)) }
+    ensures tables { OnErr result (AllTablesOrNone state.old (line.hears state.old (line.of_frame assembler.old header.now body.now header.now.packet)).state state.new) }
     ensures told { OnOk result (told.new ≡ told.old ++ option_to_list (line.told_one state.old (line.of_frame assembler.old header.now body.now header.now.packet))) }
     ensures partial { OnOk result (assembler.new ≡ line.kept_by_frame assembler.old header.now body.now header.now.packet) }
     ensures sound { IsSound (V.holds vault.new) state.new }
@@ -236,6 +245,7 @@ fn hear_last<V: Vault>(
     requires sound { IsSound (V.holds vault.old) state.old }
     ensures ok { IfOk result (λ end. Ran state.old.settings (line.hears state.old (line.of_item assembler.old (message_at stream.now.splitter.content))) state.new (V.holds vault.old) (V.holds vault.new) out.old out.new end) }
     ensures err { OnErr result (CutShort (line.hears state.old (line.of_item assembler.old (message_at stream.now.splitter.content))).steps (V.holds vault.old) (V.holds vault.new)) }
+    ensures tables { OnErr result (AllTablesOrNone state.old (line.hears state.old (line.of_item assembler.old (message_at stream.now.splitter.content))).state state.new) }
     ensures told { OnOk result (told.new ≡ told.old ++ option_to_list (line.told_one state.old (line.of_item assembler.old (message_at stream.now.splitter.content)))) }
     ensures partial { OnOk result (assembler.new ≡ line.kept_by assembler.old (message_at stream.now.splitter.content)) }
     ensures sound { IsSound (V.holds vault.new) state.new }
@@ -266,7 +276,7 @@ fn hear_item<V: Vault>(
     ensures taken { IfOk result (λ came. (0 < came.0) × (came.0 ≤ length octets.now)) }
     ensures place { IfOk result (λ came. stream.new.splitter.place ≡ stream.old.splitter.place + came.0) }
     ensures far { stream.new.splitter.place ≤ stream.old.splitter.place + length octets.now }
-    ensures err { OnErr result (WasCut (scene stream.old.splitter assembler.old state.old (V.holds vault.old) out.old told.old) stream.new.splitter (V.holds vault.new) octets.now) }
+    ensures err { OnErr result (WasCut (scene stream.old.splitter assembler.old state.old (V.holds vault.old) out.old told.old) stream.new.splitter state.new (V.holds vault.new) octets.now) }
     ensures sound { IsSound (V.holds vault.new) state.new }
     ensures same { IsSame state.old state.new }
     ensures outside { Outside (V.faults vault.old) (V.faults vault.new) (V.limit vault.old) (V.limit vault.new) (V.may_fail vault.old) (V.may_fail vault.new) result }
@@ -299,7 +309,7 @@ pub(crate) fn hear<V: Vault>(
     requires sound { IsSound (V.holds vault.old) state.old }
     ensures ok { IfOk result (λ end. HasFedFront (scene stream.old.splitter assembler.old state.old (V.holds vault.old) out.old told.old) (scene stream.new.splitter assembler.new state.new (V.holds vault.new) out.new told.new) octets.now end) }
     ensures place { stream.new.splitter.place ≤ stream.old.splitter.place + length octets.now }
-    ensures err { OnErr result (WasCut (scene stream.old.splitter assembler.old state.old (V.holds vault.old) out.old told.old) stream.new.splitter (V.holds vault.new) octets.now) }
+    ensures err { OnErr result (WasCut (scene stream.old.splitter assembler.old state.old (V.holds vault.old) out.old told.old) stream.new.splitter state.new (V.holds vault.new) octets.now) }
     ensures sound { IsSound (V.holds vault.new) state.new }
     ensures same { IsSame state.old state.new }
     ensures outside { Outside (V.faults vault.old) (V.faults vault.new) (V.limit vault.old) (V.limit vault.new) (V.may_fail vault.old) (V.may_fail vault.new) result }

@@ -2,7 +2,7 @@
 
 ghost use Rattle.std.specs.Prelude.{◌≡◌, ℕ, ◌≤◌, ◌<◌, ◌+◌, ◌^◌, ◌++◌, List, [], None, IfOk, OnErr, OnOk, length};
 ghost use Rattle.jt_terminal_rule.specs.Rule as rule;
-ghost use Rattle.jt_terminal.specs.Line.{StandsForLine, fed, told_at};
+ghost use Rattle.jt_terminal.specs.Line.{StandsForLine, TablesOfFirst, fed, new_items, partial_of, told_at};
 ghost use Rattle.jt_terminal_steps.specs.Running.{CutShort, IsDown, IsSound, Outside, holds_after};
 
 use crate::actions::Actions;
@@ -52,7 +52,8 @@ impl TerminalLine {
     /// it gives up. Refused frames are passed over.
     ///
     /// Store comes only where the vault's count of faults rose in this call. After an error the vault holds what some first
-    /// changes of what the octets ask make of it, and the terminal has no line.
+    /// changes of what the octets ask make of it, the terminal has no line, and its times and tables are those that the rule has after
+    /// some first items of the octets. The last fix stays.
     pub fn feed<V: Vault>(
         &mut self,
         alloc: Global,
@@ -69,6 +70,7 @@ impl TerminalLine {
         ensures stands { (seen : List ℕ) → StandsForLine self.old seen → IfOk result (λ actions. actions.end ≡ None → StandsForLine self.new (seen ++ octets.now)) }
         ensures place { self.new.stream.place ≤ self.old.stream.place + length octets.now }
         ensures cut { (seen : List ℕ) → StandsForLine self.old seen → OnErr result (CutShort (fed terminal.old.state seen octets.now).steps (V.holds terminal.old.vault) (V.holds terminal.new.vault)) }
+        ensures tables { (seen : List ℕ) → StandsForLine self.old seen → OnErr result (TablesOfFirst terminal.old.state (partial_of seen) (new_items seen octets.now) terminal.new.state) }
         ensures down { OnErr result (IsDown terminal.new.state) }
         ensures sound { IsSound (V.holds terminal.new.vault) terminal.new.state }
         ensures settings { terminal.new.state.settings ≡ terminal.old.state.settings }

@@ -32,7 +32,7 @@ returns-in_err-count-clause-place g c = omega (arith, c.in_err-count.ensures.far
 
 pub returns-in_err-count-clause-err : goal.returns-in_err-count-clause-err
 returns-in_err-count-clause-err g c =
-    any_err _ (cut_more_octets (scene c.args.stream.now.splitter c.args.assembler.now c.args.state.now (g.V.Vault.holds c.args.vault.now) c.args.out.now c.args.told.now) (scene c.loop-taken.stream.splitter c.loop-taken.assembler c.loop-taken.state (g.V.Vault.holds c.loop-taken.vault) c.loop-taken.out c.loop-taken.told) c.hear_item.new.stream.splitter (g.V.Vault.holds c.hear_item.new.vault) c.args.octets.now c.loop-taken.taken (λ i. omega (arith, c.type_inv.octets i)) c.loop-taken.invariant.fed c.in_err-count.ensures.err)
+    any_err _ (cut_more_octets (scene c.args.stream.now.splitter c.args.assembler.now c.args.state.now (g.V.Vault.holds c.args.vault.now) c.args.out.now c.args.told.now) (scene c.loop-taken.stream.splitter c.loop-taken.assembler c.loop-taken.state (g.V.Vault.holds c.loop-taken.vault) c.loop-taken.out c.loop-taken.told) c.hear_item.new.stream.splitter c.hear_item.new.state (g.V.Vault.holds c.hear_item.new.vault) c.args.octets.now c.loop-taken.taken (λ i. omega (arith, c.type_inv.octets i)) c.loop-taken.invariant.fed c.in_err-count.ensures.err)
 
 pub returns-in-Some-clause-ok : goal.returns-in-Some-clause-ok
 returns-in-Some-clause-ok g c =

@@ -1,8 +1,12 @@
-use Rattle.std.proofs.Common.{refl}
+use Rattle.std.proofs.Common.{inl, refl}
 use Rattle.jt_terminal_rule.specs.Rule.{received}
 use Rattle.jt_terminal_steps.proofs.Chaining.{any_err, cut_none}
+use Rattle.jt_terminal_steps.proofs.Leaving.{equal_tables}
 use Rattle.jt_terminal.proofs.feeding.hear_read.Goals as goal
 
 pub returns-in_err-tell-clause-err : goal.returns-in_err-tell-clause-err
 returns-in_err-tell-clause-err g c =
     any_err _ (cut_none (received c.args.state.now c.args.header.now c.args.message.now).steps (g.V.Vault.holds c.args.vault.now) (g.V.Vault.holds c.args.vault.now) refl)
+
+pub returns-in_err-tell-clause-tables : goal.returns-in_err-tell-clause-tables
+returns-in_err-tell-clause-tables g c = any_err _ (inl (equal_tables c.args.state.now c.args.state.now refl))

@@ -5,7 +5,7 @@ use Rattle.jt_terminal_steps.specs.Running.{holds_after}
 use Rattle.jt_terminal.specs.declared.actions.Actions.{Actions}
 use Rattle.jt_terminal.specs.Feeding.{HasFedFront, scene}
 use Rattle.jt_terminal.specs.Line.{StandsForLine, fed, told_at}
-use Rattle.jt_terminal.proofs.Items.{fed_cut, fed_ran, ok_fact, ok_map, stands_on, told_is}
+use Rattle.jt_terminal.proofs.Items.{fed_cut, fed_ran, fed_tables, ok_fact, ok_map, stands_on, told_is}
 use Rattle.jt_terminal.proofs.line.TerminalLine.feed.Goals as goal
 
 pub returns-clause-state : goal.returns-clause-state
@@ -24,7 +24,10 @@ pub returns-clause-told : goal.returns-clause-told
 returns-clause-told g c = rw (← c.self.view_is) (λ seen stands. ok_map (λ (actions : Actions). HasFedFront (scene c.self.inside.stream.splitter c.self.inside.assembler c.args.terminal.now.state (g.V.Vault.holds c.args.terminal.now.vault) [] []) (scene c.hear.new.stream.splitter c.hear.new.assembler c.hear.new.self.state (g.V.Vault.holds c.hear.new.self.vault) actions.frames actions.told) c.args.octets.now actions.end) (λ (actions : Actions). actions.told ≡ told_at c.args.terminal.now.state seen c.args.octets.now) c.hear.result (λ actions f. told_is (scene c.self.inside.stream.splitter c.self.inside.assembler c.args.terminal.now.state (g.V.Vault.holds c.args.terminal.now.vault) [] []) (scene c.hear.new.stream.splitter c.hear.new.assembler c.hear.new.self.state (g.V.Vault.holds c.hear.new.self.vault) actions.frames actions.told) c.args.octets.now actions.end f c.law_front.ensures.unplaced seen stands) c.hear.ensures.ok)
 
 pub returns-clause-cut : goal.returns-clause-cut
-returns-clause-cut g c = rw (← c.self.view_is) (λ seen stands. on_err_weaker c.hear.result (fed_cut (scene c.self.inside.stream.splitter c.self.inside.assembler c.args.terminal.now.state (g.V.Vault.holds c.args.terminal.now.vault) [] []) c.hear.new.stream.splitter (g.V.Vault.holds c.hear.new.self.vault) c.args.octets.now seen c.law_front.ensures.unplaced stands) c.hear.ensures.err)
+returns-clause-cut g c = rw (← c.self.view_is) (λ seen stands. on_err_weaker c.hear.result (fed_cut (scene c.self.inside.stream.splitter c.self.inside.assembler c.args.terminal.now.state (g.V.Vault.holds c.args.terminal.now.vault) [] []) c.hear.new.stream.splitter c.hear.new.self.state (g.V.Vault.holds c.hear.new.self.vault) c.args.octets.now seen c.law_front.ensures.unplaced stands) c.hear.ensures.err)
 
 pub returns-clause-stands : goal.returns-clause-stands
 returns-clause-stands g c = rw (← c.self.view_is) (λ seen stands. ok_map (λ (actions : Actions). HasFedFront (scene c.self.inside.stream.splitter c.self.inside.assembler c.args.terminal.now.state (g.V.Vault.holds c.args.terminal.now.vault) [] []) (scene c.hear.new.stream.splitter c.hear.new.assembler c.hear.new.self.state (g.V.Vault.holds c.hear.new.self.vault) actions.frames actions.told) c.args.octets.now actions.end) (λ (actions : Actions). actions.end ≡ None → StandsForLine (record { stream = c.hear.new.stream.splitter; partial = c.hear.new.assembler }) (seen ++ c.args.octets.now)) c.hear.result (λ actions f. stands_on (scene c.self.inside.stream.splitter c.self.inside.assembler c.args.terminal.now.state (g.V.Vault.holds c.args.terminal.now.vault) [] []) (scene c.hear.new.stream.splitter c.hear.new.assembler c.hear.new.self.state (g.V.Vault.holds c.hear.new.self.vault) actions.frames actions.told) c.args.octets.now actions.end f c.law_front.ensures.unplaced seen stands (λ i. omega (arith, c.type_inv.octets i))) c.hear.ensures.ok)
+
+pub returns-clause-tables : goal.returns-clause-tables
+returns-clause-tables g c = rw (← c.self.view_is) (λ seen stands. on_err_weaker c.hear.result (fed_tables (scene c.self.inside.stream.splitter c.self.inside.assembler c.args.terminal.now.state (g.V.Vault.holds c.args.terminal.now.vault) [] []) c.hear.new.stream.splitter c.hear.new.self.state (g.V.Vault.holds c.hear.new.self.vault) c.args.octets.now seen c.law_front.ensures.unplaced stands) c.hear.ensures.err)
