@@ -3,7 +3,7 @@ use Rattle.std.proofs.Common.{◌≡◌, ◌≤◌, ◌<◌, ◌+◌, ◌-◌, �
 use Rattle.std.proofs.lemmas.List.{map-append}
 use lib.ListN.{get_elem?}
 use mathlib.Core.List.{IsPrefix}
-use mathlib.Core.Option.{some}
+use mathlib.Core.Option.{some, some-ne-none}
 use Rattle.jt_link.specs.Link.{Wire}
 use Rattle.jt_link.specs.Pool.{Script}
 use Rattle.jt_turn.specs.declared.entry.Ended.{Ended}
@@ -16,7 +16,7 @@ use Rattle.jt_session.specs.declared.end.End.TheVariants as ends
 use Rattle.jt_session.specs.declared.report.Report.{Report}
 use Rattle.jt_session.specs.Serving.{HasCause}
 use Rattle.jt_server.specs.Served.{one_fault, store_faults}
-use Rattle.jt_server.specs.Jobs.{AreUpTo, HasFailed, IsJoined, IsWorked}
+use Rattle.jt_server.specs.Jobs.{AreUpTo, HasFailed, IsJoined, IsRoot, IsWorked}
 use Rattle.jt_server.proofs.Places.{at_end, at_last, at_longer}
 
 one_failed : {O : Type 0} (end : End) (octets read : ℕ) (link link_now : Wire) (pass one : PassState Request Reply O) → pass.failed ≡ 0 → HasCause end octets read link link_now pass one → (one_fault end ≤ one.failed) ⊎ (2 ^ 64 - 1 ≤ one.faults)
@@ -84,3 +84,50 @@ module _ {O : Type 0} (o : Option Opening) (opening : O) (turn : TurnId) (coming
         subst (λ l. get_elem? l (length root.ended) ≡ some (record { number = m + 1; mine = one.mine })) (sym did.ended)
         (at_last root.ended (record { number = one.number; mine = one.mine }) ∙ ap (λ n. some (record { number = n; mine = one.mine })) (worked.same.number ∙ worked.given.number));
   }
+
+  -- one link more was served
+  pub joined_links : {K : Type 0} (wire : K → Wire) (report_of : K → Report) (links links_now : List K) (b : K) (total m : ℕ) → links_now ≡ links ++ b ∷ [] → total - 1 - length links ≡ m
+      → ((i : ℕ) (x : K) → get_elem? links i ≡ some x → IsJoined o opening turn coming (total - 1 - i) root (wire x) (report_of x))
+      → IsWorked o opening turn coming m one (wire b) (report_of b)
+      → (i : ℕ) (x : K) → get_elem? links_now i ≡ some x → IsJoined o opening turn coming (total - 1 - i) root_now (wire x) (report_of x)
+  joined_links wire report_of links links_now b total m is place old worked i x at = on (at_end links b i x (subst (λ l. get_elem? l i ≡ some x) is at)) where
+    on : (get_elem? links i ≡ some x) ⊎ ((i ≡ length links) × (b ≡ x)) → IsJoined o opening turn coming (total - 1 - i) root_now (wire x) (report_of x)
+    on (inl there) = joined_still (total - 1 - i) (wire x) (report_of x) (old i x there)
+    on (inr last) =
+        subst (λ y. IsJoined o opening turn coming (total - 1 - i) root_now (wire y) (report_of y)) last.1
+        (subst (λ k. IsJoined o opening turn coming k root_now (wire b) (report_of b)) (sym (ap (λ j. total - 1 - j) last.0 ∙ place)) (joined_new m (wire b) (report_of b) worked))
+
+pub failed_on : {O K : Type 0} (report_of : K → Report) (links links_now : List K) (b : K) (root : PassState Request Reply O) → links_now ≡ links ++ b ∷ [] → HasFailed (store_faults (map report_of links ++ report_of b ∷ [])) root → HasFailed (store_faults (map report_of links_now)) root
+failed_on report_of links links_now b root is failed = subst (λ l. HasFailed (store_faults l) root) (sym (ap (λ l. map report_of l) is ∙ map-append report_of links (b ∷ []))) failed
+
+-- as many as there are
+pub joined_of : {O K : Type 0} (o : Option Opening) (opening : O) (turn : TurnId) (coming : Option (List Script)) (root : PassState Request Reply O) (wire : K → Wire) (report_of : K → Report) (links : List K) (total count : ℕ) → count ≡ total
+    → ((i : ℕ) (x : K) → get_elem? links i ≡ some x → IsJoined o opening turn coming (total - 1 - i) root (wire x) (report_of x))
+    → (i : ℕ) (x : K) → get_elem? links i ≡ some x → IsJoined o opening turn coming (count - 1 - i) root (wire x) (report_of x)
+joined_of o opening turn coming root wire report_of links total count is joined i x at = subst (λ n. IsJoined o opening turn coming (n - 1 - i) root (wire x) (report_of x)) (sym is) (joined i x at)
+
+-- ---- where none was joined yet
+
+pub up_to_any : {O : Type 0} (root : PassState Request Reply O) (count : ℕ) → AreUpTo 0 root → AreUpTo count root
+up_to_any root count few k e at = on (few k e at) where
+  on : (e.number ≤ 0) ⊎ (e.mine ≡ []) → (e.number ≤ count) ⊎ (e.mine ≡ [])
+  on (inl less) = inl (omega (arith, less))
+  on (inr none) = inr none
+
+pub none_failed : {O K : Type 0} (root : PassState Request Reply O) (report_of : K → Report) (links : List K) → links ≡ [] → HasFailed (store_faults (map report_of links)) root
+none_failed root report_of [] e = inl (omega arith)
+none_failed root report_of (x ∷ links) e = absurd cc
+
+pub not_there : {K : Type 0} (links : List K) (i : ℕ) (b : K) → links ≡ [] → get_elem? links i ≡ some b → ⊥
+not_there [] i b e at = some-ne-none b (sym at)
+not_there (x ∷ links) i b e at = absurd cc
+
+pub root_joined : {O : Type 0} (opening : O) (turn : TurnId) (base : ℕ) (root root_now : PassState Request Reply O) → IsRoot opening turn base root
+    → (root_now.turn ≡ root.turn) × (root_now.number ≡ root.number) × (root_now.mine ≡ root.mine) × (root_now.opening ≡ root.opening) × (root_now.base ≡ root.base) × (root_now.given ≡ root.given) → IsRoot opening turn base root_now
+root_joined opening turn base root root_now is stays = record {
+  of_turn = stays.0 ∙ is.of_turn;
+  number = stays.1 ∙ is.number;
+  over = stays.3 ∙ is.over;
+  base_is = stays.4 ∙ is.base_is;
+  mine = stays.2 ∙ is.mine;
+}

@@ -1,6 +1,6 @@
 -- Places in lists.
-use Rattle.std.proofs.Common.{◌≡◌, ◌≢◌, ◌≤◌, ◌<◌, ◌+◌, ◌-◌, ◌⊎◌, ℕ, zero, suc, List, [], ◌∷◌, ◌++◌, length, map, reverse, inl, inr, refl, sym, ap, ◌∙◌, subst, arith, length-append, length-map}
-use Rattle.std.proofs.lemmas.List.{length-reverse, reverse-append}
+use Rattle.std.proofs.Common.{◌≡◌, ◌≢◌, ◌≤◌, ◌<◌, ◌+◌, ◌-◌, ◌⊎◌, ℕ, zero, suc, List, [], ◌∷◌, ◌++◌, length, map, reverse, inl, inr, refl, sym, ap, ◌∙◌, subst, arith, length-append}
+use Rattle.std.proofs.lemmas.List.{length-map, length-reverse, reverse-append}
 use lib.ListN.{get_elem?}
 use mathlib.Core.Option.{some, some-injective, some-ne-none}
 use native.Mathlib.Decide.{ℕ_discrete}
@@ -8,6 +8,9 @@ use Rattle.jt_turn.specs.declared.entry.Ended.{Ended}
 use Rattle.jt_turn.specs.Histories.{IsNoneOf}
 
 module _ {X : Type 0} where
+  pub one_more : (xs ys : List X) (x : X) → ys ≡ xs ++ x ∷ [] → length ys ≡ length xs + 1
+  one_more xs ys x is = omega (arith, ap length is, length-append xs (x ∷ []))
+
   pub at_last : (xs : List X) (x : X) → get_elem? (xs ++ x ∷ []) (length xs) ≡ some x
   at_last [] x = refl
   at_last (y ∷ xs) x = at_last xs x
@@ -34,10 +37,11 @@ module _ {X : Type 0} where
   -- which stands at a place of the list turned round
   pub at_back : (xs : List X) (m : ℕ) (y : X) → get_elem? (reverse xs) m ≡ some y → (k : ℕ) × (get_elem? xs k ≡ some y) × (k + m + 1 ≡ length xs)
   at_back [] m y at = absurd (some-ne-none y (sym at))
-  at_back (x ∷ xs) m y at = on (at_end (reverse xs) x m y (subst (λ l. get_elem? l m ≡ some y) (reverse-append (x ∷ []) xs) at)) where
-    on : (get_elem? (reverse xs) m ≡ some y) ⊎ ((m ≡ length (reverse xs)) × (x ≡ y)) → (k : ℕ) × (get_elem? (x ∷ xs) k ≡ some y) × (k + m + 1 ≡ suc (length xs))
-    on (inl there) = let found = at_back xs m y there in (suc found.0, found.1, omega (arith, found.2))
-    on (inr last) = (0, ap some last.1, omega (arith, last.0, length-reverse xs))
+  at_back (x ∷ xs) m y at = on (λ there. at_back xs m y there) (at_end (reverse xs) x m y (subst (λ l. get_elem? l m ≡ some y) (reverse-append (x ∷ []) xs) at)) where
+    on : (get_elem? (reverse xs) m ≡ some y → (k : ℕ) × (get_elem? xs k ≡ some y) × (k + m + 1 ≡ length xs)) → (get_elem? (reverse xs) m ≡ some y) ⊎ ((m ≡ length (reverse xs)) × (x ≡ y))
+        → (k : ℕ) × (get_elem? (x ∷ xs) k ≡ some y) × (k + m + 1 ≡ suc (length xs))
+    on more (inl there) = let found = more there in (suc found.0, found.1, omega (arith, found.2))
+    on more (inr last) = (0, ap some last.1, omega (arith, last.0, length-reverse xs))
 
   pub at_front : (xs : List X) (k m : ℕ) (y : X) → get_elem? xs k ≡ some y → k + m + 1 ≡ length xs → get_elem? (reverse xs) m ≡ some y
   at_front [] k m y at e = absurd (some-ne-none y (sym at))
@@ -64,10 +68,10 @@ of_number n (x ∷ ended) = elim (ℕ_discrete x.number n) as (λ _. ((k : ℕ) 
   | yes is ↦ inl (0, x, refl, is)
   | no ne ↦ later x n ended ne (of_number n ended)
 ] where
-  later : {A B : Type 0} (x : Ended A B) (n : ℕ) (ended : List (Ended A B)) → x.number ≢ n → ((k : ℕ) × (e : Ended A B) × (get_elem? ended k ≡ some e) × (e.number ≡ n)) ⊎ IsNoneOf n ended → ((k : ℕ) × (e : Ended A B) × (get_elem? (x ∷ ended) k ≡ some e) × (e.number ≡ n)) ⊎ IsNoneOf n (x ∷ ended)
-  later x n ended ne (inl found) = inl (suc found.0, found.1, found.2, found.3)
-  later x n ended ne (inr none) = inr (none_of x n ended ne none)
-
   none_of : {A B : Type 0} (x : Ended A B) (n : ℕ) (ended : List (Ended A B)) → x.number ≢ n → IsNoneOf n ended → IsNoneOf n (x ∷ ended)
   none_of x n ended ne none zero e at = subst (λ y. y.number ≢ n) (some-injective x e at) ne
   none_of x n ended ne none (suc m) e at = none m e at
+
+  later : {A B : Type 0} (x : Ended A B) (n : ℕ) (ended : List (Ended A B)) → x.number ≢ n → ((k : ℕ) × (e : Ended A B) × (get_elem? ended k ≡ some e) × (e.number ≡ n)) ⊎ IsNoneOf n ended → ((k : ℕ) × (e : Ended A B) × (get_elem? (x ∷ ended) k ≡ some e) × (e.number ≡ n)) ⊎ IsNoneOf n (x ∷ ended)
+  later x n ended ne (inl found) = inl (suc found.0, found.1, found.2, found.3)
+  later x n ended ne (inr none) = inr (none_of x n ended ne none)

@@ -1,7 +1,7 @@
 -- What was served, over the history that the turn's hub has in the end.
-use Rattle.std.proofs.Common.{◌≡◌, ◌≢◌, ◌≤◌, ◌<◌, ◌+◌, ◌-◌, ◌^◌, ◌⊎◌, ℕ, zero, suc, List, [], ◌∷◌, ◌++◌, length, map, reverse, drop, min, Option, Some, None, IfSome, inl, inr, refl, sym, ap, ◌∙◌, subst, arith, append_assoc, length-map}
+use Rattle.std.proofs.Common.{◌≡◌, ◌≢◌, ◌≤◌, ◌<◌, ◌+◌, ◌-◌, ◌^◌, ◌⊎◌, ℕ, zero, suc, List, [], ◌∷◌, ◌++◌, length, map, reverse, drop, min, Option, Some, None, IfSome, inl, inr, refl, sym, ap, ◌∙◌, subst, arith, append_assoc}
 use Rattle.std.specs.Prelude.{option_map}
-use Rattle.std.proofs.lemmas.List.{append-nil, length-reverse, reverse-append}
+use Rattle.std.proofs.lemmas.List.{append-nil, length-map, length-reverse, reverse-append}
 use lib.ListN.{get_elem?}
 use mathlib.Core.List.{IsPrefix}
 use mathlib.Core.Option.{some, some-ne-none}
@@ -46,7 +46,7 @@ filled_after o h seen q l front legal full = record {
 -- ---- how many reports end as StoreFault
 
 faults_append : (xs ys : List Report) → store_faults (xs ++ ys) ≡ store_faults xs + store_faults ys
-faults_append [] ys = refl
+faults_append [] ys = omega arith
 faults_append (x ∷ xs) ys = let more = faults_append xs ys in omega (arith, more)
 
 faults_turned : (xs : List Report) → store_faults (reverse xs) ≡ store_faults xs
@@ -91,21 +91,21 @@ module _ {O K : Type 0} (o : Opening) (opening : O) (turn : TurnId) (h : List En
         → pool_now.coming ≡ option_map (λ scripts. drop (length links) scripts) pool.coming → pool_now.back ≡ option_map (λ back. back ++ map used_of (reverse (map wire links))) pool.back → pool_now.lent ≡ option_map (λ n. n - length links) (option_map (λ n. n + length links) pool.lent)
         → AreServed O o h pool pool_now reports
     are_served joined is coming back lent =
-        let many : length reports ≡ length links = ap length is ∙ (length-reverse (map report_of links) ∙ length-map report_of links) in record {
+        let many : length reports ≡ length links = ap length is ∙ (length-reverse (map report_of links) ∙ length-map links report_of) in record {
           back = reverse (map wire links);
           each = λ m report at.
               let turned = at_back (map report_of links) m report (subst (λ l. get_elem? l m ≡ some report) is at) in
               let found = from_mapped report_of links turned.0 report turned.1 in
-              let place : length links - 1 - turned.0 ≡ m = omega (arith, turned.2, length-map report_of links) in
+              let place : length links - 1 - turned.0 ≡ m = omega (arith, turned.2, length-map links report_of) in
               let j = subst (λ k. IsJoined (Some o) opening turn pool.coming k root (wire found.0) (report_of found.0)) place (joined turned.0 found.0 found.1) in
               let k = subst (λ r. IsJoined (Some o) opening turn pool.coming m root (wire found.0) r) found.2 j in (
                 k.worked.came,
                 wire found.0,
                 k.worked.given.new,
-                at_front (map wire links) turned.0 m (wire found.0) (at_mapped wire links turned.0 found.0 found.1) (turned.2 ∙ (length-map report_of links ∙ sym (length-map wire links))),
+                at_front (map wire links) turned.0 m (wire found.0) (at_mapped wire links turned.0 found.0 found.1) (turned.2 ∙ (length-map links report_of ∙ sym (length-map links wire))),
                 one_served m (wire found.0) report k,
               );
-          as_many = length-reverse (map wire links) ∙ (length-map wire links ∙ sym many);
+          as_many = length-reverse (map wire links) ∙ (length-map links wire ∙ sym many);
           coming = coming ∙ ap (λ n. option_map (λ scripts. drop n scripts) pool.coming) (sym many);
           came_back = back;
           lent = lent ∙ lent_back (length links) pool.lent;

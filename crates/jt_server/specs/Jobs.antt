@@ -14,7 +14,15 @@ use Rattle.jt_platform.specs.declared.request.Reply.{Reply}
 use Rattle.jt_session.specs.declared.report.Report.{Report}
 use Rattle.jt_session.specs.Hearing.{IsSamePass}
 use Rattle.jt_session.specs.Serving.{Serves}
-use Rattle.jt_server.specs.Served.{store_faults}
+use Rattle.jt_io.specs.Count.{Counts, RoseBy}
+use Rattle.jt_turn.specs.Histories.{entries_of}
+use Rattle.jt_platform.specs.Allowed.{Legal}
+use Rattle.jt_platform.specs.Desks.{as_ask}
+use Rattle.jt_platform.specs.History.{newest}
+use Rattle.jt_platform.specs.Hub.{HubValue}
+use Rattle.jt_platform.specs.declared.request.Fleet.{Fleet}
+use Rattle.jt_server.specs.declared.served.ServeEnd.{ServeEnd}
+use Rattle.jt_server.specs.Served.{AreServed, EndsAs, store_faults}
 
 -- The m-th thread was given a new pass of the number behind, and the m-th of the links that were to come.
 pub record IsGiven {O : Type 0} (opening : O) (turn : TurnId) (coming : Option (List Script)) (m : ℕ) (pass : PassState Request Reply O) (came : Wire) : Type 0 where
@@ -60,3 +68,22 @@ HasFailed count root = (count ≤ root.failed) ⊎ (2 ^ 64 - 1 ≤ root.faults)
 -- so many links were given by the listener
 abbrev pub lent_to : ℕ → Pool → Pool
 lent_to count pool = record { coming = option_map (λ scripts. drop count scripts) pool.coming; back = pool.back; lent = option_map (λ n. n + count) pool.lent }
+
+-- empty lists, each with room for so many
+pub record AreRooms {J K R : Type 0} (count : ℕ) (jobs : List J) (jobs_room : ℕ) (links : List K) (links_room : ℕ) (reports : List R) (reports_room : ℕ) : Type 0 where
+  pub no_job : jobs ≡ []
+  pub for_jobs : count ≤ jobs_room
+  pub no_link : links ≡ []
+  pub for_links : count ≤ links_room
+  pub no_report : reports ≡ []
+  pub for_reports : count ≤ reports_room
+
+-- links were served over a hub that began so: all that `serve` says of it
+pub record ServesLinks {P : Type 0} (O : Type 0) (o : Opening) (start : P) (fleet : Fleet) (secret : List ℕ) (hub_now : HubValue P) (sessions : ℕ) (pool pool_now : Pool) (before now kept kept_now : ℕ) (reports : List Report) (end : ServeEnd) : Type 0 where
+  pub legal : Legal o (newest hub_now.history)
+  pub opening : (hub_now.start ≡ start) × (hub_now.fleet ≡ fleet) × (hub_now.secret ≡ secret)
+  pub served : AreServed O o hub_now.history pool pool_now reports
+  pub no_other : (n : ℕ) → (n ≡ 0) ⊎ (length reports < n) → entries_of n (map as_ask hub_now.history) ≡ []
+  pub ended : EndsAs end (length reports) sessions pool_now before now
+  pub count : Counts before now
+  pub faults : RoseBy (store_faults reports) kept kept_now

@@ -39,6 +39,8 @@ pub record IsFullAfter (o : Opening) (h : List Entry) (q : Option Request) (l : 
 
 -- A link that came so was served under this number, and came back so. The history's entries of the number are those of the pass that
 -- served it, and where the report's end is ListFull the phone has as many rows as it may have after the whole history.
+-- Of the pass itself no more is said: what it saw and how often the keeper failed in it is bound by the whole history and the keeper's count
+-- alone.
 pub record IsServed (O : Type 0) (o : Opening) (h : List Entry) (number : ℕ) (came back : Wire) (report : Report) : Type 0 where
   pub pass : PassState Request Reply O
   pub pass_now : PassState Request Reply O

@@ -15,7 +15,7 @@ ghost use Rattle.jt_platform.specs.declared.desk.HubOpening.{HubOpening};
 ghost use Rattle.jt_session.specs.Hearing.{IsSamePass};
 ghost use Rattle.jt_session.specs.Serving.{Serves};
 ghost use Rattle.jt_server.specs.Served.{AreServed, EndsAs, store_faults};
-ghost use Rattle.jt_server.specs.Jobs.{AreUpTo, HasFailed, IsGiven, IsJoined, IsRoot, IsWorked, lent_to};
+ghost use Rattle.jt_server.specs.Jobs.{AreUpTo, HasFailed, IsGiven, IsJoined, IsRoot, IsWorked, ServesLinks, AreRooms, lent_to};
 ghost use lib.ListN.{get_elem?};
 ghost use mathlib.Core.Option.{some};
 
@@ -78,31 +78,101 @@ where
     // The keeper's count rose by at least as many as the reports that end as StoreFault.
     ensures faults { RoseBy (store_faults result.reports) (P.faults hub.keeper) (P.faults result.hub.keeper) }
 {
-    let Ok(()) = hub.reserve(sessions) else {
-        return refused(alloc, hub);
-    };
-    let Ok(mut reports) = room(alloc, sessions) else {
-        return refused(alloc, hub);
-    };
-    let Ok(jobs) = room(alloc, sessions) else {
-        return refused(alloc, hub);
-    };
-    let Ok(links) = room(alloc, sessions) else {
-        return refused(alloc, hub);
-    };
-    let (turn, pass) = match Turn::begin(alloc, hub) {
-        Ok(begun) => begun,
-        Err((hub, Memory)) => return refused(alloc, hub),
-    };
-    let held = Held { listen };
-    let done = serve_all(rt, alloc, held, &turn, pass, jobs, links, sessions);
-    let Done {
-        door,
-        pass,
+    match hub.reserve(sessions) {
+        Ok(()) => serve_reserved(rt, alloc, listen, hub, sessions),
+        Err(Memory) => refused(alloc, listen, hub, sessions),
+    }
+}
+
+// No link was accepted.
+fn refused<L: Listen, P: Keeper>(alloc: Global, listen: &L, hub: Hub<P>, sessions: u32) -> Served<P>
+    requires history { hub.history ≡ [] }
+    requires sessions { 1 ≤ sessions }
+    ensures { ServesLinks (Option (HubOpening P)) (opening_of (P.tables hub.start) (P.limit hub.start) hub.fleet hub.secret) hub.start hub.fleet hub.secret result.hub sessions (L.pool listen.now) (L.pool listen.now) (L.faults listen.now) (L.faults listen.now) (P.faults hub.keeper) (P.faults result.hub.keeper) result.reports result.end }
+{
+    let _sessions = sessions;
+    let _listen = listen;
+    Served {
+        reports: Seq::new(alloc),
+        hub,
+        end: ServeEnd::Memory,
+    }
+}
+
+// What is taken before the first link is accepted.
+#[derive(Drop)]
+struct Rooms<K: Link, P: Keeper> {
+    jobs: Buffer<Job<K, P>>,
+    links: Buffer<Back<K>>,
+    reports: Buffer<Report>,
+}
+
+fn take_rooms<K: Link + Drop, P: Keeper>(
+    alloc: Global,
+    sessions: u32,
+) -> Result<Rooms<K, P>, Memory>
+    ensures { IfOk result (λ rooms. AreRooms sessions rooms.jobs.items rooms.jobs.spare rooms.links.items rooms.links.spare rooms.reports.items rooms.reports.spare) }
+{
+    let jobs = room(alloc, sessions)?;
+    let links = room(alloc, sessions)?;
+    let reports = room(alloc, sessions)?;
+    Ok(Rooms {
+        jobs,
         links,
-        end,
-    } = done;
-    let Held { listen } = door;
+        reports,
+    })
+}
+
+// Serves links over a hub that has the memory for a Close of each session.
+fn serve_reserved<R: Threads + Wait + Sync, L: Listen, P: Keeper + Send + Drop>(
+    rt: &R,
+    alloc: Global,
+    listen: &mut L,
+    hub: Hub<P>,
+    sessions: u32,
+) -> Served<P>
+where
+    L::Link: Send,
+    requires history { hub.history ≡ [] }
+    requires sessions { 1 ≤ sessions }
+    requires reserved { sessions ≤ hub.reserved }
+    ensures { ServesLinks (Option (HubOpening P)) (opening_of (P.tables hub.start) (P.limit hub.start) hub.fleet hub.secret) hub.start hub.fleet hub.secret result.hub sessions (L.pool listen.old) (L.pool listen.new) (L.faults listen.old) (L.faults listen.new) (P.faults hub.keeper) (P.faults result.hub.keeper) result.reports result.end }
+{
+    let Ok(rooms) = take_rooms(alloc, sessions) else {
+        return refused(alloc, listen, hub, sessions);
+    };
+    let before = Snapshot::of(&hub);
+    match Turn::begin(alloc, hub) {
+        Ok((turn, pass)) => { serve_turn(rt, alloc, listen, before, turn, pass, rooms, sessions) }
+        Err((hub, Memory)) => refused(alloc, listen, hub, sessions),
+    }
+}
+
+// Serves links over a turn that has just begun, closes it, and gives the links back.
+fn serve_turn<R: Threads + Wait + Sync, L: Listen, P: Keeper + Send + Drop>(
+    rt: &R,
+    alloc: Global,
+    listen: &mut L,
+    before: Snapshot<Hub<P>>,
+    turn: Turn<Hub<P>>,
+    pass: Pass<Hub<P>>,
+    rooms: Rooms<L::Link, P>,
+    sessions: u32,
+) -> Served<P>
+where
+    L::Link: Send,
+    requires begun { pass ≡ record { turn = turn; number = 0; opening = Some (record { start = before.value.start; fleet = before.value.fleet; secret = before.value.secret; reserved = before.value.reserved }); base = P.faults before.value.keeper; seen = []; mine = []; faults = P.faults before.value.keeper; found = []; found_faults = 0; failed = 0; ended = []; lent = 0; given = 0 } }
+    requires reserved { sessions ≤ before.value.reserved }
+    requires rooms { AreRooms sessions rooms.jobs.items rooms.jobs.spare rooms.links.items rooms.links.spare rooms.reports.items rooms.reports.spare }
+    ensures { ServesLinks (Option (HubOpening P)) (opening_of (P.tables before.value.start) (P.limit before.value.start) before.value.fleet before.value.secret) before.value.start before.value.fleet before.value.secret result.hub sessions (L.pool listen.old) (L.pool listen.new) (L.faults listen.old) (L.faults listen.new) (P.faults before.value.keeper) (P.faults result.hub.keeper) result.reports result.end }
+{
+    let Rooms {
+        jobs,
+        links,
+        mut reports,
+    } = rooms;
+    let lent = serve_lent(rt, alloc, listen, &turn, pass, jobs, links, sessions);
+    let Lent { pass, links, end } = lent;
     let hub = turn.close(pass);
     give_back(listen, links.into_seq().into_vec(), &mut reports);
     let _entries = hub.history();
@@ -113,17 +183,51 @@ where
     }
 }
 
-// No link was accepted.
-fn refused<P: Keeper>(alloc: Global, hub: Hub<P>) -> Served<P>
-    ensures reports { result.reports ≡ [] }
-    ensures hub { result.hub ≡ hub }
-    ensures end { result.end ≡ ServeEnd.Memory }
+// What serving a listener's links gives back beside the listener.
+#[derive(Drop)]
+struct Lent<K: Link, P: Keeper> {
+    pass: Pass<Hub<P>>,
+    links: Buffer<Back<K>>,
+    end: ServeEnd,
+}
+
+// Serves the links of a listener that was lent.
+fn serve_lent<R: Threads + Wait + Sync, L: Listen, P: Keeper + Send + Drop>(
+    rt: &R,
+    alloc: Global,
+    listen: &mut L,
+    turn: &Turn<Hub<P>>,
+    pass: Pass<Hub<P>>,
+    jobs: Buffer<Job<L::Link, P>>,
+    links: Buffer<Back<L::Link>>,
+    sessions: u32,
+) -> Lent<L::Link, P>
+where
+    L::Link: Send,
+    requires root { IsRoot pass.opening turn.now pass.base pass }
+    requires fresh { (pass.given ≡ 0) × (pass.lent ≡ 0) × (pass.ended ≡ []) × (pass.failed ≡ 0) }
+    requires reserved { IsSomeAnd pass.opening (λ o. sessions ≤ o.reserved) }
+    requires room { (jobs.items ≡ []) × (sessions ≤ jobs.spare) × (links.items ≡ []) × (sessions ≤ links.spare) }
+    ensures root { IsRoot pass.opening turn.now pass.base result.pass }
+    ensures lent { result.pass.lent ≡ 0 }
+    ensures up_to { AreUpTo (length result.links.items) result.pass }
+    ensures failed { HasFailed (store_faults (map (λ b. b.report) result.links.items)) result.pass }
+    ensures links { (i : ℕ) (b : _) → get_elem? result.links.items i ≡ some b → IsJoined (option_map (λ o. opening_of (P.tables o.start) (P.limit o.start) o.fleet o.secret) pass.opening) pass.opening turn.now (L.pool listen.old).coming (length result.links.items - 1 - i) result.pass (wire_of L.Link.inbound L.Link.written L.Link.faults b.link) b.report }
+    ensures pool { L.pool listen.new ≡ lent_to (length result.links.items) (L.pool listen.old) }
+    ensures count { Counts (L.faults listen.old) (L.faults listen.new) }
+    ensures few { length result.links.items ≤ sessions }
+    ensures end { EndsAs result.end (length result.links.items) sessions (L.pool listen.new) (L.faults listen.old) (L.faults listen.new) }
 {
-    Served {
-        reports: Seq::new(alloc),
-        hub,
-        end: ServeEnd::Memory,
-    }
+    let held = Held { listen };
+    let done = serve_all(rt, alloc, held, turn, pass, jobs, links, sessions);
+    let Done {
+        door,
+        pass,
+        links,
+        end,
+    } = done;
+    let Held { listen: _listen } = door;
+    Lent { pass, links, end }
 }
 
 // An empty list with room for so many.
@@ -186,7 +290,21 @@ where
         thread::scope_env(),
         rt,
         move |scope| -> Done<D, P>
-            requires { IsSync R.row }
+            requires sync { IsSync R.row }
+            requires root { IsRoot pass.opening turn.now pass.base pass }
+            requires fresh { (pass.given ≡ 0) × (pass.lent ≡ 0) × (pass.ended ≡ []) × (pass.failed ≡ 0) }
+            requires reserved { IsSomeAnd pass.opening (λ o. sessions ≤ o.reserved) }
+            requires room { (jobs.items ≡ []) × (sessions ≤ jobs.spare) × (links.items ≡ []) × (sessions ≤ links.spare) }
+            ensures root { IsRoot pass.opening turn.entry.now pass.base result.pass }
+            ensures lent { result.pass.lent ≡ 0 }
+            ensures up_to { AreUpTo (length result.links.items) result.pass }
+            ensures failed { HasFailed (store_faults (map (λ b. b.report) result.links.items)) result.pass }
+            ensures links { (i : ℕ) (b : _) → get_elem? result.links.items i ≡ some b → IsJoined (option_map (λ o. opening_of (P.tables o.start) (P.limit o.start) o.fleet o.secret) pass.opening) pass.opening turn.entry.now (D.pool door).coming (length result.links.items - 1 - i) result.pass (wire_of D.Link.inbound D.Link.written D.Link.faults b.link) b.report }
+            ensures pool { D.pool result.door ≡ lent_to (length result.links.items) (D.pool door) }
+            ensures name { D.name result.door ≡ D.name door }
+            ensures count { Counts (D.faults door) (D.faults result.door) }
+            ensures few { length result.links.items ≤ sessions }
+            ensures end { EndsAs result.end (length result.links.items) sessions (D.pool result.door) (D.faults door) (D.faults result.door) }
         {
             let mut door = door;
             let mut pass = pass;

@@ -10,7 +10,7 @@ use Rattle.jt_server.proofs.threads.accept_all.Given as goal
 
 abbrev pub invariant-loop-accepted : goal.invariant-loop-accepted
 invariant-loop-accepted g l = record {
-  root : IsRoot l.fn.pass.opening l.turn.now l.fn.pass.base l.pass;
+  root : IsRoot l.fn.pass.opening l.turn l.fn.pass.base l.pass;
   given : l.pass.given ≤ l.accepted;
   within : l.accepted ≤ l.sessions;
   as_many : length l.jobs.items ≡ l.accepted;
@@ -22,8 +22,8 @@ invariant-loop-accepted g l = record {
   name : g.D.Door.name l.door ≡ g.D.Door.name l.fn.door;
   count : Counts (g.D.Door.faults l.fn.door) (g.D.Door.faults l.door);
   jobs :
-      (m : ℕ) (job : _) → get_elem? l.jobs.items m ≡ some job → MatchResult job (λ h. IsGiven l.fn.pass.opening l.turn.now (g.D.Door.pool l.fn.door).coming m h.promise.pass.value (wire_of g.D.Link.Sink.inbound g.D.Link.Sink.written g.D.Link.Sink.faults h.promise.link.value))
-      (λ w. IsWorked (option_map (λ o. opening_of (g.P.Keeper.tables o.start) (g.P.Keeper.limit o.start) o.fleet o.secret) l.fn.pass.opening) l.fn.pass.opening l.turn.now (g.D.Door.pool l.fn.door).coming m w.pass (wire_of g.D.Link.Sink.inbound g.D.Link.Sink.written g.D.Link.Sink.faults w.link) w.report);
+      (m : ℕ) (job : _) → get_elem? l.jobs.items m ≡ some job → MatchResult job (λ h. IsGiven l.fn.pass.opening l.turn (g.D.Door.pool l.fn.door).coming m h.promise.pass.value (wire_of g.D.Link.Sink.inbound g.D.Link.Sink.written g.D.Link.Sink.faults h.promise.link.value))
+      (λ w. IsWorked (option_map (λ o. opening_of (g.P.Keeper.tables o.start) (g.P.Keeper.limit o.start) o.fleet o.secret) l.fn.pass.opening) l.fn.pass.opening l.turn (g.D.Door.pool l.fn.door).coming m w.pass (wire_of g.D.Link.Sink.inbound g.D.Link.Sink.written g.D.Link.Sink.faults w.link) w.report);
 }
 
 abbrev pub decreases-loop-accepted : goal.decreases-loop-accepted
