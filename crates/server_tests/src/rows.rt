@@ -1,16 +1,17 @@
-ghost use Rattle.std.specs.Prelude.{◌≡◌, [], IfOk};
+ghost use Rattle.std.specs.Prelude.{◌≡◌, ◌≤◌, [], IfOk};
 
 use crate::waiting::Pair;
 use jt_link::{ScriptLink, ScriptListen};
 use jt_platform::{Fleet, Hub};
 use jt_server::{ServeEnd, serve};
-use jt_session::End;
+use jt_session::{End, Report};
 use jt_store::MemKeeper;
 use jt_value::{Memory, Octets, Seq};
 use std::alloc::Global;
-use std::sync::Arc;
 use std::sync::atomic::AtomicU64;
-use std::test::*;
+use std::sync::{Arc, Wait};
+use std::test::Fail;
+use std::thread::Threads;
 
 /// The heartbeat of phone 013912345678.
 const HEARTBEAT: &[u8; 15] = b"\x7e\x00\x02\x00\x00\x01\x39\x12\x34\x56\x78\x00\x00\x32\x7e";
@@ -49,61 +50,109 @@ fn listener(alloc: Global, failing: u64) -> Result<ScriptListen, Memory> {
     ScriptListen::new(alloc, links, calls)
 }
 
-#[test]
-fn three_links_come_back_in_order(rt: HostRuntime) -> Result<(), Fail> {
-    let mut listen = listener(rt.alloc(), 0)?;
-    let served = serve(&rt, rt.alloc(), &mut listen, new_hub(rt.alloc())?, 3);
-    assert_eq!(rt; served.end, ServeEnd::All);
-    assert_eq!(rt; served.hub.history().len(), 5);
-    let reports = served.reports.as_slice();
-    assert_eq!(rt; reports.len(), 3);
-    let wanted = [(1, 15, 20, 1), (2, 0, 0, 0), (3, 15, 20, 1)];
-    for (place, (session, read, written, frames)) in wanted.into_iter().enumerate() {
-        assert_eq!(rt; reports[place].session, session);
-        assert_eq!(rt; reports[place].read, read);
-        assert_eq!(rt; reports[place].written, written);
-        assert_eq!(rt; reports[place].frames, frames);
-        assert_eq!(rt; reports[place].end, End::Ended);
-    }
-    let back = listen.links_back();
-    assert_eq!(rt; back.len(), 3);
-    assert_eq!(rt; back[0].written(), REFUSED.as_slice());
-    assert_eq!(rt; back[1].written().len(), 0);
-    assert_eq!(rt; back[2].written(), REFUSED.as_slice());
-    Ok(())
+/// Session, octets read and written, and frames of the listener's links.
+const WANTED: [(u32, u64, u64, u64); 3] = [(1, 15, 20, 1), (2, 0, 0, 0), (3, 15, 20, 1)];
+
+fn is_report(report: &Report, wanted: (u32, u64, u64, u64)) -> bool {
+    let (session, read, written, frames) = wanted;
+    report.session == session
+        && report.read == read
+        && report.written == written
+        && report.frames == frames
+        && report.end == End::Ended
 }
 
-// The number of the accept that fails, how many are asked for, why it ended, and how many links came back.
+// Whether the reports are the first ones that are wanted.
+fn are_reports(reports: &[Report]) -> bool {
+    for (report, wanted) in reports.iter().zip(&WANTED) {
+        if !is_report(report, *wanted) {
+            return false;
+        }
+    }
+    true
+}
+
+// Whether the links that came back were written what is wanted of the first ones.
+fn are_back(links: &[ScriptLink]) -> bool {
+    for (link, (_, read, _, _)) in links.iter().zip(&WANTED) {
+        let written: &[u8] = if *read == 0 { &[] } else { REFUSED };
+        if link.written() != written {
+            return false;
+        }
+    }
+    true
+}
+
+/// What came of serving links.
+#[derive(Clone, Copy)]
+struct Outcome {
+    end: ServeEnd,
+    are_wanted: bool,
+    reports: usize,
+    back: usize,
+    entries: usize,
+}
+
+fn outcome<R: Threads + Wait + Sync>(
+    rt: &R,
+    alloc: Global,
+    failing: u64,
+    sessions: u32,
+) -> Result<Outcome, Memory>
+    requires { 1 ≤ sessions }
+{
+    let hub = new_hub(alloc)?;
+    let mut listen = listener(alloc, failing)?;
+    let served = serve(rt, alloc, &mut listen, hub, sessions);
+    Ok(Outcome {
+        end: served.end,
+        are_wanted: are_reports(served.reports.as_slice()) && are_back(listen.links_back()),
+        reports: served.reports.len(),
+        back: listen.links_back().len(),
+        entries: served.hub.history().len(),
+    })
+}
+
+// The number of the listener's call that fails, how many links are asked for, why no more were served, how many were, and how many
+// entries there are.
 #[test]
-fn why_no_more_links_are_served(rt: HostRuntime) -> Result<(), Fail> {
+fn links_are_served_in_order(rt: HostRuntime) -> Result<(), Fail> {
     let rows = [
-        (0, 1, ServeEnd::All, 1),
-        (0, 4, ServeEnd::Over, 3),
-        (2, 2, ServeEnd::ListenFault, 1),
-        (1, 1, ServeEnd::ListenFault, 0),
+        (0, 3, ServeEnd::All, 3, 5),
+        (0, 1, ServeEnd::All, 1, 2),
+        (0, 4, ServeEnd::Over, 3, 5),
+        (2, 2, ServeEnd::ListenFault, 1, 2),
+        (1, 1, ServeEnd::ListenFault, 0, 0),
     ];
-    for (failing, sessions, end, count) in rows {
-        let mut listen = listener(rt.alloc(), failing)?;
-        let served = serve(&rt, rt.alloc(), &mut listen, new_hub(rt.alloc())?, sessions);
-        assert_eq!(rt; served.end, end);
-        assert_eq!(rt; served.reports.len(), count);
-        assert_eq!(rt; listen.links_back().len(), count);
+    for (failing, sessions, end, count, entries) in rows {
+        let outcome = outcome(&rt, rt.alloc(), failing, sessions.max(1))?;
+        assert!(rt; outcome.are_wanted);
+        assert!(rt; outcome.end == end);
+        assert!(rt; outcome.reports == count);
+        assert!(rt; outcome.back == count);
+        assert!(rt; outcome.entries == entries);
     }
     Ok(())
 }
 
-// Each read of the first link waits until the second was written.
-#[test]
-fn two_links_that_wait_for_each_other(rt: HostRuntime) -> Result<(), Fail> {
-    let flag = Arc::new(rt.alloc(), AtomicU64::new(0))?;
+// How two links that wait for each other end: the first one reads only once the second was written.
+fn ends_of_two<R: Threads + Wait + Sync>(rt: &R, alloc: Global) -> Result<(bool, usize), Memory> {
+    let hub = new_hub(alloc)?;
+    let flag = Arc::new(alloc, AtomicU64::new(0))?;
     let other = Arc::try_clone(&flag)?;
     let mut listen = Pair::new(flag, other);
-    let served = serve(&rt, rt.alloc(), &mut listen, new_hub(rt.alloc())?, 2);
-    assert_eq!(rt; served.end, ServeEnd::All);
-    let reports = served.reports.as_slice();
-    assert_eq!(rt; reports.len(), 2);
-    assert_eq!(rt; reports[0].end, End::Ended);
-    assert_eq!(rt; reports[1].end, End::Ended);
-    assert_eq!(rt; served.hub.history().len(), 4);
+    let served = serve(rt, alloc, &mut listen, hub, 2);
+    let mut ended = served.reports.len() == 2;
+    for report in served.reports.as_slice() {
+        ended = ended && report.end == End::Ended;
+    }
+    Ok((ended, served.hub.history().len()))
+}
+
+#[test]
+fn two_links_that_wait_for_each_other(rt: HostRuntime) -> Result<(), Fail> {
+    let (ended, entries) = ends_of_two(&rt, rt.alloc())?;
+    assert!(rt; ended);
+    assert_eq!(rt; entries, 4);
     Ok(())
 }
