@@ -93,7 +93,7 @@ struct Outcome {
     entries: usize,
 }
 
-fn outcome<R: Threads + Wait + Sync>(
+fn served_so<R: Threads + Wait + Sync>(
     rt: &R,
     alloc: Global,
     failing: u64,
@@ -125,7 +125,7 @@ fn links_are_served_in_order(rt: HostRuntime) -> Result<(), Fail> {
         (1, 1, ServeEnd::ListenFault, 0, 0),
     ];
     for (failing, sessions, end, count, entries) in rows {
-        let outcome = outcome(&rt, rt.alloc(), failing, sessions.max(1))?;
+        let outcome = served_so(&rt, rt.alloc(), failing, sessions.max(1))?;
         assert!(rt; outcome.are_wanted);
         assert!(rt; outcome.end == end);
         assert!(rt; outcome.reports == count);
