@@ -1,4 +1,5 @@
 ghost use Rattle.std.specs.Prelude.{◌≡◌, ◌≤◌, [], IfOk};
+ghost use Rattle.jt_link.specs.ScriptLink.{IsUntouched};
 
 use crate::waiting::Pair;
 use jt_link::{ScriptLink, ScriptListen};
@@ -34,7 +35,9 @@ fn new_hub(alloc: Global) -> Result<Hub<MemKeeper>, Memory>
     }
 }
 
-fn link(alloc: Global, octets: &[u8]) -> Result<ScriptLink, Memory> {
+fn link(alloc: Global, octets: &[u8]) -> Result<ScriptLink, Memory>
+    ensures { IfOk result (λ link. IsUntouched link) }
+{
     let octets = Octets::from_vec(Vec::from_slice(alloc, octets)?);
     ScriptLink::new(alloc, octets, 65_536, Seq::new(alloc))
 }

@@ -45,6 +45,7 @@ impl Sink for Waiting {
     ghost faults = { λ link. link.faults };
 
     fn write(&mut self, buf: &[u8]) -> Put {
+        let _faults = self.faults;
         if !self.first {
             self.flag.store(1, Ordering::SeqCst);
         }
@@ -54,8 +55,9 @@ impl Sink for Waiting {
 
 impl Link for Waiting {
     fn read(&mut self, buf: &mut [u8]) -> LinkGot {
+        let faults = self.faults;
         if self.first && !self.sees() {
-            self.faults = self.faults.saturating_add(1);
+            self.faults = faults.saturating_add(1);
             return LinkGot::Failed;
         }
         if self.given || buf.len() < HEARTBEAT.len() {
