@@ -85,7 +85,8 @@ fn ran<R: Threads + Wait + Sync>(
     let mut source = MemSource::new(fleet, failing(alloc, scene.source_fails)?);
     let mut sink = MemSink::new(alloc, 65_536, failing(alloc, scene.sink_fails)?)?;
     let mut listen = listener(alloc, scene)?;
-    let keeper = MemKeeper::new(alloc, scene.limit, failing(alloc, scene.keeper_fails)?);
+    let limit = scene.limit.min(1000);
+    let keeper = MemKeeper::new(alloc, limit, failing(alloc, scene.keeper_fails)?);
     let words = PlatformWords {
         port: 9000,
         sessions: scene.sessions.max(1),
