@@ -1,5 +1,5 @@
 -- What `atomic_table` asks for each step.
-use Rattle.std.proofs.Common.{◌≡◌, ℕ, ◌+◌, ◌%◌, ◌^◌, Bool, true, false, List, [], ◌∷◌, refl, ap, sym, ◌∙◌, eqb}
+use Rattle.std.proofs.Common.{◌≡◌, ℕ, suc, ◌+◌, ◌%◌, ◌^◌, Bool, true, false, List, [], ◌∷◌, set, refl, ap, sym, ◌∙◌, eqb}
 use Rattle.std.specs.Prelude.{slice_index, MatchBool, Option, Some}
 use mathlib.Core.Option.{none}
 use Rattle.atomic_table.specs.Table.{State, Me, Act, keeps, takes, gives, stepped, step, Allows, Valid, carried_after}
@@ -7,7 +7,7 @@ use Rattle.std.proofs.lemmas.Bool.{eqb-true}
 use Rattle.jt_turn.specs.declared.entry.Entry.{Entry}
 use Rattle.jt_turn.specs.declared.known.Known.{Known}
 use Rattle.jt_turn.specs.Rules.{Kept, At, Draws, Looks, Publishes, Meets, Acted, taking, publishing}
-use Rattle.jt_turn.proofs.Drawing.{draws, nobody_turned, is_served, takes_turn, met, stays}
+use Rattle.jt_turn.proofs.Drawing.{changes_aside, draws, nobody_turned, is_served, takes_turn, met, stays}
 use Rattle.jt_turn.proofs.Publishing.{gives_back}
 
 module _ {D A B O : Type 0} (history_of : D → List (Entry A B)) (faults_of : D → ℕ) (opening_of : D → O) where
@@ -38,3 +38,8 @@ module _ {D A B O : Type 0} (history_of : D → List (Entry A B)) (faults_of : D
       → Allows (Kept history_of faults_of opening_of) 1 id (Some k, (0, Some d) ∷ []) 1 (λ n. (n + 1) % 2 ^ 64) (Publishes history_of faults_of opening_of (step 1 1 1 0 none) (Some k, (0, Some d) ∷ []))
   allows_publish id k d turned acted = λ s h n at w.
       (Some (publishing history_of faults_of opening_of d k), gives, tt, (record h.0 { history = history_of d; faults = faults_of d; served = h.0.served + 1 }, gives_back history_of faults_of opening_of h.0 s id k d h.1 at turned acted n), (d, refl, refl))
+
+  pub allows_aside : (id i : ℕ) (me : Me (Option D) (Option (Known A B O))) (f : ℕ → ℕ)
+      → Allows (Kept history_of faults_of opening_of) 1 id me (suc (suc i)) f (λ _ after. after ≡ me)
+  allows_aside id i me f = λ s h n at w.
+      (me.0, keeps, tt, (record h.0 { aside = set h.0.aside i (f (slice_index s.words (suc (suc i)))) }, changes_aside history_of faults_of opening_of h.0 s i (f (slice_index s.words (suc (suc i)))) id me.0 me.1 h.1 at), refl)

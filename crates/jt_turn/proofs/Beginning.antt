@@ -15,9 +15,9 @@ module _ {D A B O : Type 0} (history_of : D → List (Entry A B)) (faults_of : D
   alone d P here zero k at = subst (P 0) (same_some (some-injective (Some (first_of history_of faults_of opening_of d)) (Some k) at)) here
   alone d P here (suc i) k at = absurd (some-ne-none (Some k) (sym at))
 
-  pub begins : (sleeping : List ℕ) (d : D) → history_of d ≡ [] → Kept history_of faults_of opening_of (opening (0 ∷ 0 ∷ sleeping) (Some d ∷ []) (newcomer history_of faults_of opening_of d))
-  begins sleeping d empty =
-      let p : Published A B O = record { history = []; faults = faults_of d; opening = opening_of d; base = faults_of d; drawn = 0; served = 0; sleeping = sleeping; ended = []; lent = 0; given = 0 } in
+  pub begins : (aside : List ℕ) (d : D) → history_of d ≡ [] → Kept history_of faults_of opening_of (opening (0 ∷ 0 ∷ aside) (Some d ∷ []) (newcomer history_of faults_of opening_of d))
+  begins aside d empty =
+      let p : Published A B O = record { history = []; faults = faults_of d; opening = opening_of d; base = faults_of d; drawn = 0; served = 0; aside = aside; ended = []; lent = 0; given = 0 } in
       let one = alone d in (
         p,
         record {

@@ -1,5 +1,5 @@
 -- The steps of an act keep the rule: a ticket is drawn, the word served is looked at, and the desk is published.
-use Rattle.std.proofs.Common.{◌≡◌, ◌≢◌, ℕ, ◌+◌, ◌*◌, ◌%◌, ◌^◌, ◌<◌, ◌≤◌, true, false, List, [], ◌∷◌, length, get_or, set, refl, ap, sym, ◌∙◌, subst, arith, length-set}
+use Rattle.std.proofs.Common.{◌≡◌, ◌≢◌, ℕ, suc, ◌+◌, ◌*◌, ◌%◌, ◌^◌, ◌<◌, ◌≤◌, true, false, List, [], ◌∷◌, length, get_or, set, refl, ap, sym, ◌∙◌, subst, arith, length-set}
 use Rattle.std.proofs.lemmas.Bool.{false_from_ne_true, true≢false}
 use Rattle.std.proofs.Math.Nat.{mod-add-mod}
 use Rattle.std.proofs.lemmas.List.Sums.{sum_by-le}
@@ -83,7 +83,7 @@ module _ {D A B O : Type 0} (history_of : D → List (Entry A B)) (faults_of : D
       let lent = h.lent in
       let failed = h.failed in
       record {
-        words = rw h.words (ap (λ (x : ℕ). x ∷ (p.served % 2 ^ 64) ∷ p.sleeping) (next_mod p.drawn (2 ^ 64)));
+        words = rw h.words (ap (λ (x : ℕ). x ∷ (p.served % 2 ^ 64) ∷ p.aside) (next_mod p.drawn (2 ^ 64)));
         queue = omega arith;
         room = omega arith;
         small = h.small;
@@ -173,3 +173,25 @@ module _ {D A B O : Type 0} (history_of : D → List (Entry A B)) (faults_of : D
       let views : set s.views id v ≡ s.views = set_again s.views id v at in
       let words : set s.words i (slice_index s.words i) ≡ s.words = set-get_or s.words i 0 in
       rw (views, words) (record { words = h.words; queue = h.queue; room = h.room; small = h.small; lent = h.lent; failed = h.failed; fits = h.fits; tickets = h.tickets; numbers = h.numbers; home = h.home; ended = h.ended; others = h.others })
+
+  -- a word behind the first two changes, and nothing else
+  pub changes_aside : (p : Published A B O) (s : State (Option D) (Option (Known A B O))) (i n id : ℕ) (v : Option (Known A B O)) (c : List (ℕ × Option D))
+      → Stands history_of faults_of opening_of p s → get_elem? s.views id ≡ some v
+      → Stands history_of faults_of opening_of (record p { aside = set p.aside i n }) (stepped s (suc (suc i)) n id c v keeps)
+  changes_aside p s i n id v c h at =
+      let views : set s.views id v ≡ s.views = set_again s.views id v at in
+      let words : set s.words (suc (suc i)) n ≡ (p.drawn % 2 ^ 64) ∷ (p.served % 2 ^ 64) ∷ set p.aside i n = rw h.words refl in
+      rw views (record {
+        words = words;
+        queue = h.queue;
+        room = h.room;
+        small = h.small;
+        lent = h.lent;
+        failed = h.failed;
+        fits = λ j k at'. let f = h.fits j k at' in record { opening = f.opening; base = f.base; seen = f.seen; heard = f.heard; mine = f.mine; faults = f.faults; ticket = f.ticket; turn = f.turn; below = f.below; before = f.before; root = f.root };
+        tickets = h.tickets;
+        numbers = h.numbers;
+        home = λ none. let d = h.home none in (d.0, d.1, record { history = d.2.history; faults = d.2.faults; opening = d.2.opening });
+        ended = λ m e at'. let o = h.ended m e at' in record { mine = o.mine; below = o.below; unheld = o.unheld };
+        others = h.others;
+      })

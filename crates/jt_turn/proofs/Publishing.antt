@@ -60,7 +60,7 @@ module _ {D A B O : Type 0} (history_of : D → List (Entry A B)) (faults_of : D
       let found : k.found_faults ≡ p.faults = t.3 in
       let rise = rise_within (faults_of d) k.found_faults acted.faults in
       record {
-        words = rw h.words (ap (λ (x : ℕ). (p.drawn % 2 ^ 64) ∷ x ∷ p.sleeping) (next_mod p.served (2 ^ 64)));
+        words = rw h.words (ap (λ (x : ℕ). (p.drawn % 2 ^ 64) ∷ x ∷ p.aside) (next_mod p.served (2 ^ 64)));
         queue = omega arith;
         room = omega arith;
         small = h.small;

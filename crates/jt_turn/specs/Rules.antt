@@ -1,6 +1,6 @@
 -- The rule of the table that carries a turn, and what its steps tell. For the proofs; no public clause cites it.
--- The first word is the next ticket to be drawn, the second the ticket that is served, both modulo 2^64. The words behind them,
--- at which callers sleep, never change. The slot holds the desk. A view is `None` once its pass was joined, and no fact speaks of it.
+-- The first word is the next ticket to be drawn, the second the ticket that is served, both modulo 2^64. No fact rests on the words
+-- behind them, one of which is the lock in front of the tickets. The slot holds the desk. A view is `None` once its pass was joined, and no fact speaks of it.
 use Rattle.std.specs.Prelude.{◌≡◌, ◌≢◌, ◌++◌, ◌-◌, ℕ, ◌+◌, ◌%◌, ◌^◌, ◌≤◌, ◌<◌, ◌==◌, true, false, if◌then◌else◌, List, [], ◌∷◌, length, sum_by, max, MatchBool, Option, Some, None, IfSome}
 use Rattle.atomic_table.specs.Table.{State, Me, Step}
 use Rattle.jt_turn.specs.declared.entry.Entry.{Entry}
@@ -19,7 +19,7 @@ pub record Published (A B O : Type 0) : Type 0 where
   pub base : ℕ
   pub drawn : ℕ
   pub served : ℕ
-  pub sleeping : List ℕ
+  pub aside : List ℕ
   pub ended : List (Ended A B)
   pub lent : ℕ
   pub given : ℕ
@@ -87,6 +87,10 @@ module _ {A B O : Type 0} where
   abbrev pub Learns : {S : Type 0} → Step S → Me S (Option (Known A B O)) → ℕ → Me S (Option (Known A B O)) → Type 0
   Learns _ before _ after = Hears before.0 after.0 × (after.1 ≡ before.1)
 
+  -- what is known stays
+  abbrev pub Stays : {S : Type 0} → Step S → Me S (Option (Known A B O)) → ℕ → Me S (Option (Known A B O)) → Type 0
+  Stays _ before _ after = after ≡ before
+
   pub record SameTicket (k l : Known A B O) : Type 0 where
     pub first : k.waits ≡ true
     pub second : l.waits ≡ true
@@ -115,7 +119,7 @@ module _ {D A B O : Type 0} (history_of : D → List (Entry A B)) (faults_of : D
     pub opening : opening_of d ≡ p.opening
 
   pub record Stands (p : Published A B O) (s : State (Option D) (Option (Known A B O))) : Type 0 where
-    pub words : s.words ≡ (p.drawn % 2 ^ 64) ∷ (p.served % 2 ^ 64) ∷ p.sleeping
+    pub words : s.words ≡ (p.drawn % 2 ^ 64) ∷ (p.served % 2 ^ 64) ∷ p.aside
     pub queue : p.drawn ≡ p.served + sum_by waiting s.views
     pub room : length s.views ≤ p.given + 1
     pub small : p.given < 2 ^ 32

@@ -53,6 +53,17 @@ impl<D: Desk> Play<Option<D>, Option<Known<D::Ask, D::Answer, D::Opening>>> for 
     ghost then = { Publishes D.history D.faults D.opening };
 }
 
+/// The lock in front of the tickets changes, and nothing that a pass knows.
+pub struct Same<D: Desk> {
+    of: PhantomData<D>,
+}
+
+impl<D: Desk> Play<Option<D>, Option<Known<D::Ask, D::Answer, D::Opening>>> for Same<D> {
+    ghost use Rattle.jt_turn.specs.Rules.{Stays};
+
+    ghost then = { Stays };
+}
+
 /// The pass of number 0 learns what a pass that was joined into it had seen.
 pub struct Learn<D: Desk> {
     of: PhantomData<D>,

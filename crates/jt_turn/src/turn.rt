@@ -10,7 +10,7 @@ ghost use mathlib.Core.List.{IsPrefix};
 use crate::desk::Desk;
 use crate::known::Known;
 use crate::pass::Pass;
-use crate::steps::{Draw, Gives, Learn, Look, Number, Publish, TakesIn, TurnRule};
+use crate::steps::{Draw, Gives, Learn, Look, Number, Publish, Same, TakesIn, TurnRule};
 use atomic_table::{Refused, Seat, Table};
 use jt_value::Memory;
 use std::alloc::{AllocFailed, Global};
@@ -18,7 +18,6 @@ use std::hint::spin_loop;
 use std::marker::{Brand, Model};
 use std::snapshot::Snapshot;
 use std::sync::Wait;
-use std::time::Duration;
 
 /// The word of the table with the next ticket.
 const TICKET: usize = 0;
@@ -26,22 +25,29 @@ const TICKET: usize = 0;
 /// The word with the ticket that is served.
 const SERVING: usize = 1;
 
-/// The words behind these two are always 0. Callers that are not next sleep at them, each at the one of its ticket.
-const FIRST_SLEEPING: usize = 2;
+/// The word of the lock that lets callers in to the tickets one at a time, whoever finds it free. It lies apart from the other
+/// two, so that callers who look at it do not slow the one who acts.
+const LOCK: usize = 8;
 
-const SLEEPING: u64 = 62;
+const WORDS: usize = 16;
+
+/// What the lock says where nobody has it.
+const FREE: u64 = 0;
+
+/// Somebody has it, and nobody sleeps.
+const TAKEN: u64 = 1;
+
+/// Somebody has it, and others may sleep.
+const CONTENDED: u64 = 2;
 
 /// The slot with the desk.
 const DESK: usize = 0;
 
-/// How often the caller that is next looks before it sleeps.
+/// How often a caller looks at the lock before it sleeps.
 const MOST_LOOKS: u32 = 100;
 
-/// The longest sleep of a caller that is not next, in milliseconds.
-const LONGEST_SLEEP: u64 = 5;
-
-/// One desk that many callers share, each by a pass of its own. They come to it one at a time, in the order of tickets that
-/// they draw.
+/// One desk that many callers share, each by a pass of its own. They come to it one at a time, and which of those that wait
+/// comes next is not said.
 #[derive(Drop)]
 pub struct Turn<D: Desk> {
     table: Table<
@@ -61,7 +67,7 @@ impl<D: Desk> Model for Turn<D> {
 
     ghost view = { λ turn. turn.table.shared.table_id };
 
-    ghost invariant = { λ turn. (turn.table.shared.table_id.words ≡ 64) × (turn.table.shared.table_id.slots ≡ 1) };
+    ghost invariant = { λ turn. (turn.table.shared.table_id.words ≡ 16) × (turn.table.shared.table_id.slots ≡ 1) };
 }
 
 impl<D: Desk> Turn<D> {
@@ -84,12 +90,7 @@ impl<D: Desk> Turn<D> {
                 }
             }
         }
-        match Table::new(
-            alloc,
-            &[0; FIRST_SLEEPING + SLEEPING as usize],
-            slots,
-            &start,
-        ) {
+        match Table::new(alloc, &[0; WORDS], slots, &start) {
             Ok((table, seat)) => Ok((Turn { table }, Pass { seat, number: 0 })),
             Err(refused) => {
                 let Refused { mut slots } = refused;
@@ -144,9 +145,12 @@ impl<D: Desk> Turn<D> {
         ensures failed { pass.new.failed ≡ pass.old.failed + (if pass.new.faults == pass.new.found_faults then 0 else 1) }
         ensures stays { (pass.new.turn ≡ pass.old.turn) × (pass.new.number ≡ pass.old.number) × (pass.new.opening ≡ pass.old.opening) × (pass.new.base ≡ pass.old.base) × (pass.new.ended ≡ pass.old.ended) × (pass.new.lent ≡ pass.old.lent) × (pass.new.given ≡ pass.old.given) }
     {
+        self.lock(rt, &mut pass.seat);
         let ticket = self.draw(&mut pass.seat);
         self.wait(rt, &mut pass.seat, ticket);
-        self.serve(&mut pass.seat, pass.number, ask)
+        let answer = self.serve(&mut pass.seat, pass.number, ask);
+        self.unlock(&mut pass.seat);
+        answer
     }
 
     /// Joins another pass into the one of number 0, which has then seen what either had. It takes no memory.
@@ -190,6 +194,96 @@ impl<D: Desk> Turn<D> {
         }
     }
 
+    // Takes the lock. It looks some times whether it is free, and then sleeps until the one who has it leaves.
+    fn lock<R: Wait>(
+        &self,
+        rt: &R,
+        seat: &mut Seat<Option<D>, Option<Known<D::Ask, D::Answer, D::Opening>>>,
+    )
+        requires table { seat.old.table_id ≡ self.now }
+        requires idle { (k : Known D.Ask D.Answer D.Opening) × (seat.old.me ≡ (Some k, [])) }
+        ensures table { seat.new.table_id ≡ seat.old.table_id }
+        ensures same { seat.new.me ≡ seat.old.me }
+    {
+        if self.finds_free(seat) {
+            return;
+        }
+        for _ in rt.forever() {
+            if self.swap_lock(seat, CONTENDED) == FREE {
+                return;
+            }
+            self.table.shared.park(rt, LOCK, CONTENDED as u32);
+        }
+        unreachable!()
+    }
+
+    // Looks at the lock until it is taken here, or somebody sleeps, or it was looked at often enough. Tells whether it was taken.
+    fn finds_free(
+        &self,
+        seat: &mut Seat<Option<D>, Option<Known<D::Ask, D::Answer, D::Opening>>>,
+    ) -> bool
+        requires table { seat.old.table_id ≡ self.now }
+        requires idle { (k : Known D.Ask D.Answer D.Opening) × (seat.old.me ≡ (Some k, [])) }
+        ensures table { seat.new.table_id ≡ seat.old.table_id }
+        ensures same { seat.new.me ≡ seat.old.me }
+    {
+        for _ in 0..MOST_LOOKS {
+            match self.table.shared.peek(LOCK) {
+                FREE => {
+                    if self.take_lock(seat) {
+                        return true;
+                    }
+                }
+                TAKEN => spin_loop(),
+                _ => return false,
+            }
+        }
+        false
+    }
+
+    // Takes the lock where it is free, and tells whether it was.
+    fn take_lock(
+        &self,
+        seat: &mut Seat<Option<D>, Option<Known<D::Ask, D::Answer, D::Opening>>>,
+    ) -> bool
+        requires table { seat.old.table_id ≡ self.now }
+        requires idle { (k : Known D.Ask D.Answer D.Opening) × (seat.old.me ≡ (Some k, [])) }
+        ensures table { seat.new.table_id ≡ seat.old.table_id }
+        ensures same { seat.new.me ≡ seat.old.me }
+    {
+        let found = self
+            .table
+            .shared
+            .compare_exchange::<Same<D>>(seat, LOCK, FREE, TAKEN);
+        found == FREE
+    }
+
+    // Puts this into the lock, and tells what it said.
+    fn swap_lock(
+        &self,
+        seat: &mut Seat<Option<D>, Option<Known<D::Ask, D::Answer, D::Opening>>>,
+        new: u64,
+    ) -> u64
+        requires table { seat.old.table_id ≡ self.now }
+        requires idle { (k : Known D.Ask D.Answer D.Opening) × (seat.old.me ≡ (Some k, [])) }
+        ensures table { seat.new.table_id ≡ seat.old.table_id }
+        ensures same { seat.new.me ≡ seat.old.me }
+    {
+        self.table.shared.swap::<Same<D>>(seat, LOCK, new)
+    }
+
+    // Leaves the lock, and wakes one of those that sleep at it.
+    fn unlock(&self, seat: &mut Seat<Option<D>, Option<Known<D::Ask, D::Answer, D::Opening>>>)
+        requires table { seat.old.table_id ≡ self.now }
+        requires idle { (k : Known D.Ask D.Answer D.Opening) × (seat.old.me ≡ (Some k, [])) }
+        ensures table { seat.new.table_id ≡ seat.old.table_id }
+        ensures same { seat.new.me ≡ seat.old.me }
+    {
+        if self.swap_lock(seat, FREE) == CONTENDED {
+            self.table.shared.wake_one(LOCK);
+        }
+    }
+
     fn draw(&self, seat: &mut Seat<Option<D>, Option<Known<D::Ask, D::Answer, D::Opening>>>) -> u64
         requires table { seat.old.table_id ≡ self.now }
         requires idle { (k : Known D.Ask D.Answer D.Opening) × (seat.old.me ≡ (Some k, [])) × (k.waits ≡ false) × (k.turn ≡ false) }
@@ -199,7 +293,7 @@ impl<D: Desk> Turn<D> {
         self.table.shared.fetch_add::<Draw<D>>(seat, TICKET, 1)
     }
 
-    // Looks until the ticket is served, and rests between looks.
+    // Looks until the ticket is served, which it is at the first look while every caller comes by the lock.
     fn wait<R: Wait>(
         &self,
         rt: &R,
@@ -211,14 +305,12 @@ impl<D: Desk> Turn<D> {
         ensures table { seat.new.table_id ≡ seat.old.table_id }
         ensures took { Took D.history D.faults D.opening seat.old.me seat.new.me }
     {
-        let mut looks: u32 = 0;
         for _ in rt.forever() {
             let served = self.look(seat, ticket);
             if served == ticket {
                 return;
             }
-            self.rest(rt, ticket, served, looks);
-            looks = looks.saturating_add(1);
+            spin_loop();
         }
         unreachable!()
     }
@@ -236,33 +328,6 @@ impl<D: Desk> Turn<D> {
         ensures waits { result ≢ ticket → seat.new.me ≡ seat.old.me }
     {
         self.table.shared.load::<Look<D>>(seat, SERVING)
-    }
-
-    // The caller that is next looks some more, and then sleeps until another ticket is served. Each other sleeps at the word of
-    // its ticket. Where the wake comes before it sleeps it is lost, so this sleep has an end.
-    fn rest<R: Wait>(&self, rt: &R, ticket: u64, served: u64, looks: u32) {
-        let shared = &self.table.shared;
-        if ticket.wrapping_sub(served) > 1 {
-            let longest = Duration::from_millis(LONGEST_SLEEP);
-            shared.park_timeout(rt, sleeping_word(ticket), 0, longest);
-        } else if looks < MOST_LOOKS {
-            spin_loop();
-        } else {
-            shared.park(rt, SERVING, (served & 0xFFFF_FFFF) as u32);
-        }
-    }
-
-    // Wakes the caller whose ticket is served now, and the one that is next.
-    fn wake(&self, served: u64) {
-        let shared = &self.table.shared;
-        let waiting = shared.peek(TICKET).wrapping_sub(served);
-        if waiting > 0 {
-            shared.wake_one(SERVING);
-            shared.wake_all(sleeping_word(served));
-        }
-        if waiting > 1 {
-            shared.wake_all(sleeping_word(served.wrapping_add(1)));
-        }
     }
 
     // Takes the desk out of its slot, has it act, puts it back, and serves the next ticket.
@@ -284,20 +349,12 @@ impl<D: Desk> Turn<D> {
                     None => {}
                     Some(_) => unreachable!(),
                 }
-                let served = self.table.shared.fetch_add::<Publish<D>>(seat, SERVING, 1);
-                self.wake(served.wrapping_add(1));
+                self.table.shared.fetch_add::<Publish<D>>(seat, SERVING, 1);
                 answer
             }
             None => unreachable!(),
         }
     }
-}
-
-// The word at which a caller sleeps that is not next.
-fn sleeping_word(ticket: u64) -> usize
-    ensures { result < 64 }
-{
-    FIRST_SLEEPING + (ticket % SLEEPING) as usize
 }
 
 fn may_move<T: Send + Drop>(_value: T) {}

@@ -8,8 +8,8 @@ use Rattle.jt_turn.proofs.turn.Turn.serve.Goals as goal
 pub exchange-requires : goal.exchange-requires
 exchange-requires g c = let t = c.requires.turn in (c.requires.table ∙ sym c.self.view_is, (Some t.1, one_slot c.args.seat.now.me _ (Some t.1) t.2))
 
-pub fetch_add-served-requires : goal.fetch_add-served-requires
-fetch_add-served-requires g c =
+pub fetch_add-requires : goal.fetch_add-requires
+fetch_add-requires g c =
     let t = c.requires.turn in
     let r = c.exchange.ensures in
     let r2 = c.exchange-in-Some.ensures in
@@ -29,7 +29,7 @@ returns-clause-acted g c = λ k d e met.
     let me = swapped c.args.seat.now.me c.exchange.new.seat.me c.exchange-in-Some.new.seat.me _ (Some d) None (Some c.act-answer.new.self) e r.3 r2.3 in
     let number = same_number g.D.Desk.history g.D.Desk.faults g.D.Desk.opening c.args.seat.now.me _ _ _ _ e t.2 ∙ t.4 in
     let a = c.act-answer.ensures in
-    let done = published g.D.Desk.history g.D.Desk.faults g.D.Desk.opening c.exchange-in-Some.new.seat.me c.fetch_add-served.new.seat.me _ _ me c.fetch_add-served.ensures.2 in (
+    let done = published g.D.Desk.history g.D.Desk.faults g.D.Desk.opening c.exchange-in-Some.new.seat.me c.fetch_add.new.seat.me _ _ me c.fetch_add.ensures.2 in (
       publishing g.D.Desk.history g.D.Desk.faults g.D.Desk.opening c.act-answer.new.self (taking g.D.Desk.history g.D.Desk.faults g.D.Desk.opening d k),
       done,
       refl,
