@@ -7,12 +7,12 @@ use Rattle.jt_turn.specs.declared.known.Known.{Known}
 use Rattle.jt_turn.specs.Histories.{entries_of, entry_if}
 use Rattle.jt_turn.specs.Seats.{Acts}
 use Rattle.atomic_table.specs.Table.{Me, rest}
-use Rattle.jt_turn.specs.Rules.{Meets, Acted, taking, publishing, GaveBack}
+use Rattle.jt_turn.specs.Rules.{Meets, Acted, HasActed, taking, publishing, GaveBack}
 use Rattle.jt_turn.proofs.Views.{same_some}
 
--- the seat after two exchanges
-pub swapped : {S V : Type 0} (me me1 me2 : Me S V) (v : V) (x y z : S) → me ≡ (v, (0, x) ∷ []) → me1 ≡ (me.0, (0, y) ∷ rest me.1) → me2 ≡ (me1.0, (0, z) ∷ rest me1.1) → me2 ≡ (v, (0, z) ∷ [])
-swapped {S} {V} me me1 me2 v x y z e e1 e2 = e2 ∙ ap (λ (m : Me S V). (m.0, (0, z) ∷ rest m.1)) (e1 ∙ ap (λ (m : Me S V). (m.0, (0, y) ∷ rest m.1)) e)
+-- a seat by its view and its slots
+pub seat_is : {S V : Type 0} (me : Me S V) (v : V) (c : List (ℕ × S)) → me.0 ≡ v → me.1 ≡ c → me ≡ (v, c)
+seat_is me v c view slots = λ i. (view i, slots i)
 
 first_or : {S : Type 0} → S → List (ℕ × S) → S
 first_or d [] = d
@@ -22,8 +22,8 @@ pub taken_is : {S V : Type 0} (me : Me S V) (v : V) (x r : S) (xs : List (ℕ ×
 unfolding first_or
 taken_is {S} {V} me v x r xs e h = ap (first_or x) (sym (ap (λ (m : Me S V). m.1) e) ∙ h)
 
-pub one_slot : {S V : Type 0} (me : Me S V) (v : V) (x : S) → me ≡ (v, (0, x) ∷ []) → me.1 ≡ (0, x) ∷ rest me.1
-one_slot {S} {V} me v x e = let h : me.1 ≡ (0, x) ∷ [] = ap (λ (m : Me S V). m.1) e in h ∙ ap (λ (l : List (ℕ × S)). (0, x) ∷ rest l) (sym h)
+pub one_slot : {S : Type 0} (c : List (ℕ × S)) (x : S) → c ≡ (0, x) ∷ [] → c ≡ (0, x) ∷ rest c
+one_slot {S} c x e = e ∙ ap (λ (l : List (ℕ × S)). (0, x) ∷ rest l) (sym e)
 
 module _ {A B : Type 0} where
   pub own_entries : (b : Bool) (n : ℕ) (ask : A) (answer : B) → entries_of n (entry_if b n ask answer) ≡ entry_if b n ask answer
@@ -80,17 +80,14 @@ module _ {D A B O : Type 0} (history_of : D → List (Entry A B)) (faults_of : D
       let same : x ≡ q.0 = same_some (taken_is (Some t, (0, Some x) ∷ []) (Some t) (Some x) (Some q.0) [] refl q.1) in
       subst (λ z. after ≡ (Some (publishing history_of faults_of opening_of z t), [])) (sym same) q.2
 
-  pub has_acted_as : (k : Known A B O) (n : ℕ) (d after : D) (b : Bool) (ask : A) (answer : B) → k.number ≡ n → Meets history_of faults_of opening_of k d
-      → opening_of after ≡ opening_of d → faults_of d ≤ faults_of after → history_of after ≡ history_of d ++ entry_if b n ask answer
-      → Acted history_of faults_of opening_of (taking history_of faults_of opening_of d k) after
-  has_acted_as k n d after b ask answer e met opening faults history = has_acted k d after b ask answer met opening faults (subst (λ m. history_of after ≡ history_of d ++ entry_if b m ask answer) (sym e) history)
+  pub has_acted_as : (gives : O → List (Entry A B) → ℕ → ℕ → ℕ → A → B → Type 0) (enters : B → Bool) (k : Known A B O) (n : ℕ) (d after : D) (ask : A) (answer : B) → k.number ≡ n → Meets history_of faults_of opening_of k d
+      → HasActed history_of faults_of opening_of gives enters n ask answer d after → Acted history_of faults_of opening_of (taking history_of faults_of opening_of d k) after
+  has_acted_as gives enters k n d after ask answer e met a = has_acted k d after (enters answer) ask answer met a.opening a.faults (subst (λ m. history_of after ≡ history_of d ++ entry_if (enters answer) m ask answer) (sym e) a.history)
 
   pub acts_as : (gives : O → List (Entry A B) → ℕ → ℕ → ℕ → A → B → Type 0) (enters : B → Bool) (k : Known A B O) (n : ℕ) (d after : D) (ask : A) (answer : B) → k.number ≡ n → Meets history_of faults_of opening_of k d
-      → opening_of after ≡ opening_of d → faults_of d ≤ faults_of after → history_of after ≡ history_of d ++ entry_if (enters answer) n ask answer
-      → gives (opening_of d) (history_of d) (faults_of d) (faults_of after) n ask answer
-      → Acts gives enters k ask answer (publishing history_of faults_of opening_of after (taking history_of faults_of opening_of d k))
-  acts_as gives enters k n d after ask answer e met opening faults history given =
-      acts gives enters k d after ask answer met opening faults (subst (λ m. history_of after ≡ history_of d ++ entry_if (enters answer) m ask answer) (sym e) history) (subst (λ m. gives (opening_of d) (history_of d) (faults_of d) (faults_of after) m ask answer) (sym e) given)
+      → HasActed history_of faults_of opening_of gives enters n ask answer d after → Acts gives enters k ask answer (publishing history_of faults_of opening_of after (taking history_of faults_of opening_of d k))
+  acts_as gives enters k n d after ask answer e met a =
+      acts gives enters k d after ask answer met a.opening a.faults (subst (λ m. history_of after ≡ history_of d ++ entry_if (enters answer) m ask answer) (sym e) a.history) (subst (λ m. gives (opening_of d) (history_of d) (faults_of d) (faults_of after) m ask answer) (sym e) a.answer_is)
 
 module _ {A B O : Type 0} where
   -- the ticket is no part of what an act says

@@ -1,12 +1,12 @@
 -- The rule of the table that carries a turn, and what its steps tell. For the proofs; no public clause cites it.
 -- The first word is the next ticket to be drawn, the second the ticket that is served, both modulo 2^64. No fact rests on the words
 -- behind them, one of which is the lock in front of the tickets. The slot holds the desk. A view is `None` once its pass was joined, and no fact speaks of it.
-use Rattle.std.specs.Prelude.{◌≡◌, ◌≢◌, ◌++◌, ◌-◌, ℕ, ◌+◌, ◌%◌, ◌^◌, ◌≤◌, ◌<◌, ◌==◌, true, false, if◌then◌else◌, List, [], ◌∷◌, length, sum_by, max, MatchBool, Option, Some, None, IfSome}
+use Rattle.std.specs.Prelude.{◌≡◌, ◌≢◌, ◌++◌, ◌-◌, ℕ, ◌+◌, ◌%◌, ◌^◌, ◌≤◌, ◌<◌, ◌==◌, Bool, true, false, if◌then◌else◌, List, [], ◌∷◌, length, sum_by, max, MatchBool, Option, Some, None, IfSome}
 use Rattle.atomic_table.specs.Table.{State, Me, Step}
 use Rattle.jt_turn.specs.declared.entry.Entry.{Entry}
 use Rattle.jt_turn.specs.declared.entry.Ended.{Ended}
 use Rattle.jt_turn.specs.declared.known.Known.{Known}
-use Rattle.jt_turn.specs.Histories.{entries_of, longer, HasEach, IsNoneOf}
+use Rattle.jt_turn.specs.Histories.{entries_of, entry_if, longer, HasEach, IsNoneOf}
 use mathlib.Core.List.{IsPrefix}
 use mathlib.Core.Option.{some}
 use lib.ListN.{get_elem?}
@@ -171,6 +171,13 @@ module _ {D A B O : Type 0} (history_of : D → List (Entry A B)) (faults_of : D
     pub opening : opening_of d ≡ k.opening
     pub faults : k.found_faults ≤ faults_of d
     pub history : (es : List (Entry A B)) × (history_of d ≡ k.found ++ es) × ((n : ℕ) → n ≢ k.number → entries_of n es ≡ [])
+
+  -- what the trait says of an act
+  pub record HasActed (gives : O → List (Entry A B) → ℕ → ℕ → ℕ → A → B → Type 0) (enters : B → Bool) (number : ℕ) (ask : A) (answer : B) (d after : D) : Type 0 where
+    pub opening : opening_of after ≡ opening_of d
+    pub faults : faults_of d ≤ faults_of after
+    pub answer_is : gives (opening_of d) (history_of d) (faults_of d) (faults_of after) number ask answer
+    pub history : history_of after ≡ history_of d ++ entry_if (enters answer) number ask answer
 
   -- the seat has given back the desk d
   abbrev pub GaveBack : Me (Option D) (Option (Known A B O)) → Me (Option D) (Option (Known A B O)) → Type 0

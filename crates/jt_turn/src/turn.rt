@@ -3,7 +3,7 @@
 ghost use Rattle.std.specs.Prelude.{◌≡◌, ◌≢◌, ◌≤◌, ◌<◌, ◌+◌, ◌++◌, ◌%◌, ◌^◌, ◌==◌, if◌then◌else◌, ℕ, [], ◌∷◌, max, Some, IfOk, IfErr, OnOk, OnErr, IfSome, true, false};
 ghost use Rattle.jt_turn.specs.Histories.{entries_of, entry_if, longer, HasEach, IsNoneOf};
 ghost use Rattle.jt_turn.specs.Seats.{Waits, Took, Acts};
-ghost use Rattle.jt_turn.specs.Rules.{taking, Meets};
+ghost use Rattle.jt_turn.specs.Rules.{taking, HasActed, Meets};
 ghost use Rattle.jt_turn.specs.declared.known.Known.{Known};
 ghost use mathlib.Core.List.{IsPrefix};
 
@@ -330,7 +330,7 @@ impl<D: Desk> Turn<D> {
         self.table.shared.load::<Look<D>>(seat, SERVING)
     }
 
-    // Takes the desk out of its slot, has it act, puts it back, and serves the next ticket.
+    // Has the desk act, and serves the next ticket.
     fn serve(
         &self,
         seat: &mut Seat<Option<D>, Option<Known<D::Ask, D::Answer, D::Opening>>>,
@@ -342,16 +342,26 @@ impl<D: Desk> Turn<D> {
         ensures table { seat.new.table_id ≡ seat.old.table_id }
         ensures acted { (k : Known D.Ask D.Answer D.Opening) (d : D) → seat.old.me ≡ (Some (taking D.history D.faults D.opening d k), (0, Some d) ∷ []) → Meets D.history D.faults D.opening k d → (after : Known D.Ask D.Answer D.Opening) × (seat.new.me ≡ (Some after, [])) × (after.waits ≡ false) × (after.turn ≡ false) × Acts D.gives D.enters k ask.now result after }
     {
-        match self.table.shared.exchange(seat, DESK, None) {
-            Some(mut desk) => {
-                let answer = desk.act(number, ask);
-                match self.table.shared.exchange(seat, DESK, Some(desk)) {
-                    None => {}
-                    Some(_) => unreachable!(),
-                }
-                self.table.shared.fetch_add::<Publish<D>>(seat, SERVING, 1);
-                answer
-            }
+        let answer = self.act_in_place(seat, number, ask);
+        self.table.shared.fetch_add::<Publish<D>>(seat, SERVING, 1);
+        answer
+    }
+
+    // The desk acts that the seat has.
+    fn act_in_place(
+        &self,
+        seat: &mut Seat<Option<D>, Option<Known<D::Ask, D::Answer, D::Opening>>>,
+        number: u32,
+        ask: &D::Ask,
+    ) -> D::Answer
+        requires table { seat.old.table_id ≡ self.now }
+        requires desk { (d : D) × (seat.old.me.1 ≡ (0, Some d) ∷ []) }
+        ensures table { seat.new.table_id ≡ seat.old.table_id }
+        ensures view { seat.new.me.0 ≡ seat.old.me.0 }
+        ensures acted { (d : D) → seat.old.me.1 ≡ (0, Some d) ∷ [] → (after : D) × (seat.new.me.1 ≡ (0, Some after) ∷ []) × HasActed D.history D.faults D.opening D.gives D.enters number ask.now result d after }
+    {
+        match seat.slot_mut(&self.table.shared, DESK) {
+            Some(desk) => desk.act(number, ask),
             None => unreachable!(),
         }
     }
