@@ -43,8 +43,8 @@ const CONTENDED: u64 = 2;
 /// The slot with the desk.
 const DESK: usize = 0;
 
-/// How often a caller looks at the lock before it sleeps.
-const MOST_LOOKS: u32 = 100;
+/// How often a caller looks at the lock before it sleeps, each time that it comes or is woken.
+const MOST_LOOKS: u32 = 400;
 
 /// One desk that many callers share, each by a pass of its own. They come to it one at a time, and which of those that wait
 /// comes next is not said.
@@ -194,7 +194,7 @@ impl<D: Desk> Turn<D> {
         }
     }
 
-    // Takes the lock. It looks some times whether it is free, and then sleeps until the one who has it leaves.
+    // Takes the lock. It looks some times whether it is free, and then sleeps until the one who has it leaves; and so on.
     fn lock<R: Wait>(
         &self,
         rt: &R,
@@ -205,22 +205,23 @@ impl<D: Desk> Turn<D> {
         ensures table { seat.new.table_id ≡ seat.old.table_id }
         ensures same { seat.new.me ≡ seat.old.me }
     {
-        if self.finds_free(seat) {
-            return;
-        }
+        let mut taken = TAKEN;
         for _ in rt.forever() {
-            if self.swap_lock(seat, CONTENDED) == FREE {
+            if self.finds_free(seat, taken) || self.swap_lock(seat, CONTENDED) == FREE {
                 return;
             }
             self.table.shared.park(rt, LOCK, CONTENDED as u32);
+            // Others may sleep too, and are woken one by one.
+            taken = CONTENDED;
         }
         unreachable!()
     }
 
-    // Looks at the lock until it is taken here, or somebody sleeps, or it was looked at often enough. Tells whether it was taken.
+    // Looks at the lock until it is taken here, which it then says, or was looked at often enough. Tells whether it was taken.
     fn finds_free(
         &self,
         seat: &mut Seat<Option<D>, Option<Known<D::Ask, D::Answer, D::Opening>>>,
+        mut taken: u64,
     ) -> bool
         requires table { seat.old.table_id ≡ self.now }
         requires idle { (k : Known D.Ask D.Answer D.Opening) × (seat.old.me ≡ (Some k, [])) }
@@ -230,21 +231,23 @@ impl<D: Desk> Turn<D> {
         for _ in 0..MOST_LOOKS {
             match self.table.shared.peek(LOCK) {
                 FREE => {
-                    if self.take_lock(seat) {
+                    if self.take_lock(seat, taken) {
                         return true;
                     }
                 }
-                TAKEN => spin_loop(),
-                _ => return false,
+                CONTENDED => taken = CONTENDED,
+                _ => {}
             }
+            spin_loop();
         }
         false
     }
 
-    // Takes the lock where it is free, and tells whether it was.
+    // Has the lock say this where it is free, and tells whether it was.
     fn take_lock(
         &self,
         seat: &mut Seat<Option<D>, Option<Known<D::Ask, D::Answer, D::Opening>>>,
+        taken: u64,
     ) -> bool
         requires table { seat.old.table_id ≡ self.now }
         requires idle { (k : Known D.Ask D.Answer D.Opening) × (seat.old.me ≡ (Some k, [])) }
@@ -254,7 +257,7 @@ impl<D: Desk> Turn<D> {
         let found = self
             .table
             .shared
-            .compare_exchange::<Same<D>>(seat, LOCK, FREE, TAKEN);
+            .compare_exchange::<Same<D>>(seat, LOCK, FREE, taken);
         found == FREE
     }
 
