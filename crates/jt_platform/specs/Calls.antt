@@ -46,6 +46,15 @@ UnitDone old now limit key serial id body say.StoreFault = now ≡ old
 UnitDone old now limit key serial id body say.Memory = now ≡ old
 UnitDone old now limit key serial id body reply = ⊥
 
+-- the request is a unit, and it is answered so
+abbrev pub IsUnit : Request → Type 0
+IsUnit (ask.Unit phone serial id body) = Unit {0}
+IsUnit request = ⊥
+
+abbrev pub UnitIn : Option Tables → Option Tables → ℕ → Request → Reply → Type 0
+UnitIn old now limit (ask.Unit phone serial id body) reply = UnitDone old now limit (key_of phone) serial id body reply
+UnitIn old now limit request reply = ⊥
+
 abbrev pub AuthDone : Option Tables → Option Tables → List ℕ → Phone → List ℕ → Reply → Type 0
 AuthDone old now secret phone code say.StoreFault = now ≡ old
 AuthDone old now secret phone code say.Memory = now ≡ old

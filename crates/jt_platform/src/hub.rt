@@ -5,7 +5,7 @@ ghost use Rattle.jt_value.specs.Sameness.{key_of};
 ghost use Rattle.jt_platform.specs.History.{newest, closed};
 ghost use Rattle.jt_platform.specs.Allowed.{AnyReply, Allowed, Legal, is_trouble};
 ghost use Rattle.jt_platform.specs.Allowed.{makes_entry as makes_an_entry};
-ghost use Rattle.jt_platform.specs.Calls.{tables_by, code_said, IsGuard, IsCoded};
+ghost use Rattle.jt_platform.specs.Calls.{tables_by, code_said, IsGuard, IsCoded, IsUnit, UnitIn};
 ghost use Rattle.jt_platform.specs.Index.{IsReady, KeepsPlaces};
 ghost use Rattle.jt_platform.specs.Hub.{HubValue, history_by, opening_of, IsAt, IsOwed, HasReason};
 ghost use Rattle.jt_platform.specs.declared.request.Request.TheVariants.{Close};
@@ -44,6 +44,25 @@ fn guard(log: &Log, phone: &Phone, session: u32) -> Option<Reply>
     }
 }
 
+// The answer to a unit of the holder's live session.
+fn unit_in<P: Keeper>(alloc: Global, keeper: &mut P, request: &mut Request) -> Reply
+    requires { IsUnit request.old }
+    ensures done { UnitIn (P.tables keeper.old) (P.tables keeper.new) (P.limit keeper.old) request.old result }
+    ensures same { request.new ≡ request.old }
+    ensures limit { P.limit keeper.new ≡ P.limit keeper.old }
+    ensures reason { HasReason (P.faults keeper.old) (P.faults keeper.new) (P.may_fail keeper.old) (P.may_fail keeper.new) result }
+{
+    match request {
+        Request::Unit {
+            phone,
+            serial,
+            id,
+            body,
+        } => unit(alloc, keeper, phone, *serial, *id, body),
+        _ => unreachable!(),
+    }
+}
+
 // The answer to a request of a session that is not closed.
 fn answer_open<P: Keeper>(
     alloc: Global,
@@ -53,8 +72,11 @@ fn answer_open<P: Keeper>(
     log: &Log,
     session: u32,
     request: &Request,
+    copy: &mut Request,
 ) -> Reply
-    requires { closed (newest log.now.entries) session ≡ false }
+    requires open { closed (newest log.now.entries) session ≡ false }
+    requires copy { copy.old ≡ request.now }
+    ensures copy { copy.new ≡ copy.old }
     ensures reply { is_trouble result ≡ false → AnyReply (opening_of (P.tables keeper.old) (P.limit keeper.old) fleet.now secret.now) (P.tables keeper.old) (newest log.now.entries) session request.now result }
     ensures tables { P.tables keeper.new ≡ tables_by request.now result (P.tables keeper.old) }
     ensures limit { P.limit keeper.new ≡ P.limit keeper.old }
@@ -70,12 +92,12 @@ fn answer_open<P: Keeper>(
         Request::Auth { phone, code } => auth(alloc, keeper, secret, phone, code),
         Request::Unit {
             phone,
-            serial,
-            id,
-            body,
+            serial: _,
+            id: _,
+            body: _,
         } => match guard(log, phone, session) {
             Some(reply) => reply,
-            None => unit(alloc, keeper, phone, *serial, *id, body),
+            None => unit_in(alloc, keeper, copy),
         },
         Request::Deregister { phone } => match guard(log, phone, session) {
             Some(reply) => reply,
@@ -89,7 +111,7 @@ fn answer_open<P: Keeper>(
     }
 }
 
-// The answer to a request. A Close asks nothing of the keeper.
+// The answer to a request, whose copy lends its body. A Close asks nothing of the keeper.
 fn answer<P: Keeper>(
     alloc: Global,
     keeper: &mut P,
@@ -98,7 +120,10 @@ fn answer<P: Keeper>(
     log: &Log,
     session: u32,
     request: &Request,
+    copy: &mut Request,
 ) -> Reply
+    requires copy { copy.old ≡ request.now }
+    ensures copy { copy.new ≡ copy.old }
     ensures reply { is_trouble result ≡ false → AnyReply (opening_of (P.tables keeper.old) (P.limit keeper.old) fleet.now secret.now) (P.tables keeper.old) (newest log.now.entries) session request.now result }
     ensures tables { P.tables keeper.new ≡ tables_by request.now result (P.tables keeper.old) }
     ensures limit { P.limit keeper.new ≡ P.limit keeper.old }
@@ -112,7 +137,7 @@ fn answer<P: Keeper>(
     if log.is_closed(session) {
         return Reply::NotLive;
     }
-    answer_open(alloc, keeper, fleet, secret, log, session, request)
+    answer_open(alloc, keeper, fleet, secret, log, session, request, copy)
 }
 
 fn makes_entry(reply: &Reply) -> bool
@@ -271,7 +296,7 @@ impl<P: Keeper> Hub<P> {
     {
         let _ = &self.log;
         let is_owed = is_owed_close(&self.log, self.reserved, session, request);
-        let Ok(copy) = copy_request(self.alloc, request) else {
+        let Ok(mut copy) = copy_request(self.alloc, request) else {
             return Reply::Memory;
         };
         let Ok(code) = entry_code(self.alloc, &self.secret, request) else {
@@ -288,6 +313,7 @@ impl<P: Keeper> Hub<P> {
             &self.log,
             session,
             request,
+            &mut copy,
         );
         if !makes_entry(&reply) {
             return reply;

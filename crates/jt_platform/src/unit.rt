@@ -10,6 +10,7 @@ use crate::request::Reply;
 use jt_store::{Keeper, Row, StoreError};
 use jt_value::{Octets, Phone, Place, place};
 use std::alloc::Global;
+use std::mem::replace;
 
 pub(crate) fn trouble(error: StoreError) -> Reply
     ensures { result ≡ reply_to error }
@@ -27,8 +28,7 @@ fn is_same_row(row: &Row, id: u16, body: &[u8]) -> bool
     row.id == id && row.body.as_slice() == body
 }
 
-// Appends the row of a new number.
-fn store<P: Keeper>(alloc: Global, keeper: &mut P, phone: &Phone, row: &Row, anew: bool) -> Reply
+fn append<P: Keeper>(alloc: Global, keeper: &mut P, phone: &Phone, row: &Row, anew: bool) -> Reply
     requires may { Told (P.tables keeper.old) (λ t. MayAppend (last_of (t.rows (key_of phone.now))) row.now.number) }
     ensures done { StoreDone (P.tables keeper.old) (P.tables keeper.new) (P.limit keeper.old) (key_of phone.now) row.now anew result }
     ensures limit { P.limit keeper.new ≡ P.limit keeper.old }
@@ -42,6 +42,37 @@ fn store<P: Keeper>(alloc: Global, keeper: &mut P, phone: &Phone, row: &Row, ane
         },
         Err(error) => trouble(error),
     }
+}
+
+// Appends the row of a new number. The row has the body for as long as the call takes, which saves a copy.
+fn store<P: Keeper>(
+    alloc: Global,
+    keeper: &mut P,
+    phone: &Phone,
+    number: u64,
+    id: u16,
+    body: &mut Octets,
+    anew: bool,
+) -> Reply
+    requires may { Told (P.tables keeper.old) (λ t. MayAppend (last_of (t.rows (key_of phone.now))) number) }
+    ensures done { StoreDone (P.tables keeper.old) (P.tables keeper.new) (P.limit keeper.old) (key_of phone.now) (record { number = number; id = id; body = body.old }) anew result }
+    ensures body { body.new ≡ body.old }
+    ensures limit { P.limit keeper.new ≡ P.limit keeper.old }
+    ensures reason { HasReason (P.faults keeper.old) (P.faults keeper.new) (P.may_fail keeper.old) (P.may_fail keeper.new) result }
+{
+    let row = Row {
+        number,
+        id,
+        body: replace(body, Octets::new(alloc)),
+    };
+    let reply = append(alloc, keeper, phone, &row, anew);
+    let Row {
+        number: _,
+        id: _,
+        body: lent,
+    } = row;
+    *body = lent;
+    reply
 }
 
 // The candidate, where a row stands there with this id and body.
@@ -78,40 +109,26 @@ pub(crate) fn unit<P: Keeper>(
     phone: &Phone,
     serial: u16,
     id: u16,
-    body: &Octets,
+    body: &mut Octets,
 ) -> Reply
-    ensures done { UnitDone (P.tables keeper.old) (P.tables keeper.new) (P.limit keeper.old) (key_of phone.now) serial id body.now result }
+    ensures done { UnitDone (P.tables keeper.old) (P.tables keeper.new) (P.limit keeper.old) (key_of phone.now) serial id body.old result }
+    ensures body { body.new ≡ body.old }
     ensures limit { P.limit keeper.new ≡ P.limit keeper.old }
     ensures reason { HasReason (P.faults keeper.old) (P.faults keeper.new) (P.may_fail keeper.old) (P.may_fail keeper.new) result }
 {
-    let Ok(copy) = body.copy(alloc) else {
-        return Reply::Memory;
-    };
     let last = match keeper.last(alloc, phone) {
         Ok(last) => last,
         Err(error) => return trouble(error),
     };
     match place(last, serial) {
         Place::First(number) | Place::New(number) => {
-            let row = Row {
-                number,
-                id,
-                body: copy,
-            };
-            store(alloc, keeper, phone, &row, false)
+            store(alloc, keeper, phone, number, id, body, false)
         }
         Place::Back { candidate, anew } => {
             match repeated(alloc, keeper, phone, candidate, id, body.as_slice()) {
                 Err(error) => trouble(error),
                 Ok(Some(number)) => Reply::Repeat(number),
-                Ok(None) => {
-                    let row = Row {
-                        number: anew,
-                        id,
-                        body: copy,
-                    };
-                    store(alloc, keeper, phone, &row, true)
-                }
+                Ok(None) => store(alloc, keeper, phone, anew, id, body, true),
             }
         }
     }

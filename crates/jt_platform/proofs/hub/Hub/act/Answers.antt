@@ -24,14 +24,14 @@ pub invariant_of-self-then-is_owed : goal.invariant_of-self-then-is_owed
 invariant_of-self-then-is_owed g c =
     let inside = c.self.inside in (
       at_acted (g.P.Keeper.tables inside.start.value) (g.P.Keeper.tables inside.keeper) (g.P.Keeper.tables c.answer-reply.new.keeper) (g.P.Keeper.limit inside.start.value) (g.P.Keeper.limit inside.keeper) (g.P.Keeper.limit c.answer-reply.new.keeper)
-          inside.log.entries c.make_room.new.log.entries c.push.new.self.entries c.args.session c.args.request.now c.in-Ok.copy c.answer-reply.result c.copy_reply.result c.self.invariant.0
-          c.answer-reply.ensures.tables c.answer-reply.ensures.limit c.in-Ok.ensures.copy c.copy_reply.ensures c.make_room.ensures.entries c.push.ensures.entries,
-      room_close c.is_owed_close-is_owed.result inside.log.entries inside.log.entries c.make_room.new.log.entries c.push.new.self.entries c.args.session c.args.request.now c.in-Ok.copy c.copy_reply.result
+          inside.log.entries c.make_room.new.log.entries c.push.new.self.entries c.args.session c.args.request.now c.answer-reply.new.copy c.answer-reply.result c.copy_reply.result c.self.invariant.0
+          c.answer-reply.ensures.tables c.answer-reply.ensures.limit (c.answer-reply.ensures.copy ∙ c.in-Ok.ensures.copy) c.copy_reply.ensures c.make_room.ensures.entries c.push.ensures.entries,
+      room_close c.is_owed_close-is_owed.result inside.log.entries inside.log.entries c.make_room.new.log.entries c.push.new.self.entries c.args.session c.args.request.now c.answer-reply.new.copy c.copy_reply.result
           inside.reserved inside.owed inside.log.spare c.make_room.new.log.spare c.push.new.self.spare c.self.invariant.1
-          c.is_owed_close-is_owed.ensures refl c.if-is_owed.true c.in-Ok.ensures.copy c.in-Ok-make_room.ensures.owed c.push.ensures.spare c.make_room.ensures.entries c.push.ensures.entries,
+          c.is_owed_close-is_owed.ensures refl c.if-is_owed.true (c.answer-reply.ensures.copy ∙ c.in-Ok.ensures.copy) c.in-Ok-make_room.ensures.owed c.push.ensures.spare c.make_room.ensures.entries c.push.ensures.entries,
       legal_acted (g.P.Keeper.tables inside.start.value) (g.P.Keeper.tables inside.keeper) (g.P.Keeper.limit inside.start.value) (g.P.Keeper.limit inside.keeper) inside.fleet inside.secret inside.log.entries c.make_room.new.log.entries
-          c.make_room.new.log.entries c.push.new.self.entries c.args.session c.args.request.now c.in-Ok.copy c.answer-reply.result c.copy_reply.result c.self.invariant.2 c.self.invariant.0 c.make_room.ensures.entries
-          (sym c.makes_entry.ensures ∙ c.if-not-makes_entry.false) c.answer-reply.ensures.reply c.in-Ok.ensures.copy c.copy_reply.ensures c.make_room.ensures.entries c.push.ensures.entries,
+          c.make_room.new.log.entries c.push.new.self.entries c.args.session c.args.request.now c.answer-reply.new.copy c.answer-reply.result c.copy_reply.result c.self.invariant.2 c.self.invariant.0 c.make_room.ensures.entries
+          (sym c.makes_entry.ensures ∙ c.if-not-makes_entry.false) c.answer-reply.ensures.reply (c.answer-reply.ensures.copy ∙ c.in-Ok.ensures.copy) c.copy_reply.ensures c.make_room.ensures.entries c.push.ensures.entries,
       λ s above upto. c.push.ensures.kept s (c.make_room.ensures.kept s (c.self.invariant.3 s above upto)),
     )
 
@@ -39,14 +39,14 @@ pub invariant_of-self-else-is_owed : goal.invariant_of-self-else-is_owed
 invariant_of-self-else-is_owed g c =
     let inside = c.self.inside in (
       at_acted (g.P.Keeper.tables inside.start.value) (g.P.Keeper.tables inside.keeper) (g.P.Keeper.tables c.answer-reply.new.keeper) (g.P.Keeper.limit inside.start.value) (g.P.Keeper.limit inside.keeper) (g.P.Keeper.limit c.answer-reply.new.keeper)
-          inside.log.entries c.make_room.new.log.entries c.push.new.self.entries c.args.session c.args.request.now c.in-Ok.copy c.answer-reply.result c.copy_reply.result c.self.invariant.0
-          c.answer-reply.ensures.tables c.answer-reply.ensures.limit c.in-Ok.ensures.copy c.copy_reply.ensures c.make_room.ensures.entries c.push.ensures.entries,
-      room_entry c.is_owed_close-is_owed.result inside.log.entries c.make_room.new.log.entries c.push.new.self.entries (record { session = c.args.session; request = c.in-Ok.copy; reply = c.copy_reply.result })
+          inside.log.entries c.make_room.new.log.entries c.push.new.self.entries c.args.session c.args.request.now c.answer-reply.new.copy c.answer-reply.result c.copy_reply.result c.self.invariant.0
+          c.answer-reply.ensures.tables c.answer-reply.ensures.limit (c.answer-reply.ensures.copy ∙ c.in-Ok.ensures.copy) c.copy_reply.ensures c.make_room.ensures.entries c.push.ensures.entries,
+      room_entry c.is_owed_close-is_owed.result inside.log.entries c.make_room.new.log.entries c.push.new.self.entries (record { session = c.args.session; request = c.answer-reply.new.copy; reply = c.copy_reply.result })
           inside.reserved inside.owed inside.log.spare c.make_room.new.log.spare c.push.new.self.spare c.self.invariant.1
           c.if-is_owed.false c.in-Ok-make_room.ensures.owed c.push.ensures.spare c.make_room.ensures.entries c.push.ensures.entries,
       legal_acted (g.P.Keeper.tables inside.start.value) (g.P.Keeper.tables inside.keeper) (g.P.Keeper.limit inside.start.value) (g.P.Keeper.limit inside.keeper) inside.fleet inside.secret inside.log.entries c.make_room.new.log.entries
-          c.make_room.new.log.entries c.push.new.self.entries c.args.session c.args.request.now c.in-Ok.copy c.answer-reply.result c.copy_reply.result c.self.invariant.2 c.self.invariant.0 c.make_room.ensures.entries
-          (sym c.makes_entry.ensures ∙ c.if-not-makes_entry.false) c.answer-reply.ensures.reply c.in-Ok.ensures.copy c.copy_reply.ensures c.make_room.ensures.entries c.push.ensures.entries,
+          c.make_room.new.log.entries c.push.new.self.entries c.args.session c.args.request.now c.answer-reply.new.copy c.answer-reply.result c.copy_reply.result c.self.invariant.2 c.self.invariant.0 c.make_room.ensures.entries
+          (sym c.makes_entry.ensures ∙ c.if-not-makes_entry.false) c.answer-reply.ensures.reply (c.answer-reply.ensures.copy ∙ c.in-Ok.ensures.copy) c.copy_reply.ensures c.make_room.ensures.entries c.push.ensures.entries,
       λ s above upto. c.push.ensures.kept s (c.make_room.ensures.kept s (c.self.invariant.3 s above upto)),
     )
 
@@ -54,5 +54,5 @@ pub returns-else-is_owed-clause-keeper : goal.returns-else-is_owed-clause-keeper
 returns-else-is_owed-clause-keeper g c =
     let inside = c.self.inside in
     at_acted (g.P.Keeper.tables inside.start.value) (g.P.Keeper.tables inside.keeper) (g.P.Keeper.tables c.answer-reply.new.keeper) (g.P.Keeper.limit inside.start.value) (g.P.Keeper.limit inside.keeper) (g.P.Keeper.limit c.answer-reply.new.keeper)
-    inside.log.entries c.make_room.new.log.entries c.push.new.self.entries c.args.session c.args.request.now c.in-Ok.copy c.answer-reply.result c.copy_reply.result c.self.invariant.0
-    c.answer-reply.ensures.tables c.answer-reply.ensures.limit c.in-Ok.ensures.copy c.copy_reply.ensures c.make_room.ensures.entries c.push.ensures.entries
+    inside.log.entries c.make_room.new.log.entries c.push.new.self.entries c.args.session c.args.request.now c.answer-reply.new.copy c.answer-reply.result c.copy_reply.result c.self.invariant.0
+    c.answer-reply.ensures.tables c.answer-reply.ensures.limit (c.answer-reply.ensures.copy ∙ c.in-Ok.ensures.copy) c.copy_reply.ensures c.make_room.ensures.entries c.push.ensures.entries
