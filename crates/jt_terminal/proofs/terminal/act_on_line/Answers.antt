@@ -2,6 +2,7 @@ use Rattle.std.proofs.Common.{ap}
 use Rattle.jt_terminal_rule.specs.declared.state.State.{State}
 use Rattle.jt_terminal_steps.proofs.Keeping.{sound_down}
 use Rattle.jt_terminal.specs.Feeding.{scene}
+use Rattle.jt_terminal.proofs.Idling.{lost_again}
 use Rattle.jt_terminal.proofs.Items.{cut_down}
 use Rattle.jt_terminal.proofs.Lateness.{timed_without_line}
 use Rattle.jt_terminal.proofs.Looping.{timed_front}
@@ -18,3 +19,6 @@ returns-in-Err-clause-err g c = cut_down (scene c.args.stream.now.splitter c.arg
 
 pub returns-in-Ok-clause-timed : goal.returns-in-Ok-clause-timed
 returns-in-Ok-clause-timed g c = timed_front (scene c.args.stream.now.splitter c.args.assembler.now c.args.state.now (g.V.Vault.holds c.args.vault.now) c.new-frames.result c.new-told.result) (scene c.hear.new.stream.splitter c.hear.new.assembler c.hear.new.state (g.V.Vault.holds c.hear.new.vault) c.hear.new.out c.hear.new.told) c.args.octets.now c.in-Ok.end c.requires.timed c.in-Ok.ensures.ok
+
+pub returns-in-Err-clause-unmoved : goal.returns-in-Err-clause-unmoved
+returns-in-Err-clause-unmoved g c = lost_again c.args.state.now c.hear.new.state c.down_after.new.state c.down_after.ensures.state c.in-Err.ensures.unmoved
