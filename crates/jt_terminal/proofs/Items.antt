@@ -18,13 +18,13 @@ use Rattle.jt_store.specs.Vaults.{Held}
 use Rattle.jt_subpacket.specs.Partials.{Partial}
 use Rattle.jt_terminal_rule.specs.declared.state.State.{State}
 use Rattle.jt_terminal_rule.specs.declared.state.GiveUp.{GiveUp}
-use Rattle.jt_terminal_rule.specs.Rule.{Heard, Step, Ruled, and_then, down, stays}
+use Rattle.jt_terminal_rule.specs.Rule.{Heard, Step, Ruled, and_then, stays}
 use Rattle.jt_terminal_steps.specs.AfterError.{AllTablesOrNone, AreSameTables, CutLists, Lists, lists_of}
 use Rattle.jt_terminal_steps.specs.Running.{CutShort, Ran}
 use Rattle.jt_terminal.specs.Line.{StandsForLine, TablesOfFirst, fed, fed_items, goes_on, goes_on_unless, hears, kept_behind, kept_by, more_unless, new_items, of_item, partial_of, told_at, told_items, told_one}
 use Rattle.jt_terminal.specs.Feeding.{Brings, HasFed, HasFedFront, Scene, WasCut, message_at, scene}
 use Rattle.jt_terminal_steps.proofs.Chaining.{cut_then, ran_then}
-use Rattle.jt_terminal_steps.proofs.Leaving.{HasItsLists, lists_then}
+use Rattle.jt_terminal_steps.proofs.Leaving.{HasItsLists, lists_then, tables_on}
 use Rattle.jt_terminal_steps.proofs.Listing.{lists_both, lists_heard}
 
 -- ---- items behind items
@@ -392,13 +392,12 @@ fed_tables old stream state held octets seen has_front stands cut =
     } in
     subst (λ (ps : List Partial). TablesOfFirst old.state ps (new_items seen octets) state) stands.partial here
 
--- without a line times, tables and lists are as they were; what was written and told before does not count
-pub cut_down : (old : Scene) (stream : Splitting) (s now : State) (held : Option Held) (octets : List ℕ) → now ≡ down s → WasCut old stream s held octets
+-- a state with the same times, tables and lists, as one without a line; what was written and told before does not count
+pub cut_alike : (old : Scene) (stream : Splitting) (s given now : State) (held : Option Held) (octets : List ℕ) → now ≡ given → AreSameTables s given → lists_of given ≡ lists_of s → WasCut old stream s held octets
     → WasCut (scene old.stream old.partial old.state old.held [] []) stream now held octets
-cut_down old stream s now held octets is cut =
+cut_alike old stream s given now held octets is tables lists cut =
     let first = cut.tables in
-    let same = first.tables in
-    let still : AreSameTables (fed_items old.state old.partial first.front).state (down s) = record { timing = same.timing; params = same.params; regions = same.regions } in
+    let still = tables_on (fed_items old.state old.partial first.front).state s given first.tables tables in
     record {
       front = cut.front;
       back = cut.back;
@@ -407,7 +406,7 @@ cut_down old stream s now held octets is cut =
       brings = cut.brings;
       cut = cut.cut;
       tables = record { front = first.front; back = first.back; parts = first.parts; tables = subst (AreSameTables (fed_items old.state old.partial first.front).state) (sym is) still };
-      lists = record { done = cut.lists.done; left = cut.lists.left; parts = cut.lists.parts; lists = ap lists_of is ∙ cut.lists.lists };
+      lists = record { done = cut.lists.done; left = cut.lists.left; parts = cut.lists.parts; lists = ap lists_of is ∙ (lists ∙ cut.lists.lists) };
     }
 
 -- ---- results
