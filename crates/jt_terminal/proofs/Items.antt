@@ -1,5 +1,5 @@
 -- Items one after another: what the terminal does at them, and what is left of them.
-use Rattle.std.proofs.Common.{◌≡◌, ℕ, List, [], ◌∷◌, ◌++◌, length, drop, map, Option, Some, None, Result, Ok, Err, OnOk, inl, inr, refl, sym, ap, ◌∙◌, subst, append_assoc}
+use Rattle.std.proofs.Common.{◌≡◌, ◌<◌, ℕ, List, [], ◌∷◌, ◌++◌, length, drop, map, Option, Some, None, Result, Ok, Err, OnOk, inl, inr, refl, sym, ap, ◌∙◌, subst, append_assoc}
 use Rattle.std.specs.Prelude.{IfOk}
 use Rattle.std.specs.Option.{option_to_list}
 use Rattle.std.proofs.lemmas.List.{append-nil, map-append}
@@ -18,12 +18,14 @@ use Rattle.jt_store.specs.Vaults.{Held}
 use Rattle.jt_subpacket.specs.Partials.{Partial}
 use Rattle.jt_terminal_rule.specs.declared.state.State.{State}
 use Rattle.jt_terminal_rule.specs.declared.state.GiveUp.{GiveUp}
-use Rattle.jt_terminal_rule.specs.Rule.{Step, Ruled, and_then, down, stays}
-use Rattle.jt_terminal_steps.specs.AfterError.{AllTablesOrNone, AreSameTables}
+use Rattle.jt_terminal_rule.specs.Rule.{Heard, Step, Ruled, and_then, stays}
+use Rattle.jt_terminal_steps.specs.AfterError.{AllTablesOrNone, AreSameTables, CutLists, Lists, lists_of}
 use Rattle.jt_terminal_steps.specs.Running.{CutShort, Ran}
 use Rattle.jt_terminal.specs.Line.{StandsForLine, TablesOfFirst, fed, fed_items, goes_on, goes_on_unless, hears, kept_behind, kept_by, more_unless, new_items, of_item, partial_of, told_at, told_items, told_one}
 use Rattle.jt_terminal.specs.Feeding.{Brings, HasFed, HasFedFront, Scene, WasCut, message_at, scene}
 use Rattle.jt_terminal_steps.proofs.Chaining.{cut_then, ran_then}
+use Rattle.jt_terminal_steps.proofs.Leaving.{HasItsLists, lists_then, tables_on}
+use Rattle.jt_terminal_steps.proofs.Listing.{lists_both, lists_heard}
 
 -- ---- items behind items
 
@@ -116,6 +118,16 @@ cut_of_front s partial xs ys old now cut =
     let more = first_steps s partial xs ys (fed_items s partial xs).end refl in
     cut_on (fed_items s partial xs).steps (fed_items s partial (xs ++ ys)).steps more.0 old now more.1 cut
 
+pub lists_of_front : (s : State) (partial : List Partial) (xs ys : List Unplaced) (old now : Lists) → CutLists (fed_items s partial xs).steps old now → CutLists (fed_items s partial (xs ++ ys)).steps old now
+lists_of_front s partial xs ys old now cut =
+    let more = first_steps s partial xs ys (fed_items s partial xs).end refl in
+    record {
+      done = cut.done;
+      left = cut.left ++ more.0;
+      parts = more.1 ∙ (ap (λ (m : List Step). m ++ more.0) cut.parts ∙ append_assoc cut.done cut.left more.0);
+      lists = cut.lists;
+    }
+
 -- ---- what octets bring
 
 -- each stream has items, and without their places they are a function of it
@@ -176,6 +188,10 @@ none_more : (e : Option GiveUp) → more_unless e [] ≡ []
 none_more None = refl
 none_more (Some cause) = refl
 
+lists_hears : (s : State) (x : Option Heard) → s.mark < 65536 → s.next < 65536 → HasItsLists s (hears s x)
+lists_hears s None small fits = refl
+lists_hears s (Some x) small fits = lists_heard s small fits x
+
 pub fed_none : (old now : Scene) (octets : List ℕ) → Brings old.stream now.stream octets [] → now.partial ≡ old.partial → now.state ≡ old.state → now.held ≡ old.held → now.out ≡ old.out → now.told ≡ old.told → HasFed old now octets None
 fed_none old now octets brings partial state held out told = record {
   gone = [];
@@ -183,6 +199,7 @@ fed_none old now octets brings partial state held out told = record {
   partial = partial;
   ran = record { is_state = state; held = held; out = out ∙ sym (append-nil old.out); is_end = refl };
   told = told ∙ sym (append-nil old.told);
+  lists = refl;
 }
 
 pub fed_fault : (old now : Scene) (octets : List ℕ) (place : ℕ) (why : Why) → Brings old.stream now.stream octets (Fault place why ∷ []) → now.partial ≡ old.partial → now.state ≡ old.state → now.held ≡ old.held → now.out ≡ old.out → now.told ≡ old.told → HasFed old now octets None
@@ -192,11 +209,13 @@ fed_fault old now octets place why brings partial state held out told = record {
   partial = partial;
   ran = record { is_state = state; held = held; out = out ∙ sym (append-nil old.out); is_end = refl };
   told = told ∙ sym (append-nil old.told);
+  lists = refl;
 }
 
 pub fed_frame : (old now : Scene) (octets : List ℕ) (item : Unplaced) (end : Option GiveUp) → Brings old.stream now.stream octets (item ∷ []) → now.partial ≡ kept_by old.partial item
-    → Ran old.state.settings (hears old.state (of_item old.partial item)) now.state old.held now.held old.out now.out end → now.told ≡ old.told ++ option_to_list (told_one old.state (of_item old.partial item)) → HasFed old now octets end
-fed_frame old now octets item end brings partial ran told =
+    → Ran old.state.settings (hears old.state (of_item old.partial item)) now.state old.held now.held old.out now.out end → now.told ≡ old.told ++ option_to_list (told_one old.state (of_item old.partial item)) → old.state.mark < 65536 → old.state.next < 65536
+    → HasFed old now octets end
+fed_frame old now octets item end brings partial ran told small fits =
     let r = hears old.state (of_item old.partial item) in
     record {
       gone = item ∷ [];
@@ -204,6 +223,7 @@ fed_frame old now octets item end brings partial ran told =
       partial = partial;
       ran = subst (λ (x : Ruled). Ran old.state.settings x now.state old.held now.held old.out now.out end) (sym (single r)) ran;
       told = told ∙ ap (λ (more : List ℕ). old.told ++ more) (sym (append-nil (option_to_list (told_one old.state (of_item old.partial item)))) ∙ ap (λ (more : List ℕ). option_to_list (told_one old.state (of_item old.partial item)) ++ more) (sym (none_more r.end)));
+      lists = subst (HasItsLists old.state) (sym (single r)) (lists_hears old.state (of_item old.partial item) small fits);
     }
 
 tables_of_one : (s : State) (partial : List Partial) (item : Unplaced) (now : State) → AllTablesOrNone s (hears s (of_item partial item)).state now → TablesOfFirst s partial (item ∷ []) now
@@ -216,8 +236,9 @@ tables_of_one s partial item now (inr same) = record {
 }
 
 pub cut_frame : (old : Scene) (stream : Splitting) (state : State) (held : Option Held) (octets front back : List ℕ) (item : Unplaced) → octets ≡ front ++ back → Brings old.stream stream front (item ∷ [])
-    → CutShort (hears old.state (of_item old.partial item)).steps old.held held → AllTablesOrNone old.state (hears old.state (of_item old.partial item)).state state → WasCut old stream state held octets
-cut_frame old stream state held octets front back item parts brings cut tables = record {
+    → CutShort (hears old.state (of_item old.partial item)).steps old.held held → AllTablesOrNone old.state (hears old.state (of_item old.partial item)).state state
+    → CutLists (hears old.state (of_item old.partial item)).steps (lists_of old.state) (lists_of state) → WasCut old stream state held octets
+cut_frame old stream state held octets front back item parts brings cut tables lists = record {
   front = front;
   back = back;
   parts = parts;
@@ -225,6 +246,7 @@ cut_frame old stream state held octets front back item parts brings cut tables =
   brings = brings;
   cut = subst (λ (x : Ruled). CutShort x.steps old.held held) (sym (single (hears old.state (of_item old.partial item)))) cut;
   tables = tables_of_one old.state old.partial item state tables;
+  lists = subst (λ (x : Ruled). CutLists x.steps (lists_of old.state) (lists_of state)) (sym (single (hears old.state (of_item old.partial item)))) lists;
 }
 
 -- ---- octets behind octets
@@ -255,6 +277,8 @@ fed_then old mid now a b end are same one two =
           ∙ (append_assoc old.told (told_items old.state old.partial one.gone) (told_items mid.state mid.partial two.gone)
           ∙ ap (λ (l : List ℕ). old.told ++ l) (ap (λ (l : List ℕ). told_items old.state old.partial one.gone ++ l) (λ i. told_items (one.ran.is_state i) (partials i) two.gone)
           ∙ sym (told_more old.state old.partial one.gone two.gone open_end))));
+      lists = subst (HasItsLists old.state) (sym (fed_more old.state old.partial one.gone two.gone open_end))
+          (lists_both r next old.state one.lists (subst (λ (m : State). HasItsLists m (next m)) one.ran.is_state (subst (λ (ps : List Partial). HasItsLists mid.state (fed_items mid.state ps two.gone)) partials two.lists)));
     }
 
 tables_then : (s : State) (partial : List Partial) (xs ys : List Unplaced) (now : State) → (fed_items s partial xs).end ≡ None → TablesOfFirst (fed_items s partial xs).state (kept_behind partial xs) ys now → TablesOfFirst s partial (xs ++ ys) now
@@ -281,6 +305,9 @@ cut_then_fed old mid stream state held octets a b parts are one cut =
           (cut_then r next mid.state old.held mid.held held one.ran.is_state one.ran.held more);
       tables = tables_then old.state old.partial one.gone cut.gone state open_end
           (subst (λ (ps : List Partial). TablesOfFirst r.state ps cut.gone state) one.partial (subst (λ (m : State). TablesOfFirst m mid.partial cut.gone state) one.ran.is_state cut.tables));
+      lists = subst (λ (x : Ruled). CutLists x.steps (lists_of old.state) (lists_of state)) (sym (fed_more old.state old.partial one.gone cut.gone open_end))
+          (lists_then r next old.state mid.state (lists_of state) one.ran.is_state one.lists
+          (subst (λ (ps : List Partial). CutLists (fed_items mid.state ps cut.gone).steps (lists_of mid.state) (lists_of state)) one.partial cut.lists));
     }
 
 -- ---- what a line that stood for octets was fed
@@ -344,6 +371,14 @@ fed_cut old stream state held octets seen has_front stands cut =
     ap (λ (ps : List Partial). fed_items old.state ps (new_items seen octets)) (sym stands.partial) ∙ ap (fed_items old.state old.partial) more.1 in
     subst (λ (r : Ruled). CutShort r.steps old.held held) (sym is) (cut_of_front old.state old.partial cut.gone more.0 old.held held cut.cut)
 
+pub fed_lists : (old : Scene) (stream : Splitting) (state : State) (held : Option Held) (octets seen : List ℕ) → HasFront → StandsForLine (record { stream = old.stream; partial = old.partial }) seen → WasCut old stream state held octets
+    → CutLists (fed old.state seen octets).steps (lists_of old.state) (lists_of state)
+fed_lists old stream state held octets seen has_front stands cut =
+    let more = new_are has_front old.stream stream seen octets cut.front cut.back cut.gone cut.parts stands.octets stands.stream cut.brings in
+    let is : fed old.state seen octets ≡ fed_items old.state old.partial (cut.gone ++ more.0) =
+    ap (λ (ps : List Partial). fed_items old.state ps (new_items seen octets)) (sym stands.partial) ∙ ap (fed_items old.state old.partial) more.1 in
+    subst (λ (r : Ruled). CutLists r.steps (lists_of old.state) (lists_of state)) (sym is) (lists_of_front old.state old.partial cut.gone more.0 (lists_of old.state) (lists_of state) cut.lists)
+
 pub fed_tables : (old : Scene) (stream : Splitting) (state : State) (held : Option Held) (octets seen : List ℕ) → HasFront → StandsForLine (record { stream = old.stream; partial = old.partial }) seen → WasCut old stream state held octets
     → TablesOfFirst old.state (partial_of seen) (new_items seen octets) state
 fed_tables old stream state held octets seen has_front stands cut =
@@ -357,13 +392,12 @@ fed_tables old stream state held octets seen has_front stands cut =
     } in
     subst (λ (ps : List Partial). TablesOfFirst old.state ps (new_items seen octets) state) stands.partial here
 
--- without a line times and tables are as they were; what was written and told before does not count
-pub cut_down : (old : Scene) (stream : Splitting) (s now : State) (held : Option Held) (octets : List ℕ) → now ≡ down s → WasCut old stream s held octets
+-- a state with the same times, tables and lists, as one without a line; what was written and told before does not count
+pub cut_alike : (old : Scene) (stream : Splitting) (s given now : State) (held : Option Held) (octets : List ℕ) → now ≡ given → AreSameTables s given → lists_of given ≡ lists_of s → WasCut old stream s held octets
     → WasCut (scene old.stream old.partial old.state old.held [] []) stream now held octets
-cut_down old stream s now held octets is cut =
+cut_alike old stream s given now held octets is tables lists cut =
     let first = cut.tables in
-    let same = first.tables in
-    let still : AreSameTables (fed_items old.state old.partial first.front).state (down s) = record { timing = same.timing; params = same.params; regions = same.regions } in
+    let still = tables_on (fed_items old.state old.partial first.front).state s given first.tables tables in
     record {
       front = cut.front;
       back = cut.back;
@@ -372,6 +406,7 @@ cut_down old stream s now held octets is cut =
       brings = cut.brings;
       cut = cut.cut;
       tables = record { front = first.front; back = first.back; parts = first.parts; tables = subst (AreSameTables (fed_items old.state old.partial first.front).state) (sym is) still };
+      lists = record { done = cut.lists.done; left = cut.lists.left; parts = cut.lists.parts; lists = ap lists_of is ∙ (lists ∙ cut.lists.lists) };
     }
 
 -- ---- results

@@ -1,6 +1,7 @@
 mod Begins
 mod Naming
 mod Ending
+mod Idling
 mod Items
 mod Judging
 mod Lateness

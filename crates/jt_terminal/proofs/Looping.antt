@@ -26,6 +26,7 @@ fed_nothing s = record {
   partial = refl;
   ran = record { is_state = refl; held = refl; out = sym (append-nil s.out); is_end = refl };
   told = sym (append-nil s.told);
+  lists = refl;
 }
 
 rest_is : (octets : List ℕ) (taken : ℕ) → take (length octets - taken) (drop taken octets) ≡ drop taken octets

@@ -9,6 +9,7 @@ use Rattle.jt_store.specs.Vaults.{Held}
 use Rattle.jt_subpacket.specs.Partials.{Partial}
 use Rattle.jt_terminal_rule.specs.declared.state.State.{State}
 use Rattle.jt_terminal_rule.specs.declared.state.GiveUp.{GiveUp}
+use Rattle.jt_terminal_steps.specs.AfterError.{CutLists, lists_after, lists_of}
 use Rattle.jt_terminal_steps.specs.Running.{CutShort, Ran}
 use Rattle.jt_terminal.specs.Line.{TablesOfFirst, fed_items, kept_behind, told_items}
 
@@ -40,6 +41,7 @@ pub record HasFed (old now : Scene) (octets : List ℕ) (end : Option GiveUp) : 
   pub partial : now.partial ≡ kept_behind old.partial gone
   pub ran : Ran old.state.settings (fed_items old.state old.partial gone) now.state old.held now.held old.out now.out end
   pub told : now.told ≡ old.told ++ told_items old.state old.partial gone
+  pub lists : lists_of (fed_items old.state old.partial gone).state ≡ lists_after (fed_items old.state old.partial gone).steps (lists_of old.state)
 
 -- some first octets were fed, all of them unless the terminal gave up
 pub record HasFedFront (old now : Scene) (octets : List ℕ) (end : Option GiveUp) : Type 0 where
@@ -58,6 +60,7 @@ pub record WasCut (old : Scene) (stream : Splitting) (state : State) (held : Opt
   pub brings : Brings old.stream stream front gone
   pub cut : CutShort (fed_items old.state old.partial gone).steps old.held held
   pub tables : TablesOfFirst old.state old.partial gone state
+  pub lists : CutLists (fed_items old.state old.partial gone).steps (lists_of old.state) (lists_of state)
 
 -- what a vault says beside what it holds, while nothing failed
 pub record IsSteadySoFar (faults faults_now most most_now : ℕ) (may may_now : Bool) : Type 0 where

@@ -9,8 +9,8 @@ ghost use Rattle.jt_terminal_rule.specs.Law.{response_heard};
 ghost use Rattle.jt_terminal_rule.specs.Rule as rule;
 ghost use Rattle.jt_terminal.specs.Feeding.{HasFed, HasFedFront, WasCut, message_at, scene};
 ghost use Rattle.jt_terminal.specs.Line as line;
-ghost use Rattle.jt_terminal_steps.specs.AfterError.{AllTablesOrNone};
-ghost use Rattle.jt_terminal_steps.specs.Running.{CutShort, IsSame, IsSound, Outside, Ran};
+ghost use Rattle.jt_terminal_steps.specs.AfterError.{AllTablesOrNone, CutLists, lists_of};
+ghost use Rattle.jt_terminal_steps.specs.Running.{CutShort, IsDown, IsSame, IsSound, Outside, Ran};
 
 use crate::telling::tell;
 use jt_codec::{Message, law_of_bodies, read_body};
@@ -38,6 +38,8 @@ fn hear_read<V: Vault>(
     ensures ok { IfOk result (λ end. Ran state.old.settings (rule.received state.old header.now message.now) state.new (V.holds vault.old) (V.holds vault.new) out.old out.new end) }
     ensures err { OnErr result (CutShort (rule.received state.old header.now message.now).steps (V.holds vault.old) (V.holds vault.new)) }
     ensures tables { OnErr result (AllTablesOrNone state.old (rule.received state.old header.now message.now).state state.new) }
+    ensures lists { OnErr result (CutLists (rule.received state.old header.now message.now).steps (lists_of state.old) (lists_of state.new)) }
+    ensures unmoved { OnErr result (IsDown state.old → state.new ≡ state.old) }
     ensures told { OnOk result (told.new ≡ told.old ++ option_to_list (rule.told state.old (rule.response_in message.now))) }
     ensures sound { IsSound (V.holds vault.new) state.new }
     ensures same { IsSame state.old state.new }
@@ -62,6 +64,8 @@ fn hear_message<V: Vault>(
     ensures ok { IfOk result (λ end. Ran state.old.settings (rule.received state.old header.now message) state.new (V.holds vault.old) (V.holds vault.new) out.old out.new end) }
     ensures err { OnErr result (CutShort (rule.received state.old header.now message).steps (V.holds vault.old) (V.holds vault.new)) }
     ensures tables { OnErr result (AllTablesOrNone state.old (rule.received state.old header.now message).state state.new) }
+    ensures lists { OnErr result (CutLists (rule.received state.old header.now message).steps (lists_of state.old) (lists_of state.new)) }
+    ensures unmoved { OnErr result (IsDown state.old → state.new ≡ state.old) }
     ensures told { OnOk result (told.new ≡ told.old ++ option_to_list (rule.told state.old (rule.response_in message))) }
     ensures sound { IsSound (V.holds vault.new) state.new }
     ensures same { IsSame state.old state.new }
@@ -82,6 +86,8 @@ fn hear_refused<V: Vault>(
     ensures ok { IfOk result (λ end. Ran state.old.settings (rule.heard state.old (rule.Refused header.now)) state.new (V.holds vault.old) (V.holds vault.new) out.old out.new end) }
     ensures err { OnErr result (CutShort (rule.heard state.old (rule.Refused header.now)).steps (V.holds vault.old) (V.holds vault.new)) }
     ensures tables { OnErr result (AllTablesOrNone state.old (rule.heard state.old (rule.Refused header.now)).state state.new) }
+    ensures lists { OnErr result (CutLists (rule.heard state.old (rule.Refused header.now)).steps (lists_of state.old) (lists_of state.new)) }
+    ensures unmoved { OnErr result (IsDown state.old → state.new ≡ state.old) }
     ensures sound { IsSound (V.holds vault.new) state.new }
     ensures same { IsSame state.old state.new }
     ensures outside { Outside (V.faults vault.old) (V.faults vault.new) (V.limit vault.old) (V.limit vault.new) (V.may_fail vault.old) (V.may_fail vault.new) result }
@@ -105,6 +111,8 @@ fn hear_lack<V: Vault>(
     ensures ok { IfOk result (λ end. Ran state.old.settings (rule.heard state.old (rule.Lacks header.now first numbers)) state.new (V.holds vault.old) (V.holds vault.new) out.old out.new end) }
     ensures err { OnErr result (CutShort (rule.heard state.old (rule.Lacks header.now first numbers)).steps (V.holds vault.old) (V.holds vault.new)) }
     ensures tables { OnErr result (AllTablesOrNone state.old (rule.heard state.old (rule.Lacks header.now first numbers)).state state.new) }
+    ensures lists { OnErr result (CutLists (rule.heard state.old (rule.Lacks header.now first numbers)).steps (lists_of state.old) (lists_of state.new)) }
+    ensures unmoved { OnErr result (IsDown state.old → state.new ≡ state.old) }
     ensures sound { IsSound (V.holds vault.new) state.new }
     ensures same { IsSame state.old state.new }
     ensures outside { Outside (V.faults vault.old) (V.faults vault.new) (V.limit vault.old) (V.limit vault.new) (V.may_fail vault.old) (V.may_fail vault.new) result }
@@ -128,6 +136,8 @@ fn hear_body<V: Vault>(
     ensures ok { IfOk result (λ end. Ran state.old.settings (rule.heard state.old (line.of_body header.now body.now)) state.new (V.holds vault.old) (V.holds vault.new) out.old out.new end) }
     ensures err { OnErr result (CutShort (rule.heard state.old (line.of_body header.now body.now)).steps (V.holds vault.old) (V.holds vault.new)) }
     ensures tables { OnErr result (AllTablesOrNone state.old (rule.heard state.old (line.of_body header.now body.now)).state state.new) }
+    ensures lists { OnErr result (CutLists (rule.heard state.old (line.of_body header.now body.now)).steps (lists_of state.old) (lists_of state.new)) }
+    ensures unmoved { OnErr result (IsDown state.old → state.new ≡ state.old) }
     ensures told { OnOk result (told.new ≡ told.old ++ option_to_list (rule.told state.old (response_heard (line.of_body header.now body.now)))) }
     ensures sound { IsSound (V.holds vault.new) state.new }
     ensures same { IsSame state.old state.new }
@@ -156,6 +166,8 @@ fn hear_fate<V: Vault>(
     ensures ok { IfOk result (λ end. Ran state.old.settings (line.hears state.old (line.of_packet header.now fate)) state.new (V.holds vault.old) (V.holds vault.new) out.old out.new end) }
     ensures err { OnErr result (CutShort (line.hears state.old (line.of_packet header.now fate)).steps (V.holds vault.old) (V.holds vault.new)) }
     ensures tables { OnErr result (AllTablesOrNone state.old (line.hears state.old (line.of_packet header.now fate)).state state.new) }
+    ensures lists { OnErr result (CutLists (line.hears state.old (line.of_packet header.now fate)).steps (lists_of state.old) (lists_of state.new)) }
+    ensures unmoved { OnErr result (IsDown state.old → state.new ≡ state.old) }
     ensures told { OnOk result (told.new ≡ told.old ++ option_to_list (line.told_one state.old (line.of_packet header.now fate))) }
     ensures sound { IsSound (V.holds vault.new) state.new }
     ensures same { IsSame state.old state.new }
@@ -192,6 +204,8 @@ fn hear_packet<V: Vault>(
     ensures ok { IfOk result (λ end. Ran state.old.settings (line.hears state.old (line.of_packet header.now (taken_by assembler.old header.now body.now).fate)) state.new (V.holds vault.old) (V.holds vault.new) out.old out.new end) }
     ensures err { OnErr result (CutShort (line.hears state.old (line.of_packet header.now (taken_by assembler.old header.now body.now).fate)).steps (V.holds vault.old) (V.holds vault.new)) }
     ensures tables { OnErr result (AllTablesOrNone state.old (line.hears state.old (line.of_packet header.now (taken_by assembler.old header.now body.now).fate)).state state.new) }
+    ensures lists { OnErr result (CutLists (line.hears state.old (line.of_packet header.now (taken_by assembler.old header.now body.now).fate)).steps (lists_of state.old) (lists_of state.new)) }
+    ensures unmoved { OnErr result (IsDown state.old → state.new ≡ state.old) }
     ensures told { OnOk result (told.new ≡ told.old ++ option_to_list (line.told_one state.old (line.of_packet header.now (taken_by assembler.old header.now body.now).fate))) }
     ensures partial { OnOk result (assembler.new ≡ (taken_by assembler.old header.now body.now).partial) }
     ensures sound { IsSound (V.holds vault.new) state.new }
@@ -219,6 +233,8 @@ fn hear_frame<V: Vault>(
     ensures ok { IfOk result (λ end. Ran state.old.settings (line.hears state.old (line.of_frame assembler.old header.now body.now header.now.packet)) state.new (V.holds vault.old) (V.holds vault.new) out.old out.new end) }
     ensures err { OnErr result (CutShort (line.hears state.old (line.of_frame assembler.old header.now body.now header.now.packet)).steps (V.holds vault.old) (V.holds vault.new)) }
     ensures tables { OnErr result (AllTablesOrNone state.old (line.hears state.old (line.of_frame assembler.old header.now body.now header.now.packet)).state state.new) }
+    ensures lists { OnErr result (CutLists (line.hears state.old (line.of_frame assembler.old header.now body.now header.now.packet)).steps (lists_of state.old) (lists_of state.new)) }
+    ensures unmoved { OnErr result (IsDown state.old → state.new ≡ state.old) }
     ensures told { OnOk result (told.new ≡ told.old ++ option_to_list (line.told_one state.old (line.of_frame assembler.old header.now body.now header.now.packet))) }
     ensures partial { OnOk result (assembler.new ≡ line.kept_by_frame assembler.old header.now body.now header.now.packet) }
     ensures sound { IsSound (V.holds vault.new) state.new }
@@ -246,6 +262,8 @@ fn hear_last<V: Vault>(
     ensures ok { IfOk result (λ end. Ran state.old.settings (line.hears state.old (line.of_item assembler.old (message_at stream.now.splitter.content))) state.new (V.holds vault.old) (V.holds vault.new) out.old out.new end) }
     ensures err { OnErr result (CutShort (line.hears state.old (line.of_item assembler.old (message_at stream.now.splitter.content))).steps (V.holds vault.old) (V.holds vault.new)) }
     ensures tables { OnErr result (AllTablesOrNone state.old (line.hears state.old (line.of_item assembler.old (message_at stream.now.splitter.content))).state state.new) }
+    ensures lists { OnErr result (CutLists (line.hears state.old (line.of_item assembler.old (message_at stream.now.splitter.content))).steps (lists_of state.old) (lists_of state.new)) }
+    ensures unmoved { OnErr result (IsDown state.old → state.new ≡ state.old) }
     ensures told { OnOk result (told.new ≡ told.old ++ option_to_list (line.told_one state.old (line.of_item assembler.old (message_at stream.now.splitter.content)))) }
     ensures partial { OnOk result (assembler.new ≡ line.kept_by assembler.old (message_at stream.now.splitter.content)) }
     ensures sound { IsSound (V.holds vault.new) state.new }
@@ -277,6 +295,7 @@ fn hear_item<V: Vault>(
     ensures place { IfOk result (λ came. stream.new.splitter.place ≡ stream.old.splitter.place + came.0) }
     ensures far { stream.new.splitter.place ≤ stream.old.splitter.place + length octets.now }
     ensures err { OnErr result (WasCut (scene stream.old.splitter assembler.old state.old (V.holds vault.old) out.old told.old) stream.new.splitter state.new (V.holds vault.new) octets.now) }
+    ensures unmoved { OnErr result (IsDown state.old → state.new ≡ state.old) }
     ensures sound { IsSound (V.holds vault.new) state.new }
     ensures same { IsSame state.old state.new }
     ensures outside { Outside (V.faults vault.old) (V.faults vault.new) (V.limit vault.old) (V.limit vault.new) (V.may_fail vault.old) (V.may_fail vault.new) result }
@@ -310,6 +329,7 @@ pub(crate) fn hear<V: Vault>(
     ensures ok { IfOk result (λ end. HasFedFront (scene stream.old.splitter assembler.old state.old (V.holds vault.old) out.old told.old) (scene stream.new.splitter assembler.new state.new (V.holds vault.new) out.new told.new) octets.now end) }
     ensures place { stream.new.splitter.place ≤ stream.old.splitter.place + length octets.now }
     ensures err { OnErr result (WasCut (scene stream.old.splitter assembler.old state.old (V.holds vault.old) out.old told.old) stream.new.splitter state.new (V.holds vault.new) octets.now) }
+    ensures unmoved { OnErr result (IsDown state.old → state.new ≡ state.old) }
     ensures sound { IsSound (V.holds vault.new) state.new }
     ensures same { IsSame state.old state.new }
     ensures outside { Outside (V.faults vault.old) (V.faults vault.new) (V.limit vault.old) (V.limit vault.new) (V.may_fail vault.old) (V.may_fail vault.new) result }

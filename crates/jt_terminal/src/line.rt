@@ -1,8 +1,9 @@
 //! A terminal's end of a connection.
 
-ghost use Rattle.std.specs.Prelude.{◌≡◌, ℕ, ◌≤◌, ◌<◌, ◌+◌, ◌^◌, ◌++◌, List, [], None, IfOk, OnErr, OnOk, length};
+ghost use Rattle.std.specs.Prelude.{◌≡◌, ℕ, ◌≤◌, ◌<◌, ◌+◌, ◌^◌, ◌++◌, List, [], None, IfOk, IsSome, OnErr, OnOk, length};
 ghost use Rattle.jt_terminal_rule.specs.Rule as rule;
 ghost use Rattle.jt_terminal.specs.Line.{StandsForLine, TablesOfFirst, fed, new_items, partial_of, told_at};
+ghost use Rattle.jt_terminal_steps.specs.AfterError.{CutLists, lists_of};
 ghost use Rattle.jt_terminal_steps.specs.Running.{CutShort, IsDown, IsSound, Outside, holds_after};
 
 use crate::actions::Actions;
@@ -52,8 +53,12 @@ impl TerminalLine {
     /// it gives up. Refused frames are passed over.
     ///
     /// Store comes only where the vault's count of faults rose in this call. After an error the vault holds what some first
-    /// changes of what the octets ask make of it, the terminal has no line, and its times and tables are those that the rule has after
-    /// some first items of the octets. The last fix stays.
+    /// changes of what the octets ask make of it, the terminal has no line, its units, fixes, serials and code are what some first
+    /// steps of that make of them, and its times and tables are those that the rule has after some first items of the octets. The
+    /// last fix stays.
+    ///
+    /// A terminal that gave up has no line. While it has none, octets change nothing of it and of what its vault holds, in error
+    /// or not, and after Ok nothing is to be sent and nothing is told.
     pub fn feed<V: Vault>(
         &mut self,
         alloc: Global,
@@ -71,11 +76,16 @@ impl TerminalLine {
         ensures place { self.new.stream.place ≤ self.old.stream.place + length octets.now }
         ensures cut { (seen : List ℕ) → StandsForLine self.old seen → OnErr result (CutShort (fed terminal.old.state seen octets.now).steps (V.holds terminal.old.vault) (V.holds terminal.new.vault)) }
         ensures tables { (seen : List ℕ) → StandsForLine self.old seen → OnErr result (TablesOfFirst terminal.old.state (partial_of seen) (new_items seen octets.now) terminal.new.state) }
+        ensures lists { (seen : List ℕ) → StandsForLine self.old seen → OnErr result (CutLists (fed terminal.old.state seen octets.now).steps (lists_of terminal.old.state) (lists_of terminal.new.state)) }
         ensures down { OnErr result (IsDown terminal.new.state) }
         ensures sound { IsSound (V.holds terminal.new.vault) terminal.new.state }
         ensures settings { terminal.new.state.settings ≡ terminal.old.state.settings }
         ensures time { terminal.new.state.time ≡ terminal.old.state.time }
         ensures last { terminal.new.state.last ≡ terminal.old.state.last }
+        // Without a line, as once the terminal gave up, no octets change anything, whatever line they come on.
+        ensures gave_up { IfOk result (λ actions. IsSome actions.end → IsDown terminal.new.state) }
+        ensures unmoved { IsDown terminal.old.state → (terminal.new.state ≡ terminal.old.state) × (V.holds terminal.new.vault ≡ V.holds terminal.old.vault) }
+        ensures silent { IsDown terminal.old.state → IfOk result (λ actions. (actions.frames ≡ []) × (actions.end ≡ None) × (actions.told ≡ [])) }
         ensures outside { Outside (V.faults terminal.old.vault) (V.faults terminal.new.vault) (V.limit terminal.old.vault) (V.limit terminal.new.vault) (V.may_fail terminal.old.vault) (V.may_fail terminal.new.vault) result }
     {
         law_front();

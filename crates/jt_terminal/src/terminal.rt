@@ -217,6 +217,7 @@ fn act_on_line<V: Vault>(
     ensures ok { IfOk result (λ actions. HasFedFront (scene stream.old.splitter assembler.old state.old (V.holds vault.old) [] []) (scene stream.new.splitter assembler.new state.new (V.holds vault.new) actions.frames actions.told) octets.now actions.end) }
     ensures place { stream.new.splitter.place ≤ stream.old.splitter.place + length octets.now }
     ensures err { OnErr result (WasCut (scene stream.old.splitter assembler.old state.old (V.holds vault.old) [] []) stream.new.splitter state.new (V.holds vault.new) octets.now) }
+    ensures unmoved { OnErr result (IsDown state.old → state.new ≡ state.old) }
     ensures down { OnErr result (IsDown state.new) }
     ensures sound { IsSound (V.holds vault.new) state.new }
     ensures timed { IsTimed state.new }
@@ -369,6 +370,7 @@ impl<V: Vault> Terminal<V> {
         ensures ok { IfOk result (λ actions. HasFedFront (scene stream.old.splitter assembler.old self.old.state (V.holds self.old.vault) [] []) (scene stream.new.splitter assembler.new self.new.state (V.holds self.new.vault) actions.frames actions.told) octets.now actions.end) }
         ensures place { stream.new.splitter.place ≤ stream.old.splitter.place + length octets.now }
         ensures err { OnErr result (WasCut (scene stream.old.splitter assembler.old self.old.state (V.holds self.old.vault) [] []) stream.new.splitter self.new.state (V.holds self.new.vault) octets.now) }
+        ensures unmoved { OnErr result (IsDown self.old.state → self.new.state ≡ self.old.state) }
         ensures down { OnErr result (IsDown self.new.state) }
         ensures sound { IsSound (V.holds self.new.vault) self.new.state }
         ensures same { IsSame self.old.state self.new.state }

@@ -69,7 +69,7 @@ lists_then r more s mid now is own cut =
 
 -- ---- the window
 
-abbrev ListsIf : State → Option Ruled → Type 0
+abbrev pub ListsIf : State → Option Ruled → Type 0
 ListsIf s None = Unit {0}
 ListsIf s (Some r) = HasItsLists s r
 
@@ -92,7 +92,7 @@ sends_lists : (s : State) (unit : Option OneUnit) → ListsIf s (sends_one s uni
 sends_lists s None = forms_lists s s.waiting refl
 sends_lists s (Some u) = refl
 
-next_lists : (s : State) (unit : Option OneUnit) (b : Bool) → ListsIf s (cond b (sends_one s unit) None)
+pub next_lists : (s : State) (unit : Option OneUnit) (b : Bool) → ListsIf s (cond b (sends_one s unit) None)
 next_lists s unit true = sends_lists s unit
 next_lists s unit false = tt
 

@@ -1,3 +1,4 @@
 pub mod Keeping
 pub mod Chaining
 pub mod Leaving
+pub mod Listing

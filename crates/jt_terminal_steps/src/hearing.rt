@@ -1,6 +1,6 @@
 //! What a terminal does at the platform's messages.
 
-ghost use Rattle.std.specs.Prelude.{◌≡◌, ◌≤◌, ◌<◌, IfOk, OnOk, OnErr, None, Some, false, length};
+ghost use Rattle.std.specs.Prelude.{◌≡◌, ◌≤◌, ◌<◌, IfOk, IsOk, OnOk, OnErr, None, Some, false, length};
 ghost use Rattle.jt_codec.specs.Bodies.{Fits, body_octets};
 ghost use Rattle.jt_store.specs.Vaults.{Accepts, changed};
 ghost use Rattle.jt_terminal_rule.specs.Messages as messages;
@@ -9,6 +9,7 @@ ghost use Rattle.jt_terminal_rule.specs.Rule as rule;
 ghost use Rattle.jt_terminal_steps.specs.AfterError.{AllTablesOrNone, AreSameParams, AreSameTables, CutLists, lists_of, sets_params_in};
 ghost use Rattle.jt_terminal_steps.specs.Running.{CutShort, IsSame, IsSound, Outside, Ran, accepts_oldest, oldest_is, took};
 ghost use Rattle.jt_terminal_rule.specs.declared.state.GiveUp.TheVariants.{Denied};
+ghost use Rattle.jt_terminal_rule.specs.declared.state.Phase.TheVariants.{Down};
 
 use crate::error::{TerminalError, trouble};
 use crate::window::fills;
@@ -291,6 +292,7 @@ fn responded<V: Vault>(
     ensures ok { IfOk result (λ end. Ran state.old.settings (rule.responded state.old.phase state.old ack (body_octets edition message.now)) state.new (V.holds vault.old) (V.holds vault.new) out.old out.new end) }
     ensures err { OnErr result (CutShort (rule.responded state.old.phase state.old ack (body_octets edition message.now)).steps (V.holds vault.old) (V.holds vault.new)) }
     ensures lists { OnErr result (CutLists (rule.responded state.old.phase state.old ack (body_octets edition message.now)).steps (lists_of state.old) (lists_of state.new)) }
+    ensures quiet { state.old.phase ≡ Down → IsOk result }
     ensures sound { IsSound (V.holds vault.new) state.new }
     ensures same { IsSame state.old state.new }
     ensures tables { AreSameTables state.old state.new }
@@ -325,6 +327,7 @@ fn registered<V: Vault>(
     ensures ok { IfOk result (λ end. Ran state.old.settings (rule.registered state.old.phase state.old reply.now (body_octets edition message.now)) state.new (V.holds vault.old) (V.holds vault.new) out.old out.new end) }
     ensures err { OnErr result (CutShort (rule.registered state.old.phase state.old reply.now (body_octets edition message.now)).steps (V.holds vault.old) (V.holds vault.new)) }
     ensures lists { OnErr result (CutLists (rule.registered state.old.phase state.old reply.now (body_octets edition message.now)).steps (lists_of state.old) (lists_of state.new)) }
+    ensures quiet { state.old.phase ≡ Down → IsOk result }
     ensures sound { IsSound (V.holds vault.new) state.new }
     ensures same { IsSame state.old state.new }
     ensures tables { AreSameTables state.old state.new }
@@ -383,6 +386,7 @@ fn answers_if_live<V: Vault>(
     ensures ok { OnOk result (Ran state.old.settings (rule.answers_if_live state.old.phase state.old (table.answer_to state.old header.now message.now)) state.new (V.holds vault.old) (V.holds vault.new) out.old out.new None) }
     ensures err { OnErr result (CutShort (rule.answers_if_live state.old.phase state.old (table.answer_to state.old header.now message.now)).steps (V.holds vault.old) (V.holds vault.new)) }
     ensures lists { OnErr result (CutLists (rule.answers_if_live state.old.phase state.old (table.answer_to state.old header.now message.now)).steps (lists_of state.old) (lists_of state.new)) }
+    ensures quiet { state.old.phase ≡ Down → IsOk result }
     ensures sound { IsSound (V.holds vault.new) state.new }
     ensures same { IsSame state.old state.new }
     ensures tables { OnErr result (AllTablesOrNone state.old (rule.answers_if_live state.old.phase state.old (table.answer_to state.old header.now message.now)).state state.new) }
@@ -428,6 +432,7 @@ pub fn refuses_if_live<V: Vault>(
     ensures ok { OnOk result (Ran state.old.settings (rule.answers_if_live state.old.phase state.old (table.answer_to_refused state.old header.now)) state.new (V.holds vault.old) (V.holds vault.new) out.old out.new None) }
     ensures err { OnErr result (CutShort (rule.answers_if_live state.old.phase state.old (table.answer_to_refused state.old header.now)).steps (V.holds vault.old) (V.holds vault.new)) }
     ensures lists { OnErr result (CutLists (rule.answers_if_live state.old.phase state.old (table.answer_to_refused state.old header.now)).steps (lists_of state.old) (lists_of state.new)) }
+    ensures quiet { state.old.phase ≡ Down → IsOk result }
     ensures sound { IsSound (V.holds vault.new) state.new }
     ensures same { IsSame state.old state.new }
     ensures tables { AreSameTables state.old state.new }
@@ -476,6 +481,7 @@ pub fn asks_if_live<V: Vault>(
     ensures ok { OnOk result (Ran state.old.settings (rule.answers_if_live state.old.phase state.old (table.answer_to_lack state.old state.old.settings.phone.edition first numbers)) state.new (V.holds vault.old) (V.holds vault.new) out.old out.new None) }
     ensures err { OnErr result (CutShort (rule.answers_if_live state.old.phase state.old (table.answer_to_lack state.old state.old.settings.phone.edition first numbers)).steps (V.holds vault.old) (V.holds vault.new)) }
     ensures lists { OnErr result (CutLists (rule.answers_if_live state.old.phase state.old (table.answer_to_lack state.old state.old.settings.phone.edition first numbers)).steps (lists_of state.old) (lists_of state.new)) }
+    ensures quiet { state.old.phase ≡ Down → IsOk result }
     ensures sound { IsSound (V.holds vault.new) state.new }
     ensures same { IsSame state.old state.new }
     ensures tables { AreSameTables state.old state.new }
@@ -501,6 +507,7 @@ pub fn received<V: Vault>(
     ensures ok { IfOk result (λ end. Ran state.old.settings (rule.received state.old header.now message.now) state.new (V.holds vault.old) (V.holds vault.new) out.old out.new end) }
     ensures err { OnErr result (CutShort (rule.received state.old header.now message.now).steps (V.holds vault.old) (V.holds vault.new)) }
     ensures lists { OnErr result (CutLists (rule.received state.old header.now message.now).steps (lists_of state.old) (lists_of state.new)) }
+    ensures quiet { state.old.phase ≡ Down → IsOk result }
     ensures sound { IsSound (V.holds vault.new) state.new }
     ensures same { IsSame state.old state.new }
     ensures tables { OnErr result (AllTablesOrNone state.old (rule.received state.old header.now message.now).state state.new) }

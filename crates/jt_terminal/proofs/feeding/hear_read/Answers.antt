@@ -1,7 +1,9 @@
 use Rattle.std.proofs.Common.{inl, refl}
 use Rattle.jt_terminal_rule.specs.Rule.{received}
 use Rattle.jt_terminal_steps.proofs.Chaining.{any_err, cut_none}
-use Rattle.jt_terminal_steps.proofs.Leaving.{equal_tables}
+use Rattle.jt_terminal_steps.specs.AfterError.{lists_of}
+use Rattle.jt_terminal_steps.proofs.Leaving.{equal_tables, lists_none}
+use Rattle.jt_terminal.proofs.Idling.{never_fails}
 use Rattle.jt_terminal.proofs.feeding.hear_read.Goals as goal
 
 pub returns-in_err-tell-clause-err : goal.returns-in_err-tell-clause-err
@@ -10,3 +12,9 @@ returns-in_err-tell-clause-err g c =
 
 pub returns-in_err-tell-clause-tables : goal.returns-in_err-tell-clause-tables
 returns-in_err-tell-clause-tables g c = any_err _ (inl (equal_tables c.args.state.now c.args.state.now refl))
+
+pub returns-in_err-tell-clause-lists : goal.returns-in_err-tell-clause-lists
+returns-in_err-tell-clause-lists g c = any_err _ (lists_none (received c.args.state.now c.args.header.now c.args.message.now).steps (lists_of c.args.state.now) (lists_of c.args.state.now) refl)
+
+pub returns-clause-unmoved : goal.returns-clause-unmoved
+returns-clause-unmoved g c = never_fails _ c.received.result c.args.state.now c.received.ensures.quiet
