@@ -46,11 +46,12 @@ UnitDone old now limit key serial id body say.StoreFault = now ≡ old
 UnitDone old now limit key serial id body say.Memory = now ≡ old
 UnitDone old now limit key serial id body reply = ⊥
 
--- the request is a unit, and it is answered so
+-- the request is a unit
 abbrev pub IsUnit : Request → Type 0
 IsUnit (ask.Unit phone serial id body) = Unit {0}
 IsUnit request = ⊥
 
+-- the request is a unit, and this answers it
 abbrev pub UnitIn : Option Tables → Option Tables → ℕ → Request → Reply → Type 0
 UnitIn old now limit (ask.Unit phone serial id body) reply = UnitDone old now limit (key_of phone) serial id body reply
 UnitIn old now limit request reply = ⊥

@@ -39,6 +39,9 @@ const PARAMS: u16 = 0x0104;
 
 const POSITION_REPLY: u16 = 0x0201;
 
+/// The octets of a general response's body (the standard's message body of it).
+const ACK_LENGTH: usize = 5;
+
 /// The results of a general response (the standard's message body of it).
 const SUCCESS: u8 = 0;
 
@@ -87,7 +90,7 @@ fn put(out: &mut Buffer<u8>, octets: &[u8])
 }
 
 // The body of a general response that names the message.
-fn ack_body(header: &Header, outcome: u8) -> ArrayVec<u8, BODY_LIMIT>
+fn ack_body(header: &Header, outcome: u8) -> ArrayVec<u8, ACK_LENGTH>
     ensures octets { result.items ≡ body_octets header.now.edition (ack header.now outcome) }
     ensures short { length result.items ≡ 5 }
 {

@@ -34,7 +34,8 @@ pub record Scene : Type 0 where
 abbrev pub scene : Splitting → List Partial → State → Option Held → List (List ℕ) → List ℕ → Scene
 scene stream partial state held out told = record { stream = stream; partial = partial; state = state; held = held; out = out; told = told }
 
--- the octets were fed, and the terminal did what it does at their items
+-- the octets were fed, and the terminal did what it does at their items; and the lists behind them are those that the steps make,
+-- as the rule has it, which is carried along since it is known item by item
 pub record HasFed (old now : Scene) (octets : List ℕ) (end : Option GiveUp) : Type 0 where
   pub gone : List Unplaced
   pub brings : Brings old.stream now.stream octets gone

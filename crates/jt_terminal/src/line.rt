@@ -82,7 +82,7 @@ impl TerminalLine {
         ensures settings { terminal.new.state.settings ≡ terminal.old.state.settings }
         ensures time { terminal.new.state.time ≡ terminal.old.state.time }
         ensures last { terminal.new.state.last ≡ terminal.old.state.last }
-        // Without a line, as once the terminal gave up, no octets change anything, whatever line they come on.
+        // Without a line, as once the terminal gave up, no octets change its state or what its vault holds, whatever line they come on.
         ensures gave_up { IfOk result (λ actions. IsSome actions.end → IsDown terminal.new.state) }
         ensures unmoved { IsDown terminal.old.state → (terminal.new.state ≡ terminal.old.state) × (V.holds terminal.new.vault ≡ V.holds terminal.old.vault) }
         ensures silent { IsDown terminal.old.state → IfOk result (λ actions. (actions.frames ≡ []) × (actions.end ≡ None) × (actions.told ≡ [])) }

@@ -29,22 +29,23 @@ const SERVING: usize = 1;
 /// two, so that callers who look at it do not slow the one who acts.
 const LOCK: usize = 8;
 
+/// So many words that the lock has some behind it.
 const WORDS: usize = 16;
 
 /// What the lock says where nobody has it.
 const FREE: u64 = 0;
 
-/// Somebody has it, and nobody sleeps.
+/// Somebody has it, and need wake nobody: who still sleeps is looked after by one who was woken.
 const TAKEN: u64 = 1;
 
-/// Somebody has it, and others may sleep.
+/// Somebody has it, and others may sleep, of whom one is to be woken.
 const CONTENDED: u64 = 2;
 
 /// The slot with the desk.
 const DESK: usize = 0;
 
 /// How often a caller looks at the lock before it sleeps, each time that it comes or is woken.
-const MOST_LOOKS: u32 = 400;
+const MOST_LOOKS: u32 = 200;
 
 /// One desk that many callers share, each by a pass of its own. They come to it one at a time, and which of those that wait
 /// comes next is not said.
@@ -132,7 +133,8 @@ impl<D: Desk> Turn<D> {
         }
     }
 
-    /// The desk acts once, for the session of the pass's number. It may wait for other callers.
+    /// The desk acts once, for the session of the pass's number. It may wait for other callers, and one that comes later may act
+    /// before it.
     pub fn act<R: Wait>(&self, rt: &R, pass: &mut Pass<D>, ask: &D::Ask) -> D::Answer
         requires turn { pass.old.turn ≡ self.now }
         ensures found { IsPrefix pass.old.seen pass.new.found }
@@ -207,7 +209,7 @@ impl<D: Desk> Turn<D> {
     {
         let mut taken = TAKEN;
         for _ in rt.forever() {
-            if self.finds_free(seat, taken) || self.swap_lock(seat, CONTENDED) == FREE {
+            if self.take_soon(seat, taken) || self.swap_lock(seat, CONTENDED) == FREE {
                 return;
             }
             self.table.shared.park(rt, LOCK, CONTENDED as u32);
@@ -217,8 +219,8 @@ impl<D: Desk> Turn<D> {
         unreachable!()
     }
 
-    // Looks at the lock until it is taken here, which it then says, or was looked at often enough. Tells whether it was taken.
-    fn finds_free(
+    // Takes the lock, with this word in it, where it is found free within some looks. Tells whether it was taken.
+    fn take_soon(
         &self,
         seat: &mut Seat<Option<D>, Option<Known<D::Ask, D::Answer, D::Opening>>>,
         mut taken: u64,
@@ -235,6 +237,7 @@ impl<D: Desk> Turn<D> {
                         return true;
                     }
                 }
+                // Whoever takes it next goes on waking.
                 CONTENDED => taken = CONTENDED,
                 _ => {}
             }
@@ -275,7 +278,7 @@ impl<D: Desk> Turn<D> {
         self.table.shared.swap::<Same<D>>(seat, LOCK, new)
     }
 
-    // Leaves the lock, and wakes one of those that sleep at it.
+    // Leaves the lock, and wakes one of those that sleep at it, where it says that there may be any.
     fn unlock(&self, seat: &mut Seat<Option<D>, Option<Known<D::Ask, D::Answer, D::Opening>>>)
         requires table { seat.old.table_id ≡ self.now }
         requires idle { (k : Known D.Ask D.Answer D.Opening) × (seat.old.me ≡ (Some k, [])) }
@@ -296,7 +299,7 @@ impl<D: Desk> Turn<D> {
         self.table.shared.fetch_add::<Draw<D>>(seat, TICKET, 1)
     }
 
-    // Looks until the ticket is served, which it is at the first look while every caller comes by the lock.
+    // Looks until the ticket is served. All callers come by the lock, so the first look finds it; that rests on reading alone.
     fn wait<R: Wait>(
         &self,
         rt: &R,
