@@ -70,6 +70,7 @@ pub fn both_ask<R: Threads + Wait + Sync>(
         limit: MOST_ASKS,
         entries: Seq::new(alloc),
         faults: 0,
+        pauses: 0,
     };
     let (turn, mut pass) = Turn::begin(alloc, desk).ok()?;
     let one = turn.split(&mut pass, 1).ok()?;

@@ -2,6 +2,7 @@
 
 use jt_turn::{Desk, Entry};
 use jt_value::Seq;
+use std::hint::spin_loop;
 
 /// The most asks that any such desk counts.
 pub const MOST_ASKS: u64 = 1 << 40;
@@ -17,6 +18,14 @@ pub struct CountingDesk {
     pub entries: Seq<Entry<u64, Option<u64>>>,
     /// How many asks it did not count, at most 2^64 - 1.
     pub faults: u64,
+    /// So many times it pauses before each answer, so that other callers have to wait for it.
+    pub pauses: u32,
+}
+
+fn pause(times: u32) {
+    for _ in 0..times {
+        spin_loop();
+    }
 }
 
 impl Desk for CountingDesk {
@@ -42,6 +51,7 @@ impl Desk for CountingDesk {
     ghost enters = { λ answer. is_some answer };
 
     fn act(&mut self, session: u32, ask: &u64) -> Option<u64> {
+        pause(self.pauses);
         let count = self.entries.len() as u64;
         if count < self.limit && count < MOST_ASKS {
             let answer = Some(self.from as u64 + count);

@@ -108,13 +108,14 @@ pub fn all_ask<R: Threads + Wait + Sync>(
     )
 }
 
-/// A turn over a new desk, which so many threads ask. What the history has of each one's number is what it was told. None:
+/// A turn over a new desk, which pauses so many times before each answer, and which so many threads ask. What the history has of each one's number is what it was told. None:
 /// memory or a thread was wanted and refused.
 pub fn served<R: Threads + Wait + Sync>(
     rt: &R,
     alloc: Global,
     threads: u32,
     times: u64,
+    pauses: u32,
 ) -> Option<(CountingDesk, Vec<Told>)>
     ensures { IfSome result (λ back. AllTold back.0.entries back.1.items) }
 {
@@ -123,6 +124,7 @@ pub fn served<R: Threads + Wait + Sync>(
         limit: MOST_ASKS,
         entries: Seq::new(alloc),
         faults: 0,
+        pauses,
     };
     let (turn, pass) = Turn::begin(alloc, desk).ok()?;
     let (pass, reports) = all_ask(rt, alloc, &turn, pass, threads, times)?;

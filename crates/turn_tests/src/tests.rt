@@ -31,9 +31,10 @@ fn two_threads_ask_a_thousand_times_each(rt: HostRuntime) -> Result<(), Fail> {
     Ok(())
 }
 
+// The desk pauses for longer than a caller looks before it sleeps, so this ends only where whoever leaves wakes a sleeper.
 #[test]
 fn twenty_threads_ask(rt: HostRuntime) -> Result<(), Fail> {
-    let (desk, reports) = served(&rt, rt.alloc(), 20, 100).ok_or("memory")?;
+    let (desk, reports) = served(&rt, rt.alloc(), 20, 100, 2000).ok_or("memory")?;
     assert_eq!(rt; desk.entries.len(), 2000);
     assert_eq!(rt; reports.len(), 20);
     for report in reports.iter() {
@@ -50,6 +51,7 @@ fn asks_beyond_the_limit_are_faults(rt: HostRuntime) -> Result<(), Fail> {
         limit: 2,
         entries: Seq::new(rt.alloc()),
         faults: 0,
+        pauses: 0,
     };
     let (turn, mut pass) = Turn::begin(rt.alloc(), desk).ok().ok_or("memory")?;
     let answers = [Some(5), Some(6), None, None, None];
