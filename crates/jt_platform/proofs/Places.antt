@@ -26,19 +26,27 @@ same_pair s t key other = same_then (nat_cmp s t) (slice_cmp nat_cmp key other) 
 
 -- ---- what is told after a place was set
 
+-- the place of a session and a phone says this now, and all others what they said
+abbrev pub SetsLive : (old new : Indexed) → ℕ → Bool → List ℕ → Type 0
+SetsLive old new session v key = (other : List ℕ) (s : ℕ) → live_place new other s ≡ (if is_eq (ordering_then (nat_cmp session s) (slice_cmp nat_cmp key other)) then Some v else live_place old other s)
+
+-- the place of a phone has this session now, and all others what they had
+abbrev pub SetsHolder : (old new : Indexed) → ℕ → List ℕ → Type 0
+SetsHolder old new session key = (other : List ℕ) → holder_place new other ≡ (if is_eq (slice_cmp nat_cmp key other) then Some (Some session) else holder_place old other)
+
 read : {V : Type 0} (b : Bool) (v none : V) (found now : Option V) → now ≡ (if b then Some v else found) → unwrap_or now none ≡ (if b then v else unwrap_or found none)
 read true v none found now is = ap (λ o. unwrap_or o none) is
 read false v none found now is = ap (λ o. unwrap_or o none) is
 
 lives_set : (old new : Indexed) (session : ℕ) (key : List ℕ) (v : Bool)
-    → ((other : List ℕ) (s : ℕ) → live_place new other s ≡ (if is_eq (ordering_then (nat_cmp session s) (slice_cmp nat_cmp key other)) then Some v else live_place old other s))
+    → SetsLive old new session v key
     → (other : List ℕ) (s : ℕ) → live_in new other s ≡ (if (session == s) && same_key key other then v else live_in old other s)
 lives_set old new session key v set other s =
     read (is_eq (ordering_then (nat_cmp session s) (slice_cmp nat_cmp key other))) v false (live_place old other s) (live_place new other s) (set other s)
     ∙ ap (λ b. if b then v else live_in old other s) (same_pair session s key other)
 
 holders_set : (old new : Indexed) (session : ℕ) (key : List ℕ)
-    → ((other : List ℕ) → holder_place new other ≡ (if is_eq (slice_cmp nat_cmp key other) then Some (Some session) else holder_place old other))
+    → SetsHolder old new session key
     → (other : List ℕ) → holder_in new other ≡ (if same_key key other then Some session else holder_in old other)
 holders_set old new session key set other =
     read (is_eq (slice_cmp nat_cmp key other)) (Some session) None (holder_place old other) (holder_place new other) (set other)
@@ -54,8 +62,8 @@ left false w x y is = refl
 
 -- a session that was not live for the phone takes it
 pub lets_in : (old new : Indexed) (session : ℕ) (key : List ℕ) → live_in old key session ≡ false → new.closes ≡ old.closes
-    → ((other : List ℕ) (s : ℕ) → live_place new other s ≡ (if is_eq (ordering_then (nat_cmp session s) (slice_cmp nat_cmp key other)) then Some true else live_place old other s))
-    → ((other : List ℕ) → holder_place new other ≡ (if is_eq (slice_cmp nat_cmp key other) then Some (Some session) else holder_place old other)) → LetsIn old new session key
+    → SetsLive old new session true key
+    → SetsHolder old new session key → LetsIn old new session key
 lets_in old new session key was closes lives holders =
     record {
       closes = closes;
@@ -65,7 +73,7 @@ lets_in old new session key was closes lives holders =
 
 -- one that was live for it takes nothing
 pub lets_in_again : (old new : Indexed) (session : ℕ) (key : List ℕ) → live_in old key session ≡ true → new.closes ≡ old.closes
-    → ((other : List ℕ) (s : ℕ) → live_place new other s ≡ (if is_eq (ordering_then (nat_cmp session s) (slice_cmp nat_cmp key other)) then Some true else live_place old other s))
+    → SetsLive old new session true key
     → new.holders ≡ old.holders → LetsIn old new session key
 lets_in_again old new session key was closes lives holders =
     record {
@@ -76,7 +84,7 @@ lets_in_again old new session key was closes lives holders =
     }
 
 pub lets_out : (old new : Indexed) (session : ℕ) (key : List ℕ) → new.closes ≡ old.closes
-    → ((other : List ℕ) (s : ℕ) → live_place new other s ≡ (if is_eq (ordering_then (nat_cmp session s) (slice_cmp nat_cmp key other)) then Some false else live_place old other s))
+    → SetsLive old new session false key
     → new.holders ≡ old.holders → LetsOut old new session key
 lets_out old new session key closes lives holders =
     record { closes = closes; lives = lives_set old new session key false lives; holders = holders }

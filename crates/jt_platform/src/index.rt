@@ -6,17 +6,16 @@ ghost use Rattle.jt_platform.specs.Index.{Indexed, empty, holder_in, live_in, cl
 
 use crate::lookup::Lookup;
 use crate::request::{Reply, Request};
+use jt_store::Digits;
 use jt_value::{Memory, Phone};
 use std::alloc::Global;
 use std::marker::Model;
 
-type Key = [u8; 10];
-
 // Each request looks up or sets a few places, so it costs the logarithm of how many there are.
 #[derive(Drop)]
 pub(crate) struct Index {
-    holders: Lookup<Key, Option<u32>>,
-    lives: Lookup<(u32, Key), bool>,
+    holders: Lookup<Digits, Option<u32>>,
+    lives: Lookup<(u32, Digits), bool>,
     closes: Lookup<u32, bool>,
 }
 
@@ -26,6 +25,12 @@ impl Model for Index {
     ghost Value = { Indexed };
 
     ghost view = { λ x. record { holders = x.holders; lives = x.lives; closes = x.closes } };
+}
+
+fn digits(phone: &Phone) -> Digits
+    ensures { result ≡ key_of phone.now }
+{
+    Digits::of(&phone.digits)
 }
 
 impl Index {
@@ -42,7 +47,7 @@ impl Index {
     pub(crate) fn holder(&self, phone: &Phone) -> Option<u32>
         ensures { result ≡ holder_in self.now (key_of phone.now) }
     {
-        match self.holders.get(&phone.digits) {
+        match self.holders.get(&digits(phone)) {
             Some(holder) => *holder,
             None => None,
         }
@@ -51,7 +56,7 @@ impl Index {
     pub(crate) fn is_live(&self, phone: &Phone, session: u32) -> bool
         ensures { result ≡ live_in self.now (key_of phone.now) session }
     {
-        match self.lives.get(&(session, phone.digits)) {
+        match self.lives.get(&(session, digits(phone))) {
             Some(live) => *live,
             None => false,
         }
@@ -91,8 +96,8 @@ impl Index {
         ensures live { OnOk result (IsSome (live_place self.new (key_of phone.now) session)) }
         ensures keeps { Keeps self.old self.new }
     {
-        self.holders.place(phone.digits, None)?;
-        self.lives.place((session, phone.digits), false)
+        self.holders.place(digits(phone), None)?;
+        self.lives.place((session, digits(phone)), false)
     }
 
     // Tells of an entry, whose places are made.
@@ -115,11 +120,11 @@ impl Index {
         ensures { LetsIn self.old self.new session (key_of phone.now) }
     {
         let was = self.is_live(phone, session);
-        let Ok(()) = self.lives.set((session, phone.digits), true) else {
+        let Ok(()) = self.lives.set((session, digits(phone)), true) else {
             unreachable!();
         };
         if !was {
-            let Ok(()) = self.holders.set(phone.digits, Some(session)) else {
+            let Ok(()) = self.holders.set(digits(phone), Some(session)) else {
                 unreachable!();
             };
         }
@@ -130,7 +135,7 @@ impl Index {
         ensures { LetsOut self.old self.new session (key_of phone.now) }
     {
         if self.is_live(phone, session) {
-            let Ok(()) = self.lives.set((session, phone.digits), false) else {
+            let Ok(()) = self.lives.set((session, digits(phone)), false) else {
                 unreachable!();
             };
         }

@@ -10,8 +10,9 @@ ghost use Rattle.jt_session.specs.Talk.{ack, answer_to, frame_said, header_to, r
 ghost use Rattle.jt_session.specs.Talk as talk;
 ghost use Rattle.jt_session.specs.Replies.{HasRoomFor};
 
+use crate::framing::put_frame;
 use arrayvec::ArrayVec;
-use jt_codec::{frame_into, law_of_acks};
+use jt_codec::law_of_acks;
 use jt_header::{BODY_LIMIT, Header};
 use jt_platform::Reply;
 use jt_subpacket::Assembler;
@@ -74,19 +75,6 @@ impl Model for Kept {
     ghost coded = { Prim.hlevel (codes, partial_code) };
 
     ghost view = { λ k. record { phone = k.phone; partial = k.assembler; serial = k.serial; frames = k.frames; refused = k.refused; dropped = k.dropped } };
-}
-
-// Puts octets for which there is room.
-fn put(out: &mut Buffer<u8>, octets: &[u8])
-    requires { length octets.now ≤ out.old.spare }
-    ensures items { out.new.items ≡ out.old.items ++ octets.now }
-    ensures spare { out.new.spare ≡ out.old.spare - length octets.now }
-{
-    for octet in octets {
-        let Ok(()) = out.push(*octet) else {
-            unreachable!();
-        };
-    }
 }
 
 // The body of a general response that names the message.
@@ -169,9 +157,7 @@ impl Kept {
             serial: self.serial,
             packet: None,
         };
-        let mut frame = ArrayVec::new();
-        frame_into(&answer, body, &mut frame);
-        put(out, frame.as_slice());
+        put_frame(out, &answer, body);
         self.serial = self.serial.wrapping_add(1);
     }
 

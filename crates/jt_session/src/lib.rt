@@ -4,6 +4,7 @@
 mod counts;
 mod end;
 mod feeding;
+mod framing;
 mod hearing;
 mod kept;
 mod laws;

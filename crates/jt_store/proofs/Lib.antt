@@ -1,6 +1,7 @@
 pub mod Joining
 pub mod Migrations
 pub mod Nearness
+pub mod Numbers
 pub mod Pairs
 pub mod Placing
 pub mod Registering

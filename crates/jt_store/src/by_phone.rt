@@ -4,6 +4,7 @@ ghost use Rattle.std.specs.Prelude.{◌≡◌, ℕ, List, [], ◌∷◌, ◌++�
 ghost use Rattle.jt_value.specs.Sameness.{same_key};
 ghost use Rattle.jt_store.specs.Memory.{list_under, under};
 
+use crate::digits::Digits;
 use jt_value::{Memory, Seq};
 use std::alloc::Global;
 use std::collections::BTreeMap;
@@ -15,7 +16,7 @@ pub type Key = [u8; 10];
 /// A value for each of some phones, by their digits.
 #[derive(Drop)]
 pub struct ByPhone<T> {
-    values: BTreeMap<Key, T>,
+    values: BTreeMap<Digits, T>,
 }
 
 impl<T> Model for ByPhone<T> {
@@ -40,7 +41,7 @@ impl<T> ByPhone<T> {
     pub fn get(&self, key: &Key) -> Option<&T>
         ensures { option_copied result ≡ under self.now key.now }
     {
-        self.values.get(key)
+        self.values.get(&Digits::of(key))
     }
 
     /// Sets the value of a phone, and answers the one that it had.
@@ -51,7 +52,7 @@ impl<T> ByPhone<T> {
         ensures ok { OnOk result ((q : List ℕ) → under self.new q ≡ (if same_key key q then Some value else under self.old q)) }
         ensures err { OnErr result (self.new ≡ self.old) }
     {
-        let was = self.values.insert(key, value)?;
+        let was = self.values.insert(Digits::of(&key), value)?;
         Ok(was)
     }
 
@@ -60,7 +61,7 @@ impl<T> ByPhone<T> {
         ensures value { result ≡ under self.old key.now }
         ensures others { (q : List ℕ) → under self.new q ≡ (if same_key key.now q then None else under self.old q) }
     {
-        self.values.remove(key)
+        self.values.remove(&Digits::of(key))
     }
 }
 
@@ -72,7 +73,8 @@ impl<T> ByPhone<Seq<T>> {
         ensures ok { OnOk result ((q : List ℕ) → list_under self.new q ≡ list_under self.old q ++ (if same_key key q then item ∷ [] else [])) }
         ensures err { OnErr result ((q : List ℕ) → list_under self.new q ≡ list_under self.old q) }
     {
-        match self.values.get_mut(&key) {
+        let digits = Digits::of(&key);
+        match self.values.get_mut(&digits) {
             Some(list) => {
                 list.push(item)?;
                 return Ok(());
@@ -81,7 +83,7 @@ impl<T> ByPhone<Seq<T>> {
         }
         let mut list = Seq::new(alloc);
         list.push(item)?;
-        self.values.insert(key, list)?;
+        self.values.insert(digits, list)?;
         Ok(())
     }
 }

@@ -3,6 +3,7 @@
 
 mod by_phone;
 mod calls;
+mod digits;
 mod error;
 mod keeper;
 mod law;
@@ -16,6 +17,7 @@ mod rows;
 mod unit;
 mod vault;
 
+pub use digits::Digits;
 pub use error::StoreError;
 pub use keeper::Keeper;
 pub use law::law_verdicts;
