@@ -8,7 +8,7 @@ use Rattle.std.proofs.lemmas.List.{append-nil, take-append-le, take-append-drop,
 use Rattle.jt_escape.specs.declared.splitter.Mode.{Mode}
 use Rattle.jt_escape.specs.declared.splitter.Mode.TheVariants as modes
 use Rattle.jt_escape.specs.Span.{Event, HasNoFlag, Events}
-use Rattle.jt_escape.specs.Scan.{State, start, after, events_of, run, scan, IsPlain, keeping, passing, gathering, standing, keeping_all, passing_all, opening, lasting, Runs, RunsInPlace}
+use Rattle.jt_escape.specs.Scan.{State, start, after, events_of, run, scan, IsPlain, keeping, passing, gathering, standing, StandsAtFront, keeping_all, passing_all, opening, lasting, Runs, RunsInPlace}
 use Rattle.jt_escape.specs.Splitter.{Takes, TakesInPlace, IsSilent, IsSilentInPlace}
 use Rattle.jt_escape.proofs.Scanning.{at}
 use Rattle.jt_escape.proofs.Reading.{scan-append, run-append, events_held, events_only}
@@ -155,6 +155,15 @@ plain_runs old new piece is room some flag escape e place =
     Runs-next here here (standing new (place + 1)) piece 0 [] some (Runs-none here)
     (gathered_there old new (get_or piece 0 0) place (place + 1) is e refl ∙ sym kept.0 ∙ ap (λ (state : State). after state (get_or piece 0 0)) (sym at_here))
     (sym (ap (λ (state : State). events_of state (get_or piece 0 0)) at_here ∙ kept.1))
+
+-- an octet of content that stands at the front
+pub front_runs : (old new : State) (piece : List ℕ) (count octet : ℕ) → old.mode ≡ modes.Inside → length old.content < 1045 → 1 < length piece
+    → StandsAtFront (get_or piece 0 0) (get_or piece 1 0) count octet → new ≡ gathering old octet → (place : ℕ) → Runs (standing old place) (standing new (place + count)) (take count piece) []
+front_runs old new piece count octet is room two (inl h) e place =
+    subst (λ (n : ℕ). Runs (standing old place) (standing new (place + n)) (take n piece) []) (sym h.0) (escape_runs old new piece octet is room two h.1 h.2 e place)
+front_runs old new piece count octet is room two (inr h) e place =
+    subst (λ (n : ℕ). Runs (standing old place) (standing new (place + n)) (take n piece) []) (sym h.0)
+    (plain_runs old new piece is room (omega (arith, two)) h.1 h.2 (e ∙ ap (gathering old) h.3) place)
 
 -- ---- what a run is to the streams
 

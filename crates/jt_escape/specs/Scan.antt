@@ -1,6 +1,6 @@
 -- Going through a stream octet by octet: the state that is kept, the next state, and the events on the way. A step
 -- function for the proofs.
-use Rattle.std.specs.Prelude.{◌≡◌, ◌≢◌, Option, Some, None, ℕ, ◌+◌, ◌<◌, List, [], ◌∷◌, ◌++◌, length, take, ◌==◌, if◌then◌else◌}
+use Rattle.std.specs.Prelude.{◌≡◌, ◌≢◌, ◌⊎◌, Option, Some, None, ℕ, ◌+◌, ◌<◌, List, [], ◌∷◌, ◌++◌, length, take, ◌==◌, if◌then◌else◌}
 use Rattle.jt_value.specs.declared.refusal.Why.TheVariants as why
 use Rattle.jt_value.specs.declared.refusal.Refusal.{Refusal}
 use Rattle.jt_escape.specs.declared.splitter.Mode.{Mode}
@@ -33,6 +33,12 @@ keeping state octet =
 -- the octet is put behind the content, and no octet of the stream is taken
 abbrev pub gathering : State → ℕ → State
 gathering state octet = record state { content = state.content ++ octet ∷ [] }
+
+-- an octet of content stands in so many octets, of which there are two at least: by an escape in both, or for itself in the first
+abbrev pub StandsAtFront : (first second count octet : ℕ) → Type 0
+StandsAtFront first second count octet =
+    ((count ≡ 2) × (first ≡ 0x7D) × (((second ≡ 0x01) × (octet ≡ 0x7D)) ⊎ ((second ≡ 0x02) × (octet ≡ 0x7E))))
+    ⊎ ((count ≡ 1) × (first ≢ 0x7E) × (first ≢ 0x7D) × (octet ≡ first))
 
 -- the state at another place of a stream
 abbrev pub standing : State → ℕ → State

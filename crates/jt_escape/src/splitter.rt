@@ -4,13 +4,14 @@ ghost use Rattle.std.specs.Prelude.{◌≡◌, ◌⊎◌, ◌<◌, ◌≤◌, �
 ghost use Rattle.jt_value.specs.declared.refusal.Refusal.{Refusal};
 ghost use Rattle.jt_escape.specs.declared.splitter.Mode.TheVariants.{Outside, Straying, Inside, Escaping, Skipping};
 ghost use Rattle.jt_escape.specs.Span.{Ends, HasNoFlag, IsContent, refusal_at};
-ghost use Rattle.jt_escape.specs.Scan.{State, opening, passing, passing_all, keeping, keeping_all, gathering, standing, lending, after_in, after, events_in, events_of, end_in, IsPlain, Runs, RunsInPlace};
+ghost use Rattle.jt_escape.specs.Scan.{State, opening, passing, passing_all, keeping, keeping_all, gathering, standing, lending, after_in, after, events_in, events_of, end_in, IsPlain, Runs, RunsInPlace, StandsAtFront};
 ghost use Rattle.jt_escape.specs.Splitter.{StandsFor, Continues, Takes, TakesInPlace, IsSilent, IsSilentInPlace, told, lent, told_in_place};
 
 use crate::framing::{CONTENT_LIMIT, ESCAPE, ESCAPE_CODE, FLAG, FLAG_CODE};
 use arrayvec::ArrayVec;
 use jt_value::{Refusal, Why};
 use memchr::{memchr, memchr2};
+use std::hint::select_unpredictable;
 use std::marker::Model;
 
 // Escapes with fewer octets than this between them are near one another: a search takes about as long as so many octets.
@@ -106,6 +107,22 @@ fn unescaped(code: u8) -> Option<u8>
         FLAG_CODE => Some(FLAG),
         _ => None,
     }
+}
+
+// The octet of content that stands at the front of two, and how many of them it takes: None where a flag or a wrong escape
+// stands there. No branch depends on whether it is an escape, since nothing foretells that.
+#[inline(always)]
+fn front(octet: u8, code: u8) -> Option<(usize, u8)>
+    ensures { IfSome result (λ found. StandsAtFront octet code found.0 found.1) }
+{
+    let escapes = octet == ESCAPE;
+    let wrong = escapes & (code != ESCAPE_CODE) & (code != FLAG_CODE);
+    if (octet == FLAG) | wrong {
+        return None;
+    }
+    let escaped = select_unpredictable(code == FLAG_CODE, FLAG, ESCAPE);
+    let count = select_unpredictable(escapes, 2, 1);
+    Some((count, select_unpredictable(escapes, escaped, octet)))
 }
 
 // How many octets stand behind the opening flag before the next flag or escape. The search goes no further than the longest
@@ -346,26 +363,27 @@ impl Splitter {
         }
     }
 
-    // Gathers the next octet of a content, where there is one and room for it: how many octets it takes. The place is not
-    // moved.
+    // Gathers the octet that stands at the front of two or more, where it is one of content and there is room for it: how many
+    // octets it takes. The place is not moved.
     #[inline(always)]
     fn gather_next(&mut self, octets: &[u8]) -> usize
         requires mode { self.old.mode ≡ Inside }
-        requires some { 0 < length octets.now }
+        requires some { 1 < length octets.now }
         ensures within { result ≤ length octets.now }
         ensures mode { self.new.mode ≡ Inside }
         ensures place { self.new.place ≡ self.old.place }
         ensures runs { (place : ℕ) → Runs (standing self.old place) (standing self.new (place + result)) (take result octets.now) [] }
     {
-        let octet = octets[0];
-        if octet == FLAG || self.content.is_full() {
+        if self.content.is_full() {
             return 0;
         }
-        if octet == ESCAPE {
-            return self.gather_escape(octets);
+        match front(octets[0], octets[1]) {
+            None => 0,
+            Some((count, octet)) => {
+                self.gather(octet);
+                count
+            }
         }
-        self.gather(octet);
-        1
     }
 
     // Gathers content octets one by one, as long as escapes stand near one another: how many octets they take. The place is
@@ -380,12 +398,12 @@ impl Splitter {
     {
         let mut taken = 0;
         let mut plain = 0;
-        while taken < octets.len() && plain < NEAR {
+        while taken + 1 < octets.len() && plain < NEAR {
             let count = self.gather_next(&octets[taken..]);
             if count == 0 {
                 return taken;
             }
-            plain = if count == 1 { plain + 1 } else { 0 };
+            plain = select_unpredictable(count == 1, plain + 1, 0);
             taken += count;
         }
         taken
