@@ -12,6 +12,9 @@ use crate::writer::Writer;
 use jt_value::{CodecError, Memory, Seq};
 use std::alloc::Global;
 
+/// For so many elements of a list at most room is made at once, whatever its count says (this project's own).
+const MOST_AT_ONCE: usize = 64;
+
 /// A value that stands in lists, with its layout.
 pub trait Element: Drop {
     ghost layout: { Part Self };
@@ -100,6 +103,7 @@ impl<'a> Reader<'a> {
         ensures octets { self.new.octets ≡ self.old.octets }
     {
         let mut list = Seq::new(alloc);
+        list.reserve(count.min(self.left()).min(MOST_AT_ONCE))?;
         for _ in 0..count {
             let element = T::read(alloc, self)?;
             list.push(element)?;

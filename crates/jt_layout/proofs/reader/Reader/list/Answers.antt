@@ -6,7 +6,7 @@ use Rattle.jt_layout.proofs.reader.Reader.list.Goals as goal
 
 pub returns-in_err-element-clause-value : goal.returns-in_err-element-clause-value
 returns-in_err-element-clause-value g c =
-    let p = err_from_is_err_and c.from_residual.result c.from_residual.ensures.1 in
+    let p = err_from_is_err_and c.from_residual-in_err-element.result c.from_residual-in_err-element.ensures.1 in
     let failed = rw c.loop.invariant.octets at c.in_err-element.ensures.value in
     rw (p.1, p.2) (times_fails (g.T.Element.layout).read c.args.self.now.octets c.in_err-element.field-0.0 c.loop.list c.args.count c.loop.counter c.loop.self.place (read_times (g.T.Element.layout).read c.args.count c.args.self.now.octets c.args.self.now.place) c.loop-test.true failed c.loop.invariant.so_far)
 
