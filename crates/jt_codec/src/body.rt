@@ -20,9 +20,10 @@ use crate::position_reply::write_position_reply;
 use crate::regions::write_region_ids;
 use crate::resend::write_resend;
 use crate::rows::{
-    auth_row, batch_row, circles_row, control_row, kind_text_row, params_row, polygon_row,
-    position_reply_row, position_row, query_some_row, rectangles_row, register_reply_row,
-    register_row, resend_row, route_row, set_params_row, terminal_resend_row, text_row, track_row,
+    auth_row, batch_row, circles_row, control_row, kind_text_row, opaque_row, params_row,
+    polygon_row, position_reply_row, position_row, query_some_row, rectangles_row,
+    register_reply_row, register_row, resend_row, route_row, set_params_row, terminal_resend_row,
+    text_row, track_row,
 };
 use crate::text::{write_octet_and_text, write_text};
 use crate::track::write_track;
@@ -48,67 +49,75 @@ fn delete_message(kind: RegionKind, deletion: Deletion) -> Message
 fn read_row(alloc: Global, edition: Edition, id: u16, octets: &[u8]) -> Result<Message, CodecError>
     ensures { Answers (body edition id) octets.now result }
 {
-    match (edition, id) {
-        (_, TERMINAL_ACK) => {
+    match id {
+        TERMINAL_ACK => {
             let (reply, id, result) = read_ack(octets)?;
             Ok(Message::TerminalAck { reply, id, result })
         }
-        (_, PLATFORM_ACK) => {
+        PLATFORM_ACK => {
             let (reply, id, result) = read_ack(octets)?;
             Ok(Message::PlatformAck { reply, id, result })
         }
-        (_, HEARTBEAT) => {
+        HEARTBEAT => {
             read_empty(octets)?;
             Ok(Message::Heartbeat)
         }
-        (_, DEREGISTER) => {
+        DEREGISTER => {
             read_empty(octets)?;
             Ok(Message::Deregister)
         }
-        (Edition::E2019, TERMINAL_RESEND) => terminal_resend_row(alloc, edition, octets),
-        (_, RESEND) => resend_row(alloc, edition, octets),
-        (_, REGISTER) => register_row(alloc, edition, octets),
-        (_, REGISTER_REPLY) => register_reply_row(alloc, octets),
-        (_, AUTH) => auth_row(alloc, edition, octets),
-        (_, SET_PARAMS) => set_params_row(alloc, octets),
-        (_, QUERY_PARAMS) => {
+        TERMINAL_RESEND => match edition {
+            Edition::E2013 => opaque_row(alloc, id, octets),
+            Edition::E2019 => terminal_resend_row(alloc, edition, octets),
+        },
+        RESEND => resend_row(alloc, edition, octets),
+        REGISTER => register_row(alloc, edition, octets),
+        REGISTER_REPLY => register_reply_row(alloc, octets),
+        AUTH => auth_row(alloc, edition, octets),
+        SET_PARAMS => set_params_row(alloc, octets),
+        QUERY_PARAMS => {
             read_empty(octets)?;
             Ok(Message::QueryParams)
         }
-        (_, QUERY_SOME) => query_some_row(alloc, octets),
-        (_, PARAMS) => params_row(alloc, octets),
-        (_, POSITION) => position_row(alloc, octets),
-        (_, POSITION_REPLY) => position_reply_row(alloc, octets),
-        (_, QUERY_POSITION) => {
+        QUERY_SOME => query_some_row(alloc, octets),
+        PARAMS => params_row(alloc, octets),
+        POSITION => position_row(alloc, octets),
+        POSITION_REPLY => position_reply_row(alloc, octets),
+        QUERY_POSITION => {
             read_empty(octets)?;
             Ok(Message::QueryPosition)
         }
-        (_, TRACK) => track_row(octets),
-        (_, BATCH) => batch_row(alloc, octets),
-        (Edition::E2013, TEXT) => text_row(alloc, octets),
-        (Edition::E2019, TEXT) => kind_text_row(alloc, octets),
-        (_, CONTROL) => control_row(alloc, octets),
-        (Edition::E2013, CIRCLES) => circles_row(alloc, octets),
-        (Edition::E2013, RECTANGLES) => rectangles_row(alloc, octets),
-        (Edition::E2013, POLYGON) => polygon_row(alloc, octets),
-        (Edition::E2013, ROUTE) => route_row(alloc, octets),
-        (_, DELETE_CIRCLES) => Ok(delete_message(
-            RegionKind::Circle,
-            read_deletion(alloc, octets)?,
-        )),
-        (_, DELETE_RECTANGLES) => Ok(delete_message(
+        TRACK => track_row(octets),
+        BATCH => batch_row(alloc, octets),
+        TEXT => match edition {
+            Edition::E2013 => text_row(alloc, octets),
+            Edition::E2019 => kind_text_row(alloc, octets),
+        },
+        CONTROL => control_row(alloc, octets),
+        CIRCLES => match edition {
+            Edition::E2013 => circles_row(alloc, octets),
+            Edition::E2019 => opaque_row(alloc, id, octets),
+        },
+        RECTANGLES => match edition {
+            Edition::E2013 => rectangles_row(alloc, octets),
+            Edition::E2019 => opaque_row(alloc, id, octets),
+        },
+        POLYGON => match edition {
+            Edition::E2013 => polygon_row(alloc, octets),
+            Edition::E2019 => opaque_row(alloc, id, octets),
+        },
+        ROUTE => match edition {
+            Edition::E2013 => route_row(alloc, octets),
+            Edition::E2019 => opaque_row(alloc, id, octets),
+        },
+        DELETE_CIRCLES => Ok(delete_message(RegionKind::Circle, read_deletion(alloc, octets)?)),
+        DELETE_RECTANGLES => Ok(delete_message(
             RegionKind::Rectangle,
             read_deletion(alloc, octets)?,
         )),
-        (_, DELETE_POLYGONS) => Ok(delete_message(
-            RegionKind::Polygon,
-            read_deletion(alloc, octets)?,
-        )),
-        (_, DELETE_ROUTES) => Ok(delete_message(RegionKind::Route, read_deletion(alloc, octets)?)),
-        _ => Ok(Message::Opaque {
-            id,
-            body: Octets::from_vec(Vec::from_slice(alloc, octets)?),
-        }),
+        DELETE_POLYGONS => Ok(delete_message(RegionKind::Polygon, read_deletion(alloc, octets)?)),
+        DELETE_ROUTES => Ok(delete_message(RegionKind::Route, read_deletion(alloc, octets)?)),
+        _ => opaque_row(alloc, id, octets),
     }
 }
 

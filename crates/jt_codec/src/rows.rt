@@ -2,12 +2,12 @@
 
 ghost use Rattle.std.specs.Prelude.{◌≡◌, None, Some};
 ghost use Rattle.jt_layout.specs.Answer.{Answers};
-ghost use Rattle.jt_layout.specs.Layout.{body_case};
+ghost use Rattle.jt_layout.specs.Layout.{body_case, rest};
 ghost use Rattle.jt_params.specs.Params.{params, params_reply, query_some};
 ghost use Rattle.jt_position.specs.Positions.{position, batch};
 ghost use Rattle.jt_region_bodies.specs.Regions.{circles, rectangles, polygon, route};
 ghost use Rattle.jt_register.specs.Registration.{register, register_reply, auth};
-ghost use Rattle.jt_codec.specs.Kinds.{terminal_resend_of, resend_of, register_of, register_reply_of, auth_of, set_params_of, query_some_of, params_of, position_of, position_reply_of, batch_of, track_of, text_of, kind_text_of, control_of, circles_of, rectangles_of, polygon_of, route_of};
+ghost use Rattle.jt_codec.specs.Kinds.{terminal_resend_of, resend_of, register_of, register_reply_of, auth_of, set_params_of, query_some_of, params_of, position_of, position_reply_of, batch_of, track_of, text_of, kind_text_of, control_of, opaque_of, circles_of, rectangles_of, polygon_of, route_of};
 ghost use Rattle.jt_codec.specs.Layouts.{position_reply, track, octet_and_text, flag_kind_and_text};
 ghost use Rattle.jt_codec.specs.Resend.{resend};
 ghost use Rattle.jt_codec.specs.declared.message.Message.TheVariants as message;
@@ -21,7 +21,7 @@ use jt_params::{read_params, read_params_reply, read_query_some};
 use jt_position::{read_batch, read_position};
 use jt_region_bodies::{read_circles, read_polygon, read_rectangles, read_route};
 use jt_register::{read_auth, read_register, read_register_reply};
-use jt_value::{CodecError, Edition};
+use jt_value::{CodecError, Edition, Octets};
 use std::alloc::Global;
 
 #[inline(never)]
@@ -201,4 +201,16 @@ pub(crate) fn route_row(alloc: Global, octets: &[u8]) -> Result<Message, CodecEr
     ensures { Answers (body_case route message.Route route_of) octets.now result }
 {
     Ok(Message::Route(read_route(alloc, octets)?))
+}
+
+// Octets that are not read further.
+#[inline(never)]
+#[tactic(auto, unfolding(jt_layout::specs::Layout::rest), using(jt_layout::proofs::Answering::answers_case))]
+pub(crate) fn opaque_row(alloc: Global, id: u16, octets: &[u8]) -> Result<Message, CodecError>
+    ensures { Answers (body_case rest (message.Opaque id) (opaque_of id)) octets.now result }
+{
+    Ok(Message::Opaque {
+        id,
+        body: Octets::from_vec(Vec::from_slice(alloc, octets)?),
+    })
 }

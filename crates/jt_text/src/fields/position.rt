@@ -83,6 +83,7 @@ fn push_raw(text: &mut String, line: &mut Line, id: u8, value: &[u8]) -> Result<
 }
 
 // An item of one number.
+#[tactic(auto, using(std::proofs::Common::append_assoc))]
 fn push_one(text: &mut String, line: &mut Line, id: u8, number: u64) -> Result<(), AllocError>
     ensures text { OnOk result (string_bytes text.new ≡ string_bytes text.old ++ (codes " item=0x" ++ (byte_digits id ++ (codes ":" ++ decimal number)))) }
     ensures kept { StartsWith (string_bytes text.new) (string_bytes text.old) }

@@ -1,7 +1,8 @@
 //! The fields of regions and their deletion.
 
-ghost use Rattle.std.specs.Prelude.{◌≡◌, ℕ, List, ◌++◌, string_bytes, OnOk};
+ghost use Rattle.std.specs.Prelude.{◌≡◌, ℕ, List, ◌++◌, string_bytes, codes, OnOk};
 ghost use Rattle.std.specs.List.{flat_map};
+ghost use Rattle.std.specs.Fmt.{decimal};
 ghost use Rattle.std.specs.Io.{StartsWith};
 ghost use Rattle.jt_text.specs.RegionFields.{circles_fields, deletion_fields, limit_text, point_place, polygon_fields, rectangles_fields, region_start, route_fields, thresholds_text, times_text};
 
@@ -30,6 +31,16 @@ fn push_all<T: Shown>(text: &mut String, line: &mut Line, list: &[T]) -> Result<
     Ok(())
 }
 
+// Two numbers, the first behind a name.
+#[tactic(auto, using(std::proofs::Common::append_assoc))]
+fn push_pair(text: &mut String, name: &str, first: u64, second: u64) -> Result<(), AllocError>
+    ensures text { OnOk result (string_bytes text.new ≡ string_bytes text.old ++ (name.now ++ (decimal first ++ (codes ":" ++ decimal second)))) }
+    ensures kept { StartsWith (string_bytes text.new) (string_bytes text.old) }
+{
+    push_number(text, name, first)?;
+    push_number(text, ":", second)
+}
+
 #[tactic(auto, using(std::proofs::Common::append_assoc))]
 fn push_times(
     text: &mut String,
@@ -49,31 +60,38 @@ fn push_times(
     }
 }
 
-#[tactic(auto, using(std::proofs::Common::append_assoc))]
 fn push_limit(text: &mut String, limit: &Option<Limit>) -> Result<(), AllocError>
     ensures text { OnOk result (string_bytes text.new ≡ string_bytes text.old ++ limit_text limit.now) }
     ensures kept { StartsWith (string_bytes text.new) (string_bytes text.old) }
 {
     match limit {
         None => text.push_str(":-:-"),
-        Some(limit) => {
-            push_number(text, ":", limit.speed as u64)?;
-            push_number(text, ":", limit.duration as u64)
-        }
+        Some(limit) => push_pair(text, ":", limit.speed as u64, limit.duration as u64),
     }
 }
 
+// What stands at the end of a region's fixed fields.
 #[tactic(auto, using(std::proofs::Common::append_assoc))]
+fn push_times_and_limit(
+    text: &mut String,
+    line: &mut Line,
+    times: &Option<[u8; 12]>,
+    limit: &Option<Limit>,
+) -> Result<(), AllocError>
+    ensures text { OnOk result (string_bytes text.new ≡ string_bytes text.old ++ (times_text times.now ++ limit_text limit.now)) }
+    ensures kept { StartsWith (string_bytes text.new) (string_bytes text.old) }
+{
+    push_times(text, line, times)?;
+    push_limit(text, limit)
+}
+
 fn push_thresholds(text: &mut String, thresholds: &Option<(u16, u16)>) -> Result<(), AllocError>
     ensures text { OnOk result (string_bytes text.new ≡ string_bytes text.old ++ thresholds_text thresholds.now) }
     ensures kept { StartsWith (string_bytes text.new) (string_bytes text.old) }
 {
     match thresholds {
         None => text.push_str(":-:-"),
-        Some((longest, shortest)) => {
-            push_number(text, ":", *longest as u64)?;
-            push_number(text, ":", *shortest as u64)
-        }
+        Some((longest, shortest)) => push_pair(text, ":", *longest as u64, *shortest as u64),
     }
 }
 
@@ -101,11 +119,9 @@ impl Shown for Circle {
     #[tactic(auto, using(std::proofs::Common::append_assoc), unfolding(crate::specs::RegionFields::circle_text))]
     fn push_to(&self, text: &mut String, line: &mut Line) -> Result<(), AllocError> {
         push_start(text, line, " circle=", self.id, self.attribute)?;
-        push_number(text, ":", self.lat as u64)?;
-        push_number(text, ":", self.lon as u64)?;
+        push_pair(text, ":", self.lat as u64, self.lon as u64)?;
         push_number(text, ":", self.radius as u64)?;
-        push_times(text, line, &self.times)?;
-        push_limit(text, &self.limit)?;
+        push_times_and_limit(text, line, &self.times, &self.limit)?;
         Ok(())
     }
 }
@@ -118,12 +134,9 @@ impl Shown for Rectangle {
     #[tactic(auto, using(std::proofs::Common::append_assoc), unfolding(crate::specs::RegionFields::rectangle_text))]
     fn push_to(&self, text: &mut String, line: &mut Line) -> Result<(), AllocError> {
         push_start(text, line, " rectangle=", self.id, self.attribute)?;
-        push_number(text, ":", self.top as u64)?;
-        push_number(text, ":", self.left as u64)?;
-        push_number(text, ":", self.bottom as u64)?;
-        push_number(text, ":", self.right as u64)?;
-        push_times(text, line, &self.times)?;
-        push_limit(text, &self.limit)?;
+        push_pair(text, ":", self.top as u64, self.left as u64)?;
+        push_pair(text, ":", self.bottom as u64, self.right as u64)?;
+        push_times_and_limit(text, line, &self.times, &self.limit)?;
         Ok(())
     }
 }
@@ -135,8 +148,7 @@ impl Shown for Vertex {
 
     #[tactic(auto, using(std::proofs::Common::append_assoc), unfolding(crate::specs::RegionFields::vertex_text))]
     fn push_to(&self, text: &mut String, line: &mut Line) -> Result<(), AllocError> {
-        push_number(text, " vertex=", self.lat as u64)?;
-        push_number(text, ":", self.lon as u64)
+        push_pair(text, " vertex=", self.lat as u64, self.lon as u64)
     }
 }
 
@@ -146,11 +158,8 @@ fn push_point_place(text: &mut String, point: &RoutePoint) -> Result<(), AllocEr
     ensures text { OnOk result (string_bytes text.new ≡ string_bytes text.old ++ point_place point.now) }
     ensures kept { StartsWith (string_bytes text.new) (string_bytes text.old) }
 {
-    push_number(text, " point=", point.point as u64)?;
-    push_number(text, ":", point.segment as u64)?;
-    push_number(text, ":", point.lat as u64)?;
-    push_number(text, ":", point.lon as u64)?;
-    Ok(())
+    push_pair(text, " point=", point.point as u64, point.segment as u64)?;
+    push_pair(text, ":", point.lat as u64, point.lon as u64)
 }
 
 impl Shown for RoutePoint {
@@ -220,8 +229,7 @@ pub(super) fn push_polygon(
     ensures kept { StartsWith (string_bytes text.new) (string_bytes text.old) }
 {
     push_start(text, line, " polygon=", polygon.id, polygon.attribute)?;
-    push_times(text, line, &polygon.times)?;
-    push_limit(text, &polygon.limit)?;
+    push_times_and_limit(text, line, &polygon.times, &polygon.limit)?;
     push_number(text, " count=", polygon.vertices.len() as u64)?;
     push_all(text, line, polygon.vertices.as_slice())
 }

@@ -1,13 +1,38 @@
 //! The fields of registrations, their replies and authentications.
 
-ghost use Rattle.std.specs.Prelude.{◌≡◌, ◌++◌, Some, string_bytes, OnOk};
+ghost use Rattle.std.specs.Prelude.{◌≡◌, ◌++◌, Some, string_bytes, codes, OnOk};
+ghost use Rattle.std.specs.Fmt.{decimal};
 ghost use Rattle.std.specs.Io.{StartsWith};
 ghost use Rattle.jt_text.specs.RegistrationFields.{auth_fields, auth_text, code_text, register_fields, register_reply_fields};
+ghost use Rattle.jt_text.specs.Values.{octets_text};
 
 use crate::line::Line;
 use crate::values::{push_number, push_octets};
 use jt_register::{Auth, AuthTail, Register, RegisterReply};
 use std::alloc::AllocError;
+
+#[tactic(auto, using(std::proofs::Common::append_assoc))]
+fn push_province_and_city(text: &mut String, register: &Register) -> Result<(), AllocError>
+    ensures text { OnOk result (string_bytes text.new ≡ string_bytes text.old
+        ++ (codes " province=" ++ (decimal register.now.province ++ (codes " city=" ++ decimal register.now.city)))) }
+    ensures kept { StartsWith (string_bytes text.new) (string_bytes text.old) }
+{
+    push_number(text, " province=", register.province as u64)?;
+    push_number(text, " city=", register.city as u64)
+}
+
+// Who made the terminal, and which one it is.
+#[tactic(auto, using(std::proofs::Common::append_assoc))]
+fn push_device(text: &mut String, line: &mut Line, register: &Register) -> Result<(), AllocError>
+    ensures text { OnOk result (string_bytes text.new ≡ string_bytes text.old
+        ++ (codes " maker=" ++ (octets_text register.now.maker ++ (codes " model=" ++ (octets_text register.now.model
+        ++ (codes " terminal=" ++ octets_text register.now.terminal)))))) }
+    ensures kept { StartsWith (string_bytes text.new) (string_bytes text.old) }
+{
+    push_octets(text, line, " maker=", register.maker.as_slice())?;
+    push_octets(text, line, " model=", register.model.as_slice())?;
+    push_octets(text, line, " terminal=", register.terminal.as_slice())
+}
 
 #[tactic(auto, using(std::proofs::Common::append_assoc), unfolding(crate::specs::RegistrationFields::register_fields))]
 pub(super) fn push_register(
@@ -18,11 +43,8 @@ pub(super) fn push_register(
     ensures text { OnOk result (string_bytes text.new ≡ string_bytes text.old ++ register_fields register.now) }
     ensures kept { StartsWith (string_bytes text.new) (string_bytes text.old) }
 {
-    push_number(text, " province=", register.province as u64)?;
-    push_number(text, " city=", register.city as u64)?;
-    push_octets(text, line, " maker=", register.maker.as_slice())?;
-    push_octets(text, line, " model=", register.model.as_slice())?;
-    push_octets(text, line, " terminal=", register.terminal.as_slice())?;
+    push_province_and_city(text, register)?;
+    push_device(text, line, register)?;
     push_number(text, " colour=", register.colour as u64)?;
     push_octets(text, line, " plate=", register.plate.as_slice())
 }
