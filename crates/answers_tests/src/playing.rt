@@ -90,7 +90,7 @@ fn settings(alloc: Global, edition: Edition) -> Option<Settings>
 }
 
 // The frames, the units that were told as accepted, and the end, or the error, as octets.
-fn transcript(alloc: Global, answer: Result<Actions, TerminalError>) -> Result<Octets, Memory> {
+fn transcript(alloc: Global, answer: &Result<Actions, TerminalError>) -> Result<Octets, Memory> {
     let mut said = Vec::new(alloc);
     match answer {
         Ok(actions) => {
@@ -176,7 +176,7 @@ fn open(alloc: Global, terminal: &mut Terminal<MemVault>) -> Result<Octets, Memo
     ensures { terminal.new.state.time ≡ terminal.old.state.time }
 {
     let result = terminal.event(alloc, Event::Opened);
-    transcript(alloc, result)
+    transcript(alloc, &result)
 }
 
 fn tick(alloc: Global, terminal: &mut Terminal<MemVault>, now: u64) -> Result<Octets, Memory>
@@ -184,7 +184,7 @@ fn tick(alloc: Global, terminal: &mut Terminal<MemVault>, now: u64) -> Result<Oc
     ensures { terminal.new.state.time ≡ now }
 {
     let result = terminal.event(alloc, Event::Tick(now));
-    transcript(alloc, result)
+    transcript(alloc, &result)
 }
 
 // What a circle has behind its id: no attribute, a latitude, a longitude and a radius.
@@ -281,7 +281,7 @@ fn hand(
     }
     let result = line.feed(alloc, terminal, given);
     *read += count;
-    transcript(alloc, result)
+    transcript(alloc, &result)
 }
 
 // What a row says happens: a line is opened (O), a fix at this latitude (F) or of these octets (G) is recorded, octets of the
@@ -362,11 +362,27 @@ fn cut_says(
         return false;
     };
     let mut line = TerminalLine::new(alloc);
+    says_in_two(alloc, &mut terminal, &mut line, rows, first, second, said)
+}
+
+// Whether the rows hold, and this is said at two pieces behind them.
+fn says_in_two(
+    alloc: Global,
+    terminal: &mut Terminal<MemVault>,
+    line: &mut TerminalLine,
+    rows: &[(u8, u32, &[u8], &[u8])],
+    first: &[u8],
+    second: &[u8],
+    said: &[u8],
+) -> bool
+    requires time { terminal.old.state.time ≡ 0 }
+    requires place { line.old.stream.place ≡ 0 }
+{
     let mut read = 0;
-    if wrong_row(alloc, &mut terminal, &mut line, &mut read, rows) < rows.len() {
+    if wrong_row(alloc, terminal, line, &mut read, rows) < rows.len() {
         return false;
     }
-    match said_in_two(alloc, &mut terminal, &mut line, &mut read, first, second) {
+    match said_in_two(alloc, terminal, line, &mut read, first, second) {
         Ok(octets) => octets.as_slice() == said,
         Err(Memory) => false,
     }

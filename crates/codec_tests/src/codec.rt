@@ -43,11 +43,8 @@ fn refused(inside: u64, why: Why) -> Option<Refusal> {
 fn empty_bodies(rt: HostRuntime) {
     for edition in [Edition::E2013, Edition::E2019] {
         for id in [0x0002, 0x0003, 0x8104, 0x8201] {
-            assert_eq!(rt; is_kept(rt.alloc(), edition, id, &[], false), Ok(true));
-            assert_eq!(rt;
-                refusal_of(rt.alloc(), edition, id, &[7]),
-                refused(0, Why::Trailing)
-            );
+            assert!(rt; is_kept(rt.alloc(), edition, id, &[], false) == Ok(true));
+            assert!(rt; refusal_of(rt.alloc(), edition, id, &[7]) == refused(0, Why::Trailing));
         }
     }
 }
@@ -55,10 +52,7 @@ fn empty_bodies(rt: HostRuntime) {
 #[test]
 fn opaque_bodies(rt: HostRuntime) {
     for id in [0x0000, 0x0FFF, 0x8600, 0x8602, 0x8604, 0x8606, 0xFFFF] {
-        assert_eq!(rt;
-            is_kept(rt.alloc(), Edition::E2019, id, &[7, 9], true),
-            Ok(true)
-        );
+        assert!(rt; is_kept(rt.alloc(), Edition::E2019, id, &[7, 9], true) == Ok(true));
     }
     let known = Message::Opaque {
         id: 0x8201,
@@ -88,7 +82,7 @@ const ROUTE: [u8; 45] =
 
 #[test]
 fn bodies_with_rows(rt: HostRuntime) {
-    let rows: [(u16, &[u8]); 28] = [
+    let rows: &[(u16, &[u8])] = &[
         (0x0001, b"\0\x07\x81\x03\x02"),
         (0x8001, b"\xFF\xFF\0\x02\xFF"),
         (0x0100, &REGISTER),
@@ -127,11 +121,8 @@ fn bodies_with_rows(rt: HostRuntime) {
         (0x8605, b"\x01\0\0\0\x07"),
         (0x8607, b"\x02\0\0\0\x07\0\0\x01\0"),
     ];
-    for (id, body) in rows {
-        assert_eq!(rt;
-            is_kept(rt.alloc(), Edition::E2013, id, body, false),
-            Ok(true)
-        );
+    for &(id, body) in rows {
+        assert!(rt; is_kept(rt.alloc(), Edition::E2013, id, body, false) == Ok(true));
     }
 }
 
@@ -168,26 +159,23 @@ fn is_track(alloc: Global, body: &[u8], seconds: u16, end: Option<u32>) -> bool 
 
 #[test]
 fn tracks(rt: HostRuntime) {
-    let rows: [(&[u8], u16, Option<u32>); 3] = [
+    let rows: &[(&[u8], u16, Option<u32>)] = &[
         (b"\0\0", 0, None),
         (b"\0\0\0\0\0\x09", 0, Some(9)),
         (b"\0\x05\0\0\x02\x58", 5, Some(600)),
     ];
-    for (body, interval, validity) in rows {
+    for &(body, interval, validity) in rows {
         assert!(rt; is_track(rt.alloc(), body, interval, validity));
     }
-    let rows: [(&[u8], u64, Why); 5] = [
+    let rows: &[(&[u8], u64, Why)] = &[
         (b"\0\x05", 2, Why::Truncated),
         (b"\0\x05\0\0\x02", 2, Why::Truncated),
         (b"\0\0\0", 2, Why::Truncated),
         (b"\0", 0, Why::Truncated),
         (b"\0\0\0\0\0\x09\x01", 6, Why::Trailing),
     ];
-    for (body, inside, why) in rows {
-        assert_eq!(rt;
-            refusal_of(rt.alloc(), Edition::E2013, 0x8202, body),
-            refused(inside, why)
-        );
+    for &(body, inside, why) in rows {
+        assert!(rt; refusal_of(rt.alloc(), Edition::E2013, 0x8202, body) == refused(inside, why));
     }
     let endless = Message::Track {
         interval: 5,
@@ -294,15 +282,15 @@ fn views(rt: HostRuntime) {
     assert!(rt; is_position(&POSITION, 20_000_000, 10));
     assert!(rt; is_batch(&[0, 0, 1], 1, 0));
     assert!(rt; view_message(&header(0x0003, 0, None), &[]).is_none());
-    let rows: [(u16, &[u8], u64, Why); 4] = [
+    let rows: &[(u16, &[u8], u64, Why)] = &[
         (0x0002, b"\x07", 12, Why::Trailing),
         (0x0200, &POSITION[..27], 34, Why::Truncated),
         (0x0704, b"\0\0", 14, Why::Truncated),
         (0x8001, b"\0\x07\x02\0\0\0", 17, Why::Trailing),
     ];
-    for (id, body, inside, why) in rows {
+    for &(id, body, inside, why) in rows {
         assert!(rt; body.len() < 1024);
-        assert_eq!(rt; view_refusal(id, body), refused(inside, why));
+        assert!(rt; view_refusal(id, body) == refused(inside, why));
     }
 }
 
@@ -345,31 +333,27 @@ fn views_of_responses_and_octets(rt: HostRuntime) {
 // Of a registration's reply a message is made; all others are judged in place.
 #[test]
 fn judgements(rt: HostRuntime) {
-    let good: [(u16, &[u8]); 5] = [
+    let good: &[(u16, &[u8])] = &[
         (0x0002, b""),
         (0x0200, &POSITION),
         (0x8001, b"\0\x07\0\x02\0"),
         (0x0900, b"A\x01"),
         (0x8100, b"\0\x05\x04"),
     ];
-    for (id, body) in good {
+    for &(id, body) in good {
         assert!(rt; body.len() < 1024);
-        assert_eq!(rt;
-            judge_message(rt.alloc(), &header(id, 0, None), body),
-            Ok(None)
-        );
+        assert!(rt; judge_message(rt.alloc(), &header(id, 0, None), body) == Ok(None));
     }
-    let bad: [(u16, &[u8], u64, Why); 4] = [
+    let bad: &[(u16, &[u8], u64, Why)] = &[
         (0x0002, b"\x07", 12, Why::Trailing),
         (0x0200, &POSITION[..27], 34, Why::Truncated),
         (0x8001, b"\0\x07\0\x02", 16, Why::Truncated),
         (0x8100, b"\0\x05\x03A", 15, Why::Trailing),
     ];
-    for (id, body, inside, why) in bad {
+    for &(id, body, inside, why) in bad {
         assert!(rt; body.len() < 1024);
-        assert_eq!(rt;
-            judge_message(rt.alloc(), &header(id, 0, None), body),
-            Ok(refused(inside, why))
+        assert!(rt;
+            judge_message(rt.alloc(), &header(id, 0, None), body) == Ok(refused(inside, why))
         );
     }
     let packet = Packet {
@@ -377,7 +361,7 @@ fn judgements(rt: HostRuntime) {
         number: 2,
     };
     let part = header(0x0002, 0, Some(packet));
-    assert_eq!(rt; judge_message(rt.alloc(), &part, &[7]), Ok(None));
+    assert!(rt; judge_message(rt.alloc(), &part, &[7]) == Ok(None));
 }
 
 // Why the content of a frame is refused.
@@ -392,7 +376,7 @@ fn frame_refusal(alloc: Global, content: &[u8]) -> Option<Refusal>
 
 #[test]
 fn refused_contents(rt: HostRuntime) {
-    let rows: [(&[u8], u64, Why); 6] = [
+    let rows: &[(&[u8], u64, Why)] = &[
         (
             b"\x81\x00\x00\x04\x01\x39\x12\x34\x56\x78\x00\x00\x00\x05\x03\x41\xF2",
             15,
@@ -427,9 +411,9 @@ fn refused_contents(rt: HostRuntime) {
             Why::PhoneDigit,
         ),
     ];
-    for (content, inside, why) in rows {
+    for &(content, inside, why) in rows {
         assert!(rt; content.len() <= 1045);
-        assert_eq!(rt; frame_refusal(rt.alloc(), content), refused(inside, why));
+        assert!(rt; frame_refusal(rt.alloc(), content) == refused(inside, why));
     }
 }
 
@@ -478,13 +462,13 @@ fn packets(rt: HostRuntime) {
 fn frames(rt: HostRuntime) {
     let content = b"\x00\x02\x00\x00\x01\x39\x12\x34\x56\x78\x00\x00\x32";
     let (heartbeat, message) = parse_frame(rt.alloc(), content).expect(&rt, "a frame");
-    assert_eq!(rt; heartbeat, header(0x0002, 0, None));
-    assert_eq!(rt; message.id(), Some(0x0002));
+    assert!(rt; heartbeat == header(0x0002, 0, None));
+    assert!(rt; message.id() == Some(0x0002));
     let mut frame = ArrayVec::new();
     frame_into(&heartbeat, &[], &mut frame);
-    assert_eq!(rt;
-        frame.as_slice(),
-        b"\x7E\x00\x02\x00\x00\x01\x39\x12\x34\x56\x78\x00\x00\x32\x7E".as_slice()
+    assert!(rt;
+        frame.as_slice()
+            == b"\x7E\x00\x02\x00\x00\x01\x39\x12\x34\x56\x78\x00\x00\x32\x7E".as_slice()
     );
 }
 
@@ -496,20 +480,20 @@ fn frame_of_flags(rt: HostRuntime) {
     let body = [0x7E; 1023];
     let mut frame = ArrayVec::new();
     frame_into(&opaque, &body, &mut frame);
-    assert_eq!(rt; frame.len(), 2061);
-    assert_eq!(rt; frame.as_slice().get(2059), Some(&0x42));
+    assert!(rt; frame.len() == 2061);
+    assert!(rt; frame.as_slice().get(2059) == Some(&0x42));
     let mut splitter = Splitter::new();
     let mut last = Split::More;
     for octet in frame.as_slice() {
         last = splitter.push(*octet);
     }
-    assert_eq!(rt; last, Split::Content);
+    assert!(rt; last == Split::Content);
     let content = splitter.content();
     assert!(rt; content.len() <= 1045);
     let (read, message) = parse_frame(rt.alloc(), content).expect(&rt, "a frame");
-    assert_eq!(rt; read, opaque);
-    assert_eq!(rt; message.id(), Some(0x0FFF));
+    assert!(rt; read == opaque);
+    assert!(rt; message.id() == Some(0x0FFF));
     assert!(rt; message.fits(Edition::E2013));
     let octets = write_body(rt.alloc(), Edition::E2013, &message).expect(&rt, "octets");
-    assert_eq!(rt; octets.as_slice(), body.as_slice());
+    assert!(rt; octets.as_slice() == body.as_slice());
 }

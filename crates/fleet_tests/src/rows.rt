@@ -1,3 +1,6 @@
+ghost use Rattle.std.specs.Prelude.{IfOk};
+ghost use Rattle.jt_link.specs.ScriptLink.{IsUntouched};
+
 use jt_io::{MemSink, MemSource};
 use jt_link::{ScriptLink, ScriptListen};
 use jt_platform_command::platform;
@@ -6,8 +9,8 @@ use jt_store::MemKeeper;
 use jt_value::{Memory, Octets, Seq};
 use jt_words::PlatformWords;
 use std::alloc::Global;
+use std::process::Abort;
 use std::sync::Wait;
-use std::test::Fail;
 use std::thread::Threads;
 
 /// The heartbeat of phone 013912345678.
@@ -67,26 +70,55 @@ fn octets(alloc: Global, octets: &[u8]) -> Result<Octets, Memory> {
     Ok(Octets::from_vec(Vec::from_slice(alloc, octets)?))
 }
 
-fn listener(alloc: Global, scene: &Scene) -> Result<ScriptListen, Memory> {
+fn source(alloc: Global, scene: &Scene) -> Result<MemSource, Memory> {
+    let calls = failing(alloc, scene.source_fails)?;
+    let octets = octets(alloc, scene.source.as_bytes())?;
+    Ok(MemSource::new(octets, calls))
+}
+
+fn sink(alloc: Global, scene: &Scene) -> Result<MemSink, Memory> {
+    let calls = failing(alloc, scene.sink_fails)?;
+    MemSink::new(alloc, 65_536, calls)
+}
+
+fn keeper(alloc: Global, scene: &Scene) -> Result<MemKeeper, Memory> {
+    let calls = failing(alloc, scene.keeper_fails)?;
+    Ok(MemKeeper::new(alloc, scene.limit.min(1000), calls))
+}
+
+fn link(alloc: Global, scene: &Scene) -> Result<ScriptLink, Memory>
+    ensures { IfOk result (λ link. IsUntouched link) }
+{
     let calls = failing(alloc, scene.link_fails)?;
-    let link = ScriptLink::new(alloc, octets(alloc, scene.octets)?, 65_536, calls)?;
+    let octets = octets(alloc, scene.octets)?;
+    ScriptLink::new(alloc, octets, 65_536, calls)
+}
+
+fn listener(alloc: Global, scene: &Scene) -> Result<ScriptListen, Memory> {
+    let calls = failing(alloc, scene.listen_fails)?;
+    let link = link(alloc, scene)?;
     let mut links = Seq::new(alloc);
     links.push(link)?;
-    ScriptListen::new(alloc, links, failing(alloc, scene.listen_fails)?)
+    ScriptListen::new(alloc, links, calls)
+}
+
+fn written_back(alloc: Global, listen: &ScriptListen) -> Result<Octets, Memory> {
+    match listen.links_back().first() {
+        Some(link) => octets(alloc, link.written()),
+        None => Ok(Octets::new(alloc)),
+    }
 }
 
 // The status, what was printed, and what was written to the link that came back.
-fn ran<R: Threads + Wait + Sync>(
+fn ran<R: Threads + Wait + Sync + Abort>(
     rt: &R,
     alloc: Global,
     scene: &Scene,
-) -> Result<(Status, Octets, Octets), Memory> {
-    let fleet = octets(alloc, scene.source.as_bytes())?;
-    let mut source = MemSource::new(fleet, failing(alloc, scene.source_fails)?);
-    let mut sink = MemSink::new(alloc, 65_536, failing(alloc, scene.sink_fails)?)?;
-    let mut listen = listener(alloc, scene)?;
-    let limit = scene.limit.min(1000);
-    let keeper = MemKeeper::new(alloc, limit, failing(alloc, scene.keeper_fails)?);
+) -> (Status, Octets, Octets) {
+    let mut source = source(alloc, scene).expect(rt, "there is memory");
+    let mut sink = sink(alloc, scene).expect(rt, "there is memory");
+    let mut listen = listener(alloc, scene).expect(rt, "there is memory");
+    let keeper = keeper(alloc, scene).expect(rt, "there is memory");
     let words = PlatformWords {
         port: 9000,
         sessions: scene.sessions.max(1),
@@ -100,27 +132,35 @@ fn ran<R: Threads + Wait + Sync>(
         keeper,
         words,
     );
-    let written = match listen.links_back().first() {
-        Some(link) => octets(alloc, link.written())?,
-        None => Octets::new(alloc),
-    };
-    Ok((ended.status, octets(alloc, sink.octets())?, written))
+    let printed = octets(alloc, sink.octets()).expect(rt, "there is memory");
+    let written = written_back(alloc, &listen).expect(rt, "there is memory");
+    (ended.status, printed, written)
+}
+
+// The status, and whether this was printed.
+fn tells<R: Threads + Wait + Sync + Abort>(
+    rt: &R,
+    alloc: Global,
+    scene: &Scene,
+    text: &str,
+) -> (Status, bool) {
+    let (status, printed, _) = ran(rt, alloc, scene);
+    (status, printed.as_slice() == text.as_bytes())
 }
 
 #[test]
-fn a_heartbeat(rt: HostRuntime) -> Result<(), Fail> {
-    let (status, printed, written) = ran(&rt, rt.alloc(), &calm("secret 3132", HEARTBEAT))?;
-    assert_eq!(rt; written.as_slice(), REFUSED);
-    assert_eq!(rt;
-        printed.as_slice(),
-        b"session 1 ended read=15 written=20 frames=1 refused=0 dropped=0\nentries=2 stored=0 repeat=0 renumbered=0\n".as_slice()
+fn a_heartbeat(rt: HostRuntime) {
+    let (status, printed, written) = ran(&rt, rt.alloc(), &calm("secret 3132", HEARTBEAT));
+    assert!(rt; written.as_slice() == REFUSED);
+    assert!(rt;
+        printed.as_slice()
+            == b"session 1 ended read=15 written=20 frames=1 refused=0 dropped=0\nentries=2 stored=0 repeat=0 renumbered=0\n".as_slice()
     );
-    assert_eq!(rt; status, Status::Done);
-    Ok(())
+    assert!(rt; status == Status::Done);
 }
 
 #[test]
-fn what_is_printed(rt: HostRuntime) -> Result<(), Fail> {
+fn what_is_printed(rt: HostRuntime) {
     let two = Scene {
         sessions: 2,
         ..calm("secret -", b"")
@@ -204,16 +244,15 @@ fn what_is_printed(rt: HostRuntime) -> Result<(), Fail> {
         ),
     ];
     for (scene, text, status) in rows {
-        let (ended, printed, _) = ran(&rt, rt.alloc(), &scene)?;
-        assert_eq!(rt; printed.as_slice(), text.as_bytes(), "{text}");
-        assert_eq!(rt; ended, status, "{text}");
+        let (ended, printed) = tells(&rt, rt.alloc(), &scene, text);
+        assert!(rt; printed, "{text}");
+        assert!(rt; ended == status, "{text}");
     }
-    Ok(())
 }
 
 #[test]
-fn bad_lines_of_a_fleet(rt: HostRuntime) -> Result<(), Fail> {
-    let rows = [
+fn bad_lines_of_a_fleet(rt: HostRuntime) {
+    let rows: &[(&str, &str)] = &[
         ("plate 41", "line 1 refused\n"),
         ("", "line 1 refused\n"),
         ("# none\n", "line 2 refused\n"),
@@ -229,10 +268,9 @@ fn bad_lines_of_a_fleet(rt: HostRuntime) -> Result<(), Fail> {
         ("secret 31\nplate 4a\nterminal\n", "line 3 refused\n"),
         ("secret 31\r\n", "line 1 refused\n"),
     ];
-    for (source, text) in rows {
-        let (ended, printed, _) = ran(&rt, rt.alloc(), &calm(source, HEARTBEAT))?;
-        assert_eq!(rt; printed.as_slice(), text.as_bytes(), "{source}");
-        assert_eq!(rt; ended, Status::Refused, "{source}");
+    for &(source, text) in rows {
+        let (ended, printed) = tells(&rt, rt.alloc(), &calm(source, HEARTBEAT), text);
+        assert!(rt; printed, "{source}");
+        assert!(rt; ended == Status::Refused, "{source}");
     }
-    Ok(())
 }

@@ -74,7 +74,7 @@ fn point(attribute: u8, thresholds: Option<(u16, u16)>, limit: Option<Limit>) ->
 #[test]
 fn circles_with_and_without_times_and_limit(rt: HostRuntime) {
     let (setting, list) = read_circles(rt.alloc(), &CIRCLES).expect(&rt, "a body");
-    assert_eq!(rt; setting, 2);
+    assert!(rt; setting == 2);
     let circles = [
         circle(0, None, None),
         circle(1, Some(TIMES), None),
@@ -82,39 +82,39 @@ fn circles_with_and_without_times_and_limit(rt: HostRuntime) {
         circle(3, Some(TIMES), Some(LIMIT)),
         circle(0xFFFC, None, None),
     ];
-    assert_eq!(rt; list.as_slice(), circles.as_slice());
+    assert!(rt; list.as_slice() == circles.as_slice());
     assert!(rt; circles_fit(setting, &list));
     let written = write_circles(rt.alloc(), setting, &list).expect(&rt, "octets");
-    assert_eq!(rt; written.as_slice(), CIRCLES.as_slice());
+    assert!(rt; written.as_slice() == CIRCLES.as_slice());
 }
 
 #[test]
 fn a_circle_whose_times_are_missing(rt: HostRuntime) {
     let body = b"\x01\x01\0\0\0\x09\0\x03\x01\x31\x2d\0\x06\xbc\x3e\x40\0\0\0\x64";
     let cut = read_circles(rt.alloc(), body).err();
-    assert_eq!(rt; cut, Some(refused(20, Why::Truncated)));
+    assert!(rt; cut == Some(refused(20, Why::Truncated)));
 }
 
 #[test]
 fn rectangles_with_and_without_times_and_limit(rt: HostRuntime) {
     let (setting, list) = read_rectangles(rt.alloc(), &RECTANGLES).expect(&rt, "a body");
-    assert_eq!(rt; setting, 0);
+    assert!(rt; setting == 0);
     let rectangles = [
         rectangle(0, None, None),
         rectangle(1, Some(TIMES), None),
         rectangle(2, None, Some(LIMIT)),
         rectangle(3, Some(TIMES), Some(LIMIT)),
     ];
-    assert_eq!(rt; list.as_slice(), rectangles.as_slice());
+    assert!(rt; list.as_slice() == rectangles.as_slice());
     assert!(rt; rectangles_fit(setting, &list));
     let written = write_rectangles(rt.alloc(), setting, &list).expect(&rt, "octets");
-    assert_eq!(rt; written.as_slice(), RECTANGLES.as_slice());
+    assert!(rt; written.as_slice() == RECTANGLES.as_slice());
 }
 
 #[test]
 fn a_polygon_with_vertices(rt: HostRuntime) {
     let polygon = read_polygon(rt.alloc(), &POLYGON).expect(&rt, "a body");
-    assert_eq!(rt; polygon.id, 9);
+    assert!(rt; polygon.id == 9);
     let vertices = [
         Vertex {
             lat: 0,
@@ -129,14 +129,14 @@ fn a_polygon_with_vertices(rt: HostRuntime) {
             lon: 113_000_010,
         },
     ];
-    assert_eq!(rt; polygon.vertices.as_slice(), vertices.as_slice());
+    assert!(rt; polygon.vertices.as_slice() == vertices.as_slice());
     let written = write_polygon(rt.alloc(), &polygon).expect(&rt, "octets");
-    assert_eq!(rt; written.as_slice(), POLYGON.as_slice());
+    assert!(rt; written.as_slice() == POLYGON.as_slice());
 }
 
 #[test]
 fn polygons_with_and_without_times_and_limit(rt: HostRuntime) {
-    let rows: [(&[u8], Option<[u8; 12]>, Option<Limit>); 4] = [
+    let rows: &[(&[u8], Option<[u8; 12]>, Option<Limit>)] = &[
         (b"\0\0\0\x09\0\0\0\0", None, None),
         (
             b"\0\0\0\x09\0\x01\x24\x01\x01\0\0\0\x24\x01\x02\0\0\0\0\0",
@@ -150,24 +150,24 @@ fn polygons_with_and_without_times_and_limit(rt: HostRuntime) {
             Some(LIMIT),
         ),
     ];
-    for (body, times, limit) in rows {
+    for &(body, times, limit) in rows {
         let polygon = read_polygon(rt.alloc(), body).expect(&rt, "a body");
-        assert_eq!(rt; polygon.times, times);
-        assert_eq!(rt; polygon.limit, limit);
+        assert!(rt; polygon.times == times);
+        assert!(rt; polygon.limit == limit);
         assert!(rt; polygon.fits());
         let written = write_polygon(rt.alloc(), &polygon).expect(&rt, "octets");
-        assert_eq!(rt; written.as_slice(), body);
+        assert!(rt; written.as_slice() == body);
     }
     let trailing = read_polygon(rt.alloc(), b"\0\0\0\x09\0\0\0\0\0").err();
-    assert_eq!(rt; trailing, Some(refused(8, Why::Trailing)));
+    assert!(rt; trailing == Some(refused(8, Why::Trailing)));
 }
 
 #[test]
 fn a_route_with_times(rt: HostRuntime) {
     let route = read_route(rt.alloc(), &ROUTE).expect(&rt, "a body");
-    assert_eq!(rt; route.id, 5);
-    assert_eq!(rt; route.attribute, 1);
-    assert_eq!(rt; route.times, Some(TIMES));
+    assert!(rt; route.id == 5);
+    assert!(rt; route.attribute == 1);
+    assert!(rt; route.times == Some(TIMES));
     let point = RoutePoint {
         point: 6,
         segment: 7,
@@ -178,27 +178,27 @@ fn a_route_with_times(rt: HostRuntime) {
         thresholds: Some((60, 30)),
         limit: Some(LIMIT),
     };
-    assert_eq!(rt; route.points.as_slice(), [point].as_slice());
+    assert!(rt; route.points.as_slice() == [point].as_slice());
     assert!(rt; route.fits());
     let written = write_route(rt.alloc(), &route).expect(&rt, "octets");
-    assert_eq!(rt; written.as_slice(), ROUTE.as_slice());
+    assert!(rt; written.as_slice() == ROUTE.as_slice());
     let cut = read_route(rt.alloc(), &ROUTE[..44]).err();
-    assert_eq!(rt; cut, Some(refused(44, Why::Truncated)));
+    assert!(rt; cut == Some(refused(44, Why::Truncated)));
 }
 
 #[test]
 fn points_with_and_without_thresholds_and_limit(rt: HostRuntime) {
     let route = read_route(rt.alloc(), &POINTS).expect(&rt, "a body");
-    assert_eq!(rt; route.times, None);
+    assert!(rt; route.times == None);
     let points = [
         point(0, None, None),
         point(1, Some((60, 30)), None),
         point(2, None, Some(LIMIT)),
         point(3, Some((60, 30)), Some(LIMIT)),
     ];
-    assert_eq!(rt; route.points.as_slice(), points.as_slice());
+    assert!(rt; route.points.as_slice() == points.as_slice());
     let written = write_route(rt.alloc(), &route).expect(&rt, "octets");
-    assert_eq!(rt; written.as_slice(), POINTS.as_slice());
+    assert!(rt; written.as_slice() == POINTS.as_slice());
 }
 
 #[test]
@@ -206,13 +206,13 @@ fn deletions(rt: HostRuntime) {
     let rows: [(&[u8], &[u32]); 2] = [(b"\0", &[]), (b"\x02\0\0\0\x07\0\0\x01\0", &[7, 256])];
     for (body, ids) in rows {
         let deletion = read_deletion(rt.alloc(), body).expect(&rt, "a body");
-        assert_eq!(rt; deletion.ids.as_slice(), ids);
+        assert!(rt; deletion.ids.as_slice() == ids);
         assert!(rt; deletion.fits());
         let written = write_deletion(rt.alloc(), &deletion).expect(&rt, "octets");
-        assert_eq!(rt; written.as_slice(), body);
+        assert!(rt; written.as_slice() == body);
     }
     let cut = read_deletion(rt.alloc(), b"\x02\0\0\0\x07\0\0\x01").err();
-    assert_eq!(rt; cut, Some(refused(5, Why::Truncated)));
+    assert!(rt; cut == Some(refused(5, Why::Truncated)));
 }
 
 #[test]

@@ -9,9 +9,9 @@ use jt_session::{End, Report};
 use jt_store::MemKeeper;
 use jt_value::{Memory, Octets, Seq};
 use std::alloc::Global;
+use std::process::Abort;
 use std::sync::atomic::AtomicU64;
 use std::sync::{Arc, Wait};
-use std::test::Fail;
 use std::thread::Threads;
 
 /// The heartbeat of phone 013912345678.
@@ -21,18 +21,17 @@ const HEARTBEAT: &[u8; 15] = b"\x7e\x00\x02\x00\x00\x01\x39\x12\x34\x56\x78\x00\
 const REFUSED: &[u8; 20] =
     b"\x7e\x80\x01\x00\x05\x01\x39\x12\x34\x56\x78\x00\x00\x00\x00\x00\x02\x01\xb7\x7e";
 
-fn new_hub(alloc: Global) -> Result<Hub<MemKeeper>, Memory>
-    ensures { IfOk result (λ hub. hub.history ≡ []) }
+fn new_hub(rt: &impl Abort, alloc: Global) -> Hub<MemKeeper>
+    ensures { result.history ≡ [] }
 {
     let fleet = Fleet {
         plates: Seq::new(alloc),
         terminals: Seq::new(alloc),
     };
     let keeper = MemKeeper::new(alloc, 1000, Seq::new(alloc));
-    match Hub::start(alloc, keeper, fleet, Seq::new(alloc)) {
-        Ok(hub) => Ok(hub),
-        Err(_) => Err(Memory),
-    }
+    Hub::start(alloc, keeper, fleet, Seq::new(alloc))
+        .ok()
+        .expect(rt, "there is memory")
 }
 
 fn link(alloc: Global, octets: &[u8]) -> Result<ScriptLink, Memory>
@@ -43,14 +42,17 @@ fn link(alloc: Global, octets: &[u8]) -> Result<ScriptLink, Memory>
 }
 
 // A listener to which a heartbeat comes, then nothing, then a heartbeat, and which fails the call of this number.
-fn listener(alloc: Global, failing: u64) -> Result<ScriptListen, Memory> {
+fn listener(rt: &impl Abort, alloc: Global, failing: u64) -> ScriptListen {
+    let first = link(alloc, HEARTBEAT).expect(rt, "there is memory");
+    let second = link(alloc, &[]).expect(rt, "there is memory");
+    let third = link(alloc, HEARTBEAT).expect(rt, "there is memory");
     let mut links = Seq::new(alloc);
-    links.push(link(alloc, HEARTBEAT)?)?;
-    links.push(link(alloc, &[])?)?;
-    links.push(link(alloc, HEARTBEAT)?)?;
+    links.push(first).expect(rt, "there is memory");
+    links.push(second).expect(rt, "there is memory");
+    links.push(third).expect(rt, "there is memory");
     let mut calls = Seq::new(alloc);
-    calls.push(failing)?;
-    ScriptListen::new(alloc, links, calls)
+    calls.push(failing).expect(rt, "there is memory");
+    ScriptListen::new(alloc, links, calls).expect(rt, "there is memory")
 }
 
 /// Session, octets read and written, and frames of the listener's links.
@@ -96,30 +98,30 @@ struct Outcome {
     entries: usize,
 }
 
-fn served_so<R: Threads + Wait + Sync>(
+fn served_so<R: Threads + Wait + Sync + Abort>(
     rt: &R,
     alloc: Global,
     failing: u64,
     sessions: u32,
-) -> Result<Outcome, Memory>
+) -> Outcome
     requires { 1 ≤ sessions }
 {
-    let hub = new_hub(alloc)?;
-    let mut listen = listener(alloc, failing)?;
+    let hub = new_hub(rt, alloc);
+    let mut listen = listener(rt, alloc, failing);
     let served = serve(rt, alloc, &mut listen, hub, sessions);
-    Ok(Outcome {
+    Outcome {
         end: served.end,
         are_wanted: are_reports(served.reports.as_slice()) && are_back(listen.links_back()),
         reports: served.reports.len(),
         back: listen.links_back().len(),
         entries: served.hub.history().len(),
-    })
+    }
 }
 
 // The number of the listener's call that fails, how many links are asked for, why no more were served, how many were, and how many
 // entries there are.
 #[test]
-fn links_are_served_in_order(rt: HostRuntime) -> Result<(), Fail> {
+fn links_are_served_in_order(rt: HostRuntime) {
     let rows = [
         (0, 3, ServeEnd::All, 3, 5),
         (0, 1, ServeEnd::All, 1, 2),
@@ -128,34 +130,32 @@ fn links_are_served_in_order(rt: HostRuntime) -> Result<(), Fail> {
         (1, 1, ServeEnd::ListenFault, 0, 0),
     ];
     for (failing, sessions, end, count, entries) in rows {
-        let outcome = served_so(&rt, rt.alloc(), failing, sessions.max(1))?;
+        let outcome = served_so(&rt, rt.alloc(), failing, sessions.max(1));
         assert!(rt; outcome.are_wanted);
         assert!(rt; outcome.end == end);
         assert!(rt; outcome.reports == count);
         assert!(rt; outcome.back == count);
         assert!(rt; outcome.entries == entries);
     }
-    Ok(())
 }
 
 // How two links that wait for each other end: the first one reads only once the second was written.
-fn ends_of_two<R: Threads + Wait + Sync>(rt: &R, alloc: Global) -> Result<(bool, usize), Memory> {
-    let hub = new_hub(alloc)?;
-    let flag = Arc::new(alloc, AtomicU64::new(0))?;
-    let other = Arc::try_clone(&flag)?;
+fn ends_of_two<R: Threads + Wait + Sync + Abort>(rt: &R, alloc: Global) -> (bool, usize) {
+    let hub = new_hub(rt, alloc);
+    let flag = Arc::new(alloc, AtomicU64::new(0)).expect(rt, "there is memory");
+    let other = Arc::try_clone(&flag).expect(rt, "there is memory");
     let mut listen = Pair::new(flag, other);
     let served = serve(rt, alloc, &mut listen, hub, 2);
     let mut ended = served.reports.len() == 2;
     for report in served.reports.as_slice() {
         ended = ended && report.end == End::Ended;
     }
-    Ok((ended, served.hub.history().len()))
+    (ended, served.hub.history().len())
 }
 
 #[test]
-fn two_links_that_wait_for_each_other(rt: HostRuntime) -> Result<(), Fail> {
-    let (ended, entries) = ends_of_two(&rt, rt.alloc())?;
+fn two_links_that_wait_for_each_other(rt: HostRuntime) {
+    let (ended, entries) = ends_of_two(&rt, rt.alloc());
     assert!(rt; ended);
-    assert_eq!(rt; entries, 4);
-    Ok(())
+    assert!(rt; entries == 4);
 }

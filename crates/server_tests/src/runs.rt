@@ -9,6 +9,7 @@ use jt_link::{Accepted, Listen, ScriptLink, ScriptListen};
 use jt_store::MemKeeper;
 use jt_value::{Memory, Octets, Seq};
 use std::alloc::Global;
+use std::process::Abort;
 use std::sync::atomic::AtomicU64;
 use std::sync::{Arc, Wait};
 use std::test::Fail;
@@ -35,29 +36,35 @@ fn words_of(alloc: Global, text: &str) -> Result<Vec<String>, Memory> {
     Ok(words)
 }
 
+fn source(alloc: Global, text: &str) -> Result<MemSource, Memory> {
+    let octets = Octets::from_vec(Vec::from_slice(alloc, text.as_bytes())?);
+    Ok(MemSource::new(octets, Seq::new(alloc)))
+}
+
 // Runs words over the fleet of a text and a listener.
-fn ran<R: Threads + Wait + Sync, L: Listen + Drop>(
+fn ran<R: Threads + Wait + Sync + Abort, L: Listen + Drop>(
     rt: &R,
     alloc: Global,
     words: &str,
     fleet: &str,
     listen: L,
-) -> Result<Ran<L>, Memory>
+) -> Ran<L>
 where
     L::Link: Send,
 {
-    let words = words_of(alloc, words)?;
-    let fleet = Octets::from_vec(Vec::from_slice(alloc, fleet.as_bytes())?);
+    let words = words_of(alloc, words).expect(rt, "there is memory");
+    let source = source(alloc, fleet).expect(rt, "there is memory");
+    let sink = MemSink::new(alloc, 8192, Seq::new(alloc)).expect(rt, "there is memory");
     let outside = Outside {
-        source: MemSource::new(fleet, Seq::new(alloc)),
-        sink: MemSink::new(alloc, 8192, Seq::new(alloc))?,
+        source,
+        sink,
         dial: (),
         listen,
         clock: (),
         keeper: MemKeeper::new(alloc, 1000, Seq::new(alloc)),
         vault: (),
     };
-    Ok(run(rt, alloc, &words, outside))
+    run(rt, alloc, &words, outside)
 }
 
 // A listener to which one heartbeat comes.
@@ -85,7 +92,7 @@ fn is_ran<L>(ran: &Ran<L>, status: Status, printed: &[u8]) -> bool {
 fn a_heartbeat_by_words(rt: HostRuntime) -> Result<(), Fail> {
     let listen = heartbeat(rt.alloc())?;
     let words = "platform --port 9000 --sessions 1";
-    let ended = ran(&rt, rt.alloc(), words, "secret 3132", listen)?;
+    let ended = ran(&rt, rt.alloc(), words, "secret 3132", listen);
     assert!(rt;
         is_ran(
             &ended,
@@ -111,7 +118,7 @@ fn two_links_that_wait_for_each_other_by_words(rt: HostRuntime) -> Result<(), Fa
         words,
         "secret 3132",
         Pair::new(flag, other),
-    )?;
+    );
     assert!(rt;
         is_ran(
             &ended,
@@ -156,7 +163,7 @@ fn the_listener_is_told_the_port_of_the_words(rt: HostRuntime) -> Result<(), Fai
         ("platform --sessions=3 --port=65535", 65535),
     ];
     for (words, port) in rows {
-        let ended = ran(&rt, rt.alloc(), words, "secret 3132", Port { told: 0 })?;
+        let ended = ran(&rt, rt.alloc(), words, "secret 3132", Port { told: 0 });
         assert!(rt; ended.outside.listen.told == port);
         assert!(rt;
             is_ran(
@@ -178,7 +185,7 @@ fn words_that_are_none_of_platform(rt: HostRuntime) -> Result<(), Fail> {
         "platform --port 9000 --port 9000",
     ];
     for words in rows {
-        let ended = ran(&rt, rt.alloc(), words, "secret 3132", Port { told: 0 })?;
+        let ended = ran(&rt, rt.alloc(), words, "secret 3132", Port { told: 0 });
         assert!(rt; is_ran(&ended, Status::Usage, USAGE), "{words}");
         assert!(rt; ended.outside.listen.told == 0, "{words}");
     }

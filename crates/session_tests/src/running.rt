@@ -1,6 +1,6 @@
 //! A session that is fed over a hub of its own.
 
-ghost use Rattle.std.specs.Prelude.{◌≡◌, ◌≤◌, ◌<◌, ◌+◌, ◌^◌, false, None, IfOk, length};
+ghost use Rattle.std.specs.Prelude.{◌≡◌, ◌≤◌, ◌<◌, ◌+◌, ◌^◌, false, None, length};
 
 use jt_platform::{Entry, Fleet, Hub, Reply, Request, is_closed};
 use jt_session::{Counts, End, Fed, Session};
@@ -9,38 +9,59 @@ use jt_value::{Buffer, Memory, Octets, Phone, Seq};
 use std::alloc::Global;
 use std::process::Abort;
 
-/// What a session wrote, a letter for each entry's reply, and the entries in full.
+/// How the last piece was taken, what the session wrote, a letter for each entry's reply, the entries in full, the body of the
+/// last entry's unit, and what the session counted.
 #[derive(Drop)]
 pub struct Ran {
+    pub fed: Fed,
     pub written: Buffer<u8>,
     pub replies: Buffer<u8>,
     pub entries: Buffer<u8>,
+    pub body: Buffer<u8>,
     pub counts: Counts,
 }
 
+/// The most octets that a session is fed here at once.
+const MOST: usize = 100_000;
+
 fn octets(alloc: Global, octets: &[u8]) -> Result<Octets, Memory> {
-    Ok(Seq::from_vec(Vec::from_clones(alloc, octets)?))
+    Ok(Octets::from_vec(Vec::from_slice(alloc, octets)?))
 }
 
-/// A hub over an empty keeper with this limit, which fails the calls of these numbers. Its fleet has the plate `A` and the
-/// terminal id `1`, and its secret is 3132.
-pub fn hub(alloc: Global, limit: u64, failing: &[u64]) -> Result<Hub<MemKeeper>, Memory>
+fn list(alloc: Global, octet: u8) -> Result<Seq<Octets>, Memory> {
+    let octets = octets(alloc, &[octet])?;
+    let mut list = Seq::new(alloc);
+    list.push(octets)?;
+    Ok(list)
+}
+
+fn fleet(alloc: Global) -> Result<Fleet, Memory> {
+    let plates = list(alloc, b'A')?;
+    let terminals = list(alloc, b'1')?;
+    Ok(Fleet { plates, terminals })
+}
+
+fn keeper(alloc: Global, limit: u64, failing: &[u64]) -> Result<MemKeeper, Memory>
     requires { limit ≤ 1000000000 }
-    ensures { IfOk result (λ hub. hub.reserved ≡ 2) }
 {
-    let mut plates = Seq::new(alloc);
-    plates.push(octets(alloc, b"A")?)?;
-    let mut terminals = Seq::new(alloc);
-    terminals.push(octets(alloc, b"1")?)?;
-    let fleet = Fleet { plates, terminals };
-    let failing = Seq::from_vec(Vec::from_clones(alloc, failing)?);
-    let keeper = MemKeeper::new(alloc, limit, failing);
-    let secret = octets(alloc, b"12")?;
-    let Ok(mut hub) = Hub::start(alloc, keeper, fleet, secret) else {
-        return Err(Memory);
-    };
-    hub.reserve(2)?;
-    Ok(hub)
+    let failing = Seq::from_vec(Vec::from_slice(alloc, failing)?);
+    Ok(MemKeeper::new(alloc, limit, failing))
+}
+
+// A hub over an empty keeper with this limit, which fails the calls of these numbers. Its fleet has the plate `A` and the
+// terminal id `1`, and its secret is 3132.
+fn hub(rt: &impl Abort, alloc: Global, limit: u64, failing: &[u64]) -> Hub<MemKeeper>
+    requires { limit ≤ 1000000000 }
+    ensures { result.reserved ≡ 2 }
+{
+    let fleet = fleet(alloc).expect(rt, "there is memory");
+    let keeper = keeper(alloc, limit, failing).expect(rt, "there is memory");
+    let secret = octets(alloc, b"12").expect(rt, "there is memory");
+    let mut hub = Hub::start(alloc, keeper, fleet, secret)
+        .ok()
+        .expect(rt, "there is memory");
+    hub.reserve(2).expect(rt, "there is memory");
+    hub
 }
 
 fn letter(reply: &Reply) -> u8 {
@@ -57,8 +78,8 @@ fn letter(reply: &Reply) -> u8 {
     }
 }
 
-/// A letter for each entry's reply.
-pub fn letters(alloc: Global, history: &[Entry]) -> Result<Buffer<u8>, Memory> {
+// A letter for each entry's reply.
+fn letters(alloc: Global, history: &[Entry]) -> Result<Buffer<u8>, Memory> {
     let mut letters = Buffer::new(alloc);
     for entry in history {
         letters.push(letter(&entry.reply))?;
@@ -127,8 +148,8 @@ fn push_reply(text: &mut Buffer<u8>, reply: &Reply) -> Result<(), Memory> {
     }
 }
 
-/// Each entry's request and reply in full.
-pub fn spelled(alloc: Global, history: &[Entry]) -> Result<Buffer<u8>, Memory> {
+// Each entry's request and reply in full.
+fn spelled(alloc: Global, history: &[Entry]) -> Result<Buffer<u8>, Memory> {
     let mut text = Buffer::new(alloc);
     for entry in history {
         push_request(&mut text, &entry.request)?;
@@ -137,13 +158,8 @@ pub fn spelled(alloc: Global, history: &[Entry]) -> Result<Buffer<u8>, Memory> {
     Ok(text)
 }
 
-/// Feeds a session. One that is closed is told that it ended.
-pub fn feed(
-    session: &mut Session,
-    hub: &mut Hub<MemKeeper>,
-    octets: &[u8],
-    out: &mut Buffer<u8>,
-) -> Fed
+// Feeds a session. One that is closed is told that it ended.
+fn feed(session: &mut Session, hub: &mut Hub<MemKeeper>, octets: &[u8], out: &mut Buffer<u8>) -> Fed
     requires waits { session.old.waiting ≡ None }
     requires on { session.old.over ≡ false }
     requires short { session.old.stream.place + length octets.now < 2 ^ 63 }
@@ -158,8 +174,8 @@ pub fn feed(
     session.feed(hub, octets, out)
 }
 
-/// Closes a session that is not closed yet, where the memory for its Close is there.
-pub fn close(session: &mut Session, hub: &mut Hub<MemKeeper>)
+// Closes a session that is not closed yet, where the memory for its Close is there.
+fn close(session: &mut Session, hub: &mut Hub<MemKeeper>)
     requires reserved { hub.old.reserved ≡ 2 }
     ensures same { session.new ≡ session.old }
 {
@@ -167,30 +183,6 @@ pub fn close(session: &mut Session, hub: &mut Hub<MemKeeper>)
     if 1 <= number && number <= 2 && !is_closed(hub.history(), number) {
         session.close(hub);
     }
-}
-
-// Feeds a session that goes on a stream in two pieces.
-fn feed_both(
-    rt: &impl Abort,
-    session: &mut Session,
-    hub: &mut Hub<MemKeeper>,
-    stream: &[u8],
-    cut: usize,
-    out: &mut Buffer<u8>,
-)
-    requires waits { session.old.waiting ≡ None }
-    requires on { session.old.over ≡ false }
-    requires cut { cut ≤ length stream.now }
-    requires short { session.old.stream.place + length stream.now < 2 ^ 63 }
-    ensures waits { session.new.waiting ≡ None }
-    ensures on { session.new.over ≡ false }
-    ensures place { session.new.stream.place ≤ session.old.stream.place + length stream.now }
-    ensures reserved { hub.new.reserved ≡ hub.old.reserved }
-{
-    let first = feed(session, hub, &stream[..cut], out);
-    assert!(rt; first == Fed::On);
-    let second = feed(session, hub, &stream[cut..], out);
-    assert!(rt; second == Fed::On);
 }
 
 // Feeds a session that goes on, and leaves out what it wrote.
@@ -214,22 +206,135 @@ fn feed_apart(
     assert!(rt; fed == Fed::On);
 }
 
-/// Feeds a session the octets before, and then the stream in two pieces, and closes it. What it wrote of the octets before is
-/// left out.
-pub fn run(rt: &impl Abort, alloc: Global, before: &[u8], stream: &[u8], cut: usize) -> Ran
+// Feeds a session that goes on a stream in two pieces. It goes on between them.
+fn feed_both(
+    rt: &impl Abort,
+    session: &mut Session,
+    hub: &mut Hub<MemKeeper>,
+    stream: &[u8],
+    cut: usize,
+    out: &mut Buffer<u8>,
+) -> Fed
+    requires waits { session.old.waiting ≡ None }
+    requires on { session.old.over ≡ false }
     requires cut { cut ≤ length stream.now }
-    requires short { (length before.now < 2 ^ 32) × (length stream.now < 2 ^ 32) }
+    requires short { session.old.stream.place + length stream.now < 2 ^ 63 }
+    ensures waits { session.new.waiting ≡ None }
+    ensures reserved { hub.new.reserved ≡ hub.old.reserved }
 {
-    let mut hub = hub(alloc, 10, &[]).expect(rt, "there is memory");
-    let mut session = Session::new(alloc, 1).expect(rt, "there is memory");
-    let mut written = Buffer::new(alloc);
-    feed_apart(rt, alloc, &mut session, &mut hub, before);
-    feed_both(rt, &mut session, &mut hub, stream, cut, &mut written);
-    close(&mut session, &mut hub);
-    Ran {
-        written,
-        replies: letters(alloc, hub.history()).expect(rt, "there is memory"),
-        entries: spelled(alloc, hub.history()).expect(rt, "there is memory"),
-        counts: session.counts(),
+    let first = feed(session, hub, &stream[..cut], out);
+    assert!(rt; first == Fed::On);
+    feed(session, hub, &stream[cut..], out)
+}
+
+// The body of the last entry's unit.
+fn last_body(history: &[Entry]) -> &[u8] {
+    match history.last() {
+        Some(
+            Entry {
+                request: Request::Unit { body, .. },
+                ..
+            },
+        ) => body.as_slice(),
+        _ => &[],
     }
+}
+
+fn copied(alloc: Global, octets: &[u8]) -> Result<Buffer<u8>, Memory> {
+    let mut copied = Buffer::new(alloc);
+    push_all(&mut copied, octets)?;
+    Ok(copied)
+}
+
+// What came of it.
+fn told(
+    rt: &impl Abort,
+    alloc: Global,
+    fed: Fed,
+    written: Buffer<u8>,
+    history: &[Entry],
+    counts: Counts,
+) -> Ran {
+    Ran {
+        fed,
+        written,
+        replies: letters(alloc, history).expect(rt, "there is memory"),
+        entries: spelled(alloc, history).expect(rt, "there is memory"),
+        body: copied(alloc, last_body(history)).expect(rt, "there is memory"),
+        counts,
+    }
+}
+
+// Feeds the first session the octets before, the second one others, and the first one the stream in two pieces, and closes it
+// if it is to be closed. What was written of the octets before and of the others is left out.
+fn play(
+    rt: &impl Abort,
+    alloc: Global,
+    hub: &mut Hub<MemKeeper>,
+    first: &mut Session,
+    second: &mut Session,
+    before: &[u8],
+    others: &[u8],
+    stream: &[u8],
+    cut: usize,
+    closes: bool,
+) -> Ran
+    requires reserved { hub.old.reserved ≡ 2 }
+    requires first { (first.old.waiting ≡ None) × (first.old.over ≡ false) × (first.old.stream.place ≡ 0) }
+    requires second { (second.old.waiting ≡ None) × (second.old.over ≡ false) × (second.old.stream.place ≡ 0) }
+    requires cut { cut ≤ length stream.now }
+    requires short { (length before.now ≤ 100000) × (length others.now ≤ 100000) × (length stream.now ≤ 100000) }
+{
+    let mut written = Buffer::new(alloc);
+    feed_apart(rt, alloc, first, hub, before);
+    feed_apart(rt, alloc, second, hub, others);
+    let fed = feed_both(rt, first, hub, stream, cut, &mut written);
+    if closes {
+        close(first, hub);
+    }
+    told(rt, alloc, fed, written, hub.history(), first.counts())
+}
+
+/// Two sessions over a hub with this limit, which fails the calls of these numbers. The first session is fed the octets before,
+/// the second one others, and the first one the stream in two pieces. It is closed then, if it is to be. What was written of the
+/// octets before and of the others is left out.
+pub fn run(
+    rt: &impl Abort,
+    alloc: Global,
+    limit: u64,
+    failing: &[u64],
+    before: &[u8],
+    others: &[u8],
+    stream: &[u8],
+    cut: usize,
+    closes: bool,
+) -> Ran
+    requires { limit ≤ 1000000000 }
+{
+    assert!(rt; before.len() <= MOST);
+    assert!(rt; others.len() <= MOST);
+    assert!(rt; stream.len() <= MOST);
+    assert!(rt; cut <= stream.len());
+    let mut hub = hub(rt, alloc, limit, failing);
+    let mut first = Session::new(alloc, 1).expect(rt, "there is memory");
+    let mut second = Session::new(alloc, 2).expect(rt, "there is memory");
+    play(
+        rt,
+        alloc,
+        &mut hub,
+        &mut first,
+        &mut second,
+        before,
+        others,
+        stream,
+        cut,
+        closes,
+    )
+}
+
+/// What one session that goes on tells of the octets before and the stream, and is closed then.
+pub fn run_closed(rt: &impl Abort, alloc: Global, before: &[u8], stream: &[u8], cut: usize) -> Ran {
+    let ran = run(rt, alloc, 10, &[], before, &[], stream, cut, true);
+    assert!(rt; ran.fed == Fed::On);
+    ran
 }

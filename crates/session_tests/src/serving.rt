@@ -1,6 +1,6 @@
 //! Links that a session serves over a turn.
 
-ghost use Rattle.std.specs.Prelude.{◌≡◌, ◌≤◌, ◌^◌, [], IfOk};
+ghost use Rattle.std.specs.Prelude.{◌≡◌, ◌≤◌, ◌^◌, []};
 
 use jt_link::ScriptLink;
 use jt_platform::{Fleet, Hub};
@@ -9,6 +9,7 @@ use jt_store::MemKeeper;
 use jt_turn::Turn;
 use jt_value::{Memory, Octets, Seq};
 use std::alloc::Global;
+use std::process::Abort;
 use std::sync::Wait;
 use std::test::*;
 
@@ -23,37 +24,46 @@ const REFUSED: &[u8; 20] =
 const FIRST_PACKETS: &[u8; 105] =
     b"\x7e\x01\x04\x20\x02\x01\x39\x12\x34\x56\x78\x00\x00\x00\x03\x00\x01\x00\x07\x12\x7e\x7e\x01\x04\x20\x02\x01\x39\x12\x34\x56\x78\x00\x0a\x00\x03\x00\x01\x00\x07\x18\x7e\x7e\x01\x04\x20\x02\x01\x39\x12\x34\x56\x78\x00\x14\x00\x03\x00\x01\x00\x07\x06\x7e\x7e\x01\x04\x20\x02\x01\x39\x12\x34\x56\x78\x00\x1e\x00\x03\x00\x01\x00\x07\x0c\x7e\x7e\x01\x04\x20\x02\x01\x39\x12\x34\x56\x78\x00\x28\x00\x03\x00\x01\x00\x07\x3a\x7e";
 
-fn new_hub(alloc: Global) -> Result<Hub<MemKeeper>, Memory>
-    ensures { IfOk result (λ hub. (hub.history ≡ []) × (hub.reserved ≡ 1)) }
+fn new_hub(rt: &impl Abort, alloc: Global) -> Hub<MemKeeper>
+    ensures { (result.history ≡ []) × (result.reserved ≡ 1) }
 {
     let fleet = Fleet {
         plates: Seq::new(alloc),
         terminals: Seq::new(alloc),
     };
     let keeper = MemKeeper::new(alloc, 1000, Seq::new(alloc));
-    let Ok(mut hub) = Hub::start(alloc, keeper, fleet, Seq::new(alloc)) else {
-        return Err(Memory);
-    };
-    hub.reserve(1)?;
-    Ok(hub)
+    let mut hub = Hub::start(alloc, keeper, fleet, Seq::new(alloc))
+        .ok()
+        .expect(rt, "there is memory");
+    hub.reserve(1).expect(rt, "there is memory");
+    hub
 }
 
 // The report of the link's session, and how many entries the history has then.
-fn served<R: Wait>(
+fn served<R: Wait + Abort>(
     rt: &R,
     alloc: Global,
     link: &mut ScriptLink,
     octets: u64,
-) -> Option<(Report, usize)>
+) -> (Report, usize)
     requires { (1 ≤ octets) × (octets ≤ 2 ^ 40) }
 {
-    let hub = new_hub(alloc).ok()?;
-    let (turn, mut pass) = Turn::begin(alloc, hub).ok()?;
-    let one = turn.split(&mut pass, 1).ok()?;
+    let hub = new_hub(rt, alloc);
+    let (turn, mut pass) = Turn::begin(alloc, hub).ok().expect(rt, "there is memory");
+    let one = turn.split(&mut pass, 1).expect(rt, "there is memory");
     let (report, one) = serve_link_within(rt, alloc, link, &turn, one, octets);
     turn.join(&mut pass, one);
     let hub = turn.close(pass);
-    Some((report, hub.history().len()))
+    (report, hub.history().len())
+}
+
+// The report of the link's session, which takes up to 2^40 octets.
+fn served_whole<R: Wait + Abort>(rt: &R, alloc: Global, link: &mut ScriptLink) -> Report {
+    let hub = new_hub(rt, alloc);
+    let (turn, mut pass) = Turn::begin(alloc, hub).ok().expect(rt, "there is memory");
+    let one = turn.split(&mut pass, 1).expect(rt, "there is memory");
+    let (report, _one) = serve_link(rt, alloc, link, &turn, one);
+    report
 }
 
 fn link(alloc: Global, octets: &[u8], failing: u64) -> Result<ScriptLink, Memory> {
@@ -68,7 +78,7 @@ const MOST: u64 = 1 << 40;
 #[test]
 fn a_heartbeat_and_the_end(rt: HostRuntime) -> Result<(), Fail> {
     let mut link = link(rt.alloc(), HEARTBEAT, 0)?;
-    let (report, entries) = served(&rt, rt.alloc(), &mut link, MOST).ok_or("memory")?;
+    let (report, entries) = served(&rt, rt.alloc(), &mut link, MOST);
     let wanted = Report {
         session: 1,
         read: 15,
@@ -78,9 +88,9 @@ fn a_heartbeat_and_the_end(rt: HostRuntime) -> Result<(), Fail> {
         dropped: 0,
         end: End::Ended,
     };
-    assert_eq!(rt; report, wanted);
-    assert_eq!(rt; entries, 2);
-    assert_eq!(rt; link.written(), REFUSED.as_slice());
+    assert!(rt; report == wanted);
+    assert!(rt; entries == 2);
+    assert!(rt; link.written() == REFUSED.as_slice());
     Ok(())
 }
 
@@ -93,12 +103,12 @@ fn a_link_that_fails(rt: HostRuntime) -> Result<(), Fail> {
         (3, 15, 20, 1, 2),
     ] {
         let mut link = link(rt.alloc(), HEARTBEAT, failing)?;
-        let (report, found) = served(&rt, rt.alloc(), &mut link, MOST).ok_or("memory")?;
-        assert_eq!(rt; report.end, End::LinkFault);
-        assert_eq!(rt; report.read, read);
-        assert_eq!(rt; report.written, written);
-        assert_eq!(rt; report.frames, frames);
-        assert_eq!(rt; found, entries);
+        let (report, found) = served(&rt, rt.alloc(), &mut link, MOST);
+        assert!(rt; report.end == End::LinkFault);
+        assert!(rt; report.read == read);
+        assert!(rt; report.written == written);
+        assert!(rt; report.frames == frames);
+        assert!(rt; found == entries);
     }
     Ok(())
 }
@@ -106,7 +116,7 @@ fn a_link_that_fails(rt: HostRuntime) -> Result<(), Fail> {
 #[test]
 fn first_packets_of_five_messages(rt: HostRuntime) -> Result<(), Fail> {
     let mut link = link(rt.alloc(), FIRST_PACKETS, 0)?;
-    let (report, entries) = served(&rt, rt.alloc(), &mut link, MOST).ok_or("memory")?;
+    let (report, entries) = served(&rt, rt.alloc(), &mut link, MOST);
     let wanted = Report {
         session: 1,
         read: 105,
@@ -116,15 +126,15 @@ fn first_packets_of_five_messages(rt: HostRuntime) -> Result<(), Fail> {
         dropped: 1,
         end: End::Ended,
     };
-    assert_eq!(rt; report, wanted);
-    assert_eq!(rt; entries, 1);
+    assert!(rt; report == wanted);
+    assert!(rt; entries == 1);
     Ok(())
 }
 
 #[test]
 fn a_link_that_never_ends(rt: HostRuntime) -> Result<(), Fail> {
     let mut link = ScriptLink::endless(rt.alloc(), 0, 65_536)?;
-    let (report, entries) = served(&rt, rt.alloc(), &mut link, 4096).ok_or("memory")?;
+    let (report, entries) = served(&rt, rt.alloc(), &mut link, 4096);
     let wanted = Report {
         session: 1,
         read: 4096,
@@ -134,8 +144,8 @@ fn a_link_that_never_ends(rt: HostRuntime) -> Result<(), Fail> {
         dropped: 0,
         end: End::Spent,
     };
-    assert_eq!(rt; report, wanted);
-    assert_eq!(rt; entries, 1);
+    assert!(rt; report == wanted);
+    assert!(rt; entries == 1);
     Ok(())
 }
 
@@ -143,10 +153,7 @@ fn a_link_that_never_ends(rt: HostRuntime) -> Result<(), Fail> {
 #[test]
 fn a_quiet_link(rt: HostRuntime) -> Result<(), Fail> {
     let mut link = ScriptLink::quiet(rt.alloc(), 65_536)?;
-    let hub = new_hub(rt.alloc())?;
-    let (turn, mut pass) = Turn::begin(rt.alloc(), hub).ok().ok_or("memory")?;
-    let one = turn.split(&mut pass, 1)?;
-    let (report, _one) = serve_link(&rt, rt.alloc(), &mut link, &turn, one);
+    let report = served_whole(&rt, rt.alloc(), &mut link);
     let wanted = Report {
         session: 1,
         read: 0,
@@ -156,7 +163,7 @@ fn a_quiet_link(rt: HostRuntime) -> Result<(), Fail> {
         dropped: 0,
         end: End::Idle,
     };
-    assert_eq!(rt; report, wanted);
+    assert!(rt; report == wanted);
     Ok(())
 }
 
@@ -165,10 +172,10 @@ fn a_quiet_link(rt: HostRuntime) -> Result<(), Fail> {
 fn a_read_takes_at_most_a_piece(rt: HostRuntime) -> Result<(), Fail> {
     let zeros = vec![in rt.alloc(); 0u8; 5000]?;
     let mut link = link(rt.alloc(), zeros.as_slice(), 2)?;
-    let (report, entries) = served(&rt, rt.alloc(), &mut link, MOST).ok_or("memory")?;
-    assert_eq!(rt; report.end, End::LinkFault);
-    assert_eq!(rt; report.read, 4096);
-    assert_eq!(rt; report.written, 0);
-    assert_eq!(rt; entries, 1);
+    let (report, entries) = served(&rt, rt.alloc(), &mut link, MOST);
+    assert!(rt; report.end == End::LinkFault);
+    assert!(rt; report.read == 4096);
+    assert!(rt; report.written == 0);
+    assert!(rt; entries == 1);
     Ok(())
 }

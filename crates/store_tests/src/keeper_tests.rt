@@ -42,15 +42,15 @@ fn rows_are_found_by_their_numbers(rt: HostRuntime) -> Result<(), Fail> {
     let new = phone(Edition::E2019, 0x78);
     let other = phone(Edition::E2013, 0x79);
     let mut keeper = MemKeeper::new(alloc, 9, Seq::new(alloc));
-    assert_eq!(rt; keeper.last(alloc, &old), Ok(None));
-    assert_eq!(rt; put(alloc, &mut keeper, &old, 2, 7), Ok(()));
-    assert_eq!(rt; put(alloc, &mut keeper, &new, 5, 8), Ok(()));
-    assert_eq!(rt; number_at(alloc, &mut keeper, &old, 3), Ok(None));
-    assert_eq!(rt; number_at(alloc, &mut keeper, &old, 5), Ok(Some(5)));
-    assert_eq!(rt; keeper.last(alloc, &old), Ok(Some(5)));
-    assert_eq!(rt; number_from(alloc, &mut keeper, &new, 3), Ok(Some(5)));
-    assert_eq!(rt; number_from(alloc, &mut keeper, &new, 6), Ok(None));
-    assert_eq!(rt; keeper.last(alloc, &other), Ok(None));
+    assert!(rt; keeper.last(alloc, &old) == Ok(None));
+    assert!(rt; put(alloc, &mut keeper, &old, 2, 7) == Ok(()));
+    assert!(rt; put(alloc, &mut keeper, &new, 5, 8) == Ok(()));
+    assert!(rt; number_at(alloc, &mut keeper, &old, 3) == Ok(None));
+    assert!(rt; number_at(alloc, &mut keeper, &old, 5) == Ok(Some(5)));
+    assert!(rt; keeper.last(alloc, &old) == Ok(Some(5)));
+    assert!(rt; number_from(alloc, &mut keeper, &new, 3) == Ok(Some(5)));
+    assert!(rt; number_from(alloc, &mut keeper, &new, 6) == Ok(None));
+    assert!(rt; keeper.last(alloc, &other) == Ok(None));
     Ok(())
 }
 
@@ -59,11 +59,11 @@ fn a_row_keeps_its_body(rt: HostRuntime) -> Result<(), Fail> {
     let alloc = rt.alloc();
     let one = phone(Edition::E2013, 0x78);
     let mut keeper = MemKeeper::new(alloc, 9, Seq::new(alloc));
-    assert_eq!(rt; put(alloc, &mut keeper, &one, 2, 7), Ok(()));
+    assert!(rt; put(alloc, &mut keeper, &one, 2, 7) == Ok(()));
     match keeper.row_at(alloc, &one, 2) {
         Ok(Some(row)) => {
-            assert_eq!(rt; row.id, 0x0200);
-            assert_eq!(rt; row.body.as_slice(), [7].as_slice());
+            assert!(rt; row.id == 0x0200);
+            assert!(rt; row.body.as_slice() == [7].as_slice());
         }
         _ => assert!(rt; false),
     }
@@ -75,12 +75,9 @@ fn a_full_list_takes_no_row(rt: HostRuntime) -> Result<(), Fail> {
     let alloc = rt.alloc();
     let one = phone(Edition::E2013, 0x78);
     let mut keeper = MemKeeper::new(alloc, 1, Seq::new(alloc));
-    assert_eq!(rt; put(alloc, &mut keeper, &one, 2, 7), Ok(()));
-    assert_eq!(rt;
-        put(alloc, &mut keeper, &one, 3, 7),
-        Err(StoreError::Full(1))
-    );
-    assert_eq!(rt; keeper.last(alloc, &one), Ok(Some(2)));
+    assert!(rt; put(alloc, &mut keeper, &one, 2, 7) == Ok(()));
+    assert!(rt; put(alloc, &mut keeper, &one, 3, 7) == Err(StoreError::Full(1)));
+    assert!(rt; keeper.last(alloc, &one) == Ok(Some(2)));
     Ok(())
 }
 
@@ -89,22 +86,22 @@ fn registrations_go_and_rows_stay(rt: HostRuntime) -> Result<(), Fail> {
     let alloc = rt.alloc();
     let one = phone(Edition::E2013, 0x78);
     let mut keeper = MemKeeper::new(alloc, 9, Seq::new(alloc));
-    assert_eq!(rt; put(alloc, &mut keeper, &one, 2, 7), Ok(()));
-    assert_eq!(rt; enrol(alloc, &mut keeper, &one, b"AB1", b"T1"), Ok(true));
+    assert!(rt; put(alloc, &mut keeper, &one, 2, 7) == Ok(()));
+    assert!(rt; enrol(alloc, &mut keeper, &one, b"AB1", b"T1") == Ok(true));
     match keeper.registered(alloc, &one) {
         Ok(Some(registered)) => {
-            assert_eq!(rt; registered.plate.as_slice(), b"AB1".as_slice());
-            assert_eq!(rt; registered.terminal.as_slice(), b"T1".as_slice());
+            assert!(rt; registered.plate.as_slice() == b"AB1".as_slice());
+            assert!(rt; registered.terminal.as_slice() == b"T1".as_slice());
         }
         _ => assert!(rt; false),
     }
-    assert_eq!(rt; keeper.unregister(alloc, &one), Ok(()));
+    assert!(rt; keeper.unregister(alloc, &one) == Ok(()));
     match keeper.registered(alloc, &one) {
         Ok(None) => {}
         _ => assert!(rt; false),
     }
-    assert_eq!(rt; keeper.plate_owner(alloc, b"AB1"), Ok(None));
-    assert_eq!(rt; keeper.last(alloc, &one), Ok(Some(2)));
+    assert!(rt; keeper.plate_owner(alloc, b"AB1") == Ok(None));
+    assert!(rt; keeper.last(alloc, &one) == Ok(Some(2)));
     Ok(())
 }
 
@@ -115,15 +112,15 @@ fn owners_are_phones_of_2019(rt: HostRuntime) -> Result<(), Fail> {
     let other = phone(Edition::E2019, 0x79);
     let owner = phone(Edition::E2019, 0x78);
     let mut keeper = MemKeeper::new(alloc, 9, Seq::new(alloc));
-    assert_eq!(rt; enrol(alloc, &mut keeper, &one, b"AB1", b"T1"), Ok(true));
-    assert_eq!(rt; keeper.plate_owner(alloc, b"AB1"), Ok(Some(owner)));
-    assert_eq!(rt; keeper.terminal_owner(alloc, b"T1"), Ok(Some(owner)));
-    assert_eq!(rt; keeper.terminal_owner(alloc, b"AB1"), Ok(None));
-    assert_eq!(rt; enrol(alloc, &mut keeper, &other, b"AB1", b"T2"), Ok(false));
-    assert_eq!(rt; enrol(alloc, &mut keeper, &other, b"AB2", b"T2"), Ok(true));
-    assert_eq!(rt; enrol(alloc, &mut keeper, &owner, b"AB3", b"T1"), Ok(true));
-    assert_eq!(rt; keeper.plate_owner(alloc, b"AB1"), Ok(None));
-    assert_eq!(rt; keeper.plate_owner(alloc, b"AB3"), Ok(Some(owner)));
+    assert!(rt; enrol(alloc, &mut keeper, &one, b"AB1", b"T1") == Ok(true));
+    assert!(rt; keeper.plate_owner(alloc, b"AB1") == Ok(Some(owner)));
+    assert!(rt; keeper.terminal_owner(alloc, b"T1") == Ok(Some(owner)));
+    assert!(rt; keeper.terminal_owner(alloc, b"AB1") == Ok(None));
+    assert!(rt; enrol(alloc, &mut keeper, &other, b"AB1", b"T2") == Ok(false));
+    assert!(rt; enrol(alloc, &mut keeper, &other, b"AB2", b"T2") == Ok(true));
+    assert!(rt; enrol(alloc, &mut keeper, &owner, b"AB3", b"T1") == Ok(true));
+    assert!(rt; keeper.plate_owner(alloc, b"AB1") == Ok(None));
+    assert!(rt; keeper.plate_owner(alloc, b"AB3") == Ok(Some(owner)));
     Ok(())
 }
 
@@ -132,10 +129,10 @@ fn listed_calls_fail(rt: HostRuntime) -> Result<(), Fail> {
     let alloc = rt.alloc();
     let one = phone(Edition::E2013, 0x78);
     let mut failing = Seq::new(alloc);
-    assert_eq!(rt; failing.push(2), Ok(()));
+    assert!(rt; failing.push(2) == Ok(()));
     let mut keeper = MemKeeper::new(alloc, 9, failing);
-    assert_eq!(rt; keeper.last(alloc, &one), Ok(None));
-    assert_eq!(rt; keeper.last(alloc, &one), Err(StoreError::Failed));
-    assert_eq!(rt; keeper.last(alloc, &one), Ok(None));
+    assert!(rt; keeper.last(alloc, &one) == Ok(None));
+    assert!(rt; keeper.last(alloc, &one) == Err(StoreError::Failed));
+    assert!(rt; keeper.last(alloc, &one) == Ok(None));
     Ok(())
 }

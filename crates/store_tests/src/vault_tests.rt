@@ -14,12 +14,12 @@ fn note(alloc: Global, vault: &mut MemVault, lat: u32) -> Result<(), StoreError>
 fn a_full_vault_takes_a_fix_once_one_is_accepted(rt: HostRuntime) -> Result<(), Fail> {
     let alloc = rt.alloc();
     let mut vault = MemVault::new(alloc, 1, Seq::new(alloc));
-    assert_eq!(rt; note(alloc, &mut vault, 1), Ok(()));
-    assert_eq!(rt; note(alloc, &mut vault, 2), Err(StoreError::Full(1)));
-    assert_eq!(rt; form_next(alloc, &mut vault), Ok(true));
-    assert_eq!(rt; note(alloc, &mut vault, 2), Err(StoreError::Full(1)));
-    assert_eq!(rt; accept_next(alloc, &mut vault), Ok(true));
-    assert_eq!(rt; note(alloc, &mut vault, 2), Ok(()));
+    assert!(rt; note(alloc, &mut vault, 1) == Ok(()));
+    assert!(rt; note(alloc, &mut vault, 2) == Err(StoreError::Full(1)));
+    assert!(rt; form_next(alloc, &mut vault) == Ok(true));
+    assert!(rt; note(alloc, &mut vault, 2) == Err(StoreError::Full(1)));
+    assert!(rt; accept_next(alloc, &mut vault) == Ok(true));
+    assert!(rt; note(alloc, &mut vault, 2) == Ok(()));
     Ok(())
 }
 
@@ -27,12 +27,12 @@ fn a_full_vault_takes_a_fix_once_one_is_accepted(rt: HostRuntime) -> Result<(), 
 fn a_listed_call_fails_and_records_nothing(rt: HostRuntime) -> Result<(), Fail> {
     let alloc = rt.alloc();
     let mut failing = Seq::new(alloc);
-    assert_eq!(rt; failing.push(2), Ok(()));
+    assert!(rt; failing.push(2) == Ok(()));
     let mut vault = MemVault::new(alloc, 9, failing);
-    assert_eq!(rt; note(alloc, &mut vault, 1), Ok(()));
-    assert_eq!(rt; note(alloc, &mut vault, 2), Err(StoreError::Failed));
+    assert!(rt; note(alloc, &mut vault, 1) == Ok(()));
+    assert!(rt; note(alloc, &mut vault, 2) == Err(StoreError::Failed));
     match vault.load(alloc) {
-        Ok(loaded) => assert_eq!(rt; loaded.recorded, 1),
+        Ok(loaded) => assert!(rt; loaded.recorded == 1),
         Err(_) => assert!(rt; false),
     }
     Ok(())
@@ -42,21 +42,21 @@ fn a_listed_call_fails_and_records_nothing(rt: HostRuntime) -> Result<(), Fail> 
 fn a_vault_loads_what_waits(rt: HostRuntime) -> Result<(), Fail> {
     let alloc = rt.alloc();
     let mut vault = MemVault::new(alloc, 9, Seq::new(alloc));
-    assert_eq!(rt; note(alloc, &mut vault, 1), Ok(()));
-    assert_eq!(rt; note(alloc, &mut vault, 2), Ok(()));
-    assert_eq!(rt; note(alloc, &mut vault, 3), Ok(()));
-    assert_eq!(rt; form_next(alloc, &mut vault), Ok(true));
-    assert_eq!(rt; form_next(alloc, &mut vault), Ok(true));
-    assert_eq!(rt; accept_next(alloc, &mut vault), Ok(true));
-    assert_eq!(rt; vault.set_code(alloc, Some(b"AB")), Ok(()));
+    assert!(rt; note(alloc, &mut vault, 1) == Ok(()));
+    assert!(rt; note(alloc, &mut vault, 2) == Ok(()));
+    assert!(rt; note(alloc, &mut vault, 3) == Ok(()));
+    assert!(rt; form_next(alloc, &mut vault) == Ok(true));
+    assert!(rt; form_next(alloc, &mut vault) == Ok(true));
+    assert!(rt; accept_next(alloc, &mut vault) == Ok(true));
+    assert!(rt; vault.set_code(alloc, Some(b"AB")) == Ok(()));
     match vault.load(alloc) {
         Ok(loaded) => {
-            assert_eq!(rt; loaded.fixes.len(), 1);
-            assert_eq!(rt; loaded.units.len(), 1);
-            assert_eq!(rt; (loaded.mark, loaded.next), (0, 2));
-            assert_eq!(rt; (loaded.recorded, loaded.accepted), (3, 1));
+            assert!(rt; loaded.fixes.len() == 1);
+            assert!(rt; loaded.units.len() == 1);
+            assert!(rt; (loaded.mark, loaded.next) == (0, 2));
+            assert!(rt; (loaded.recorded, loaded.accepted) == (3, 1));
             match &loaded.code {
-                Some(code) => assert_eq!(rt; code.as_slice(), b"AB".as_slice()),
+                Some(code) => assert!(rt; code.as_slice() == b"AB".as_slice()),
                 None => assert!(rt; false),
             }
         }

@@ -7,7 +7,6 @@ use jt_store::{MemVault, StoreError, Vault};
 use jt_terminal::{Settings, Terminal};
 use jt_value::{Edition, Seq};
 use std::alloc::Global;
-use std::test::Fail;
 
 // Records a fix. Whether it was recorded, how many are recorded and accepted then, and whether all is done.
 fn recorded(alloc: Global, terminal: &mut Terminal<MemVault>) -> (bool, (u64, u64), bool) {
@@ -35,104 +34,108 @@ fn beats(alloc: Global, terminal: &mut Terminal<MemVault>, count: u32, frame: &[
     (sent, is_last)
 }
 
-#[test]
-fn counts_of_fixes(rt: HostRuntime) -> Result<(), Fail> {
-    let alloc = rt.alloc();
-    let mut terminal = started(alloc, Edition::E2013, Seq::new(alloc)).expect(&rt, "started");
-    assert_eq!(rt; terminal.counts(), (0, 0));
-    assert!(rt; terminal.done());
-    assert_eq!(rt; recorded(alloc, &mut terminal), (true, (1, 0), false));
+fn is_counted(alloc: Global, terminal: &mut Terminal<MemVault>) -> bool {
+    terminal.counts() == (0, 0)
+        && terminal.done()
+        && recorded(alloc, terminal) == (true, (1, 0), false)
+}
+
+fn loaded_counts(alloc: Global, vault: &mut MemVault) -> Option<(u64, u64)> {
+    match vault.load(alloc) {
+        Ok(loaded) => Some((loaded.recorded, loaded.accepted)),
+        Err(_) => None,
+    }
+}
+
+// Whether a terminal counts a fix, and the counts that its vault has then.
+fn counted(alloc: Global) -> Option<(bool, Option<(u64, u64)>)> {
+    let mut terminal = started(alloc, Edition::E2013, Seq::new(alloc))?;
+    let is_counted = is_counted(alloc, &mut terminal);
     let mut vault = terminal.into_vault();
-    let loaded = vault.load(alloc).expect(&rt, "loaded");
-    assert_eq!(rt; (loaded.recorded, loaded.accepted), (1, 0));
-    Ok(())
+    Some((is_counted, loaded_counts(alloc, &mut vault)))
 }
 
 #[test]
-fn heartbeats_leave_the_last_serial_to_a_unit_in_2013(rt: HostRuntime) -> Result<(), Fail> {
-    let alloc = rt.alloc();
-    let edition = Edition::E2013;
-    let registration: &[u8] =
+fn counts_of_fixes(rt: HostRuntime) {
+    assert!(rt; counted(rt.alloc()) == Some((true, Some((1, 0)))));
+}
+
+// Some rows, 40,000 heartbeats of which the last one is this, and more rows. The first wrong row of each, or their numbers, and
+// between them what the heartbeats gave.
+fn talk(
+    alloc: Global,
+    terminal: &mut Terminal<MemVault>,
+    edition: Edition,
+    begin: &[(u8, u32, u16, u8, &[u8], &[u8])],
+    heartbeat: &[u8],
+    last: &[(u8, u32, u16, u8, &[u8], &[u8])],
+) -> (usize, (u32, bool), usize)
+    requires { terminal.old.state.time ≡ 0 }
+{
+    let mut time = 0;
+    let first = wrong_row(alloc, terminal, &mut time, edition, begin);
+    let sent = beats(alloc, terminal, 40_000, heartbeat);
+    let second = wrong_row(alloc, terminal, &mut time, edition, last);
+    (first, sent, second)
+}
+
+// The same of a terminal that begins.
+fn talked(
+    alloc: Global,
+    edition: Edition,
+    begin: &[(u8, u32, u16, u8, &[u8], &[u8])],
+    heartbeat: &[u8],
+    last: &[(u8, u32, u16, u8, &[u8], &[u8])],
+) -> Option<(usize, (u32, bool), usize)> {
+    let mut terminal = started(alloc, edition, Seq::new(alloc))?;
+    Some(talk(alloc, &mut terminal, edition, begin, heartbeat, last))
+}
+
+#[test]
+fn heartbeats_leave_the_last_serial_to_a_unit_in_2013(rt: HostRuntime) {
+    const REGISTRATION: &[u8] =
         b"~\x01\x00\x00*\x019\x124Vx\x00\x00\x00\x00\x00\x00\x00\x00\x00\x00\x00\x00\x00\x00\x00\x00\x00\x00\x00\x00\x00\x00\x00\x00\x00\x00\x00\x00\x00\x00\x001234567\x01JT808\x04~";
-    let authentication: &[u8] = b"~\x01\x02\x00\x02\x019\x124Vx\x00\x01AB3~";
+    const AUTHENTICATION: &[u8] = b"~\x01\x02\x00\x02\x019\x124Vx\x00\x01AB3~";
     let heartbeat: &[u8] = b"~\x00\x02\x00\x00\x019\x124Vx\x7f\xfd\xb0~";
-    let unit: &[u8] =
+    const UNIT: &[u8] =
         b"~\x02\x00\x00\x1c\x019\x124Vx\x7f\xfd\x00\x00\x00\x00\x00\x00\x00\x03\x00\x00\x00\x01\x06\xbc>@\x00\x00\x00\x00\x00\x00$\x01\x01\x00\x00\x00N~";
-    let begin: [(u8, u32, u16, u8, &[u8], &[u8]); 3] = [
-        (b'O', 0, 0, 0, b"", registration),
-        (b'R', 0, 0, 0, b"AB", authentication),
+    let begin: &[(u8, u32, u16, u8, &[u8], &[u8])] = &[
+        (b'O', 0, 0, 0, b"", REGISTRATION),
+        (b'R', 0, 0, 0, b"AB", AUTHENTICATION),
         (b'A', 1, 0x0102, 0, b"", b""),
     ];
-    let last: [(u8, u32, u16, u8, &[u8], &[u8]); 4] = [
+    let last: &[(u8, u32, u16, u8, &[u8], &[u8])] = &[
         (b'F', 1, 0, 0, b"", b""),
-        (b'T', 0, 0, 0, b"", unit),
+        (b'T', 0, 0, 0, b"", UNIT),
         (b'F', 2, 0, 0, b"", b""),
         (b'T', 0, 0, 0, b"", b""),
     ];
-    let mut terminal = started(alloc, edition, Seq::new(alloc)).expect(&rt, "started");
-    let mut time = 0;
-    assert_eq!(rt;
-        wrong_row(alloc, &mut terminal, &mut time, edition, &begin),
-        3
-    );
-    assert_eq!(rt;
-        beats(alloc, &mut terminal, 40_000, heartbeat),
-        (40_000, true)
-    );
-    assert_eq!(rt;
-        wrong_row(alloc, &mut terminal, &mut time, edition, &last),
-        4
-    );
-    Ok(())
+    let said = talked(rt.alloc(), Edition::E2013, begin, heartbeat, last);
+    assert!(rt; said == Some((3, (40_000, true), 4)));
 }
 
 #[test]
-fn heartbeats_leave_the_last_serial_to_a_unit_in_2019(rt: HostRuntime) -> Result<(), Fail> {
-    let alloc = rt.alloc();
-    let edition = Edition::E2019;
-    let registration: &[u8] =
+fn heartbeats_leave_the_last_serial_to_a_unit_in_2019(rt: HostRuntime) {
+    const REGISTRATION: &[u8] =
         b"~\x01\x00@Q\x01\x00\x00\x00\x00\x019\x124Vx\x00\x00\x00\x00\x00\x00\x00\x00\x00\x00\x00\x00\x00\x00\x00\x00\x00\x00\x00\x00\x00\x00\x00\x00\x00\x00\x00\x00\x00\x00\x00\x00\x00\x00\x00\x00\x00\x00\x00\x00\x00\x00\x00\x00\x00\x00\x001234567\x00\x00\x00\x00\x00\x00\x00\x00\x00\x00\x00\x00\x00\x00\x00\x00\x00\x00\x00\x00\x00\x00\x00\x01JT808>~";
-    let authentication: &[u8] =
+    const AUTHENTICATION: &[u8] =
         b"~\x01\x02@&\x01\x00\x00\x00\x00\x019\x124Vx\x00\x01\x02AB\x00\x00\x00\x00\x00\x00\x00\x00\x00\x00\x00\x00\x00\x00\x00\x00\x00\x00\x00\x00\x00\x00\x00\x00\x00\x00\x00\x00\x00\x00\x00\x00\x00\x00\x00T~";
     let heartbeat: &[u8] = b"~\x00\x02@\x00\x01\x00\x00\x00\x00\x019\x124Vx\x7f\xfd\xf1~";
-    let unit: &[u8] =
+    const UNIT: &[u8] =
         b"~\x02\x00@\x1c\x01\x00\x00\x00\x00\x019\x124Vx\x7f\xfd\x00\x00\x00\x00\x00\x00\x00\x03\x00\x00\x00\x01\x06\xbc>@\x00\x00\x00\x00\x00\x00$\x01\x01\x00\x00\x00\x0f~";
-    let begin: [(u8, u32, u16, u8, &[u8], &[u8]); 3] = [
-        (b'O', 0, 0, 0, b"", registration),
-        (b'R', 0, 0, 0, b"AB", authentication),
+    let begin: &[(u8, u32, u16, u8, &[u8], &[u8])] = &[
+        (b'O', 0, 0, 0, b"", REGISTRATION),
+        (b'R', 0, 0, 0, b"AB", AUTHENTICATION),
         (b'A', 1, 0x0102, 0, b"", b""),
     ];
-    let last: [(u8, u32, u16, u8, &[u8], &[u8]); 4] = [
+    let last: &[(u8, u32, u16, u8, &[u8], &[u8])] = &[
         (b'F', 1, 0, 0, b"", b""),
-        (b'T', 0, 0, 0, b"", unit),
+        (b'T', 0, 0, 0, b"", UNIT),
         (b'F', 2, 0, 0, b"", b""),
         (b'T', 0, 0, 0, b"", b""),
     ];
-    let mut terminal = started(alloc, edition, Seq::new(alloc)).expect(&rt, "started");
-    let mut time = 0;
-    assert_eq!(rt;
-        wrong_row(alloc, &mut terminal, &mut time, edition, &begin),
-        3
-    );
-    assert_eq!(rt;
-        beats(alloc, &mut terminal, 40_000, heartbeat),
-        (40_000, true)
-    );
-    assert_eq!(rt;
-        wrong_row(alloc, &mut terminal, &mut time, edition, &last),
-        4
-    );
-    Ok(())
-}
-
-// The vault that did not load, and why.
-fn refused(alloc: Global, vault: MemVault, settings: Settings) -> Option<(MemVault, StoreError)>
-    requires { AreSettings settings }
-{
-    match Terminal::start(alloc, vault, settings) {
-        Ok(_terminal) => None,
-        Err(refused) => Some(refused),
-    }
+    let said = talked(rt.alloc(), Edition::E2019, begin, heartbeat, last);
+    assert!(rt; said == Some((3, (40_000, true), 4)));
 }
 
 fn holds_nothing(alloc: Global, vault: &mut MemVault) -> bool {
@@ -142,14 +145,24 @@ fn holds_nothing(alloc: Global, vault: &mut MemVault) -> bool {
     }
 }
 
+// Why a vault did not load, and whether the one that was handed back holds nothing.
+fn refused(alloc: Global, vault: MemVault, settings: Settings) -> Option<(StoreError, bool)>
+    requires { AreSettings settings }
+{
+    match Terminal::start(alloc, vault, settings) {
+        Ok(_terminal) => None,
+        Err(refused) => {
+            let (mut vault, error) = refused;
+            Some((error, holds_nothing(alloc, &mut vault)))
+        }
+    }
+}
+
 #[test]
-fn a_vault_that_does_not_load_is_handed_back(rt: HostRuntime) -> Result<(), Fail> {
+fn a_vault_that_does_not_load_is_handed_back(rt: HostRuntime) {
     let alloc = rt.alloc();
     let failing = Seq::from_vec(Vec::from_slice(alloc, &[1]).expect(&rt, "a list"));
     let settings = settings(alloc, Edition::E2013).expect(&rt, "settings");
     let vault = MemVault::new(alloc, 9, failing);
-    let (mut vault, error) = refused(alloc, vault, settings).expect(&rt, "refused");
-    assert_eq!(rt; error, StoreError::Failed);
-    assert!(rt; holds_nothing(alloc, &mut vault));
-    Ok(())
+    assert!(rt; refused(alloc, vault, settings) == Some((StoreError::Failed, true)));
 }

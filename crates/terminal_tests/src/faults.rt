@@ -4,11 +4,11 @@ use std::test::Fail;
 
 #[test]
 fn recording_a_fix_fails(rt: HostRuntime) -> Result<(), Fail> {
-    let octets_0: &[u8] =
+    const OCTETS_0: &[u8] =
         b"~\x01\x00\x00*\x019\x124Vx\x00\x00\x00\x00\x00\x00\x00\x00\x00\x00\x00\x00\x00\x00\x00\x00\x00\x00\x00\x00\x00\x00\x00\x00\x00\x00\x00\x00\x00\x00\x001234567\x01JT808\x04~";
-    let rows: [(u8, u32, u16, u8, &[u8], &[u8]); 5] = [
+    let rows: &[(u8, u32, u16, u8, &[u8], &[u8])] = &[
         (b'F', 1, 0x0000, 0, b"", b"failed"),
-        (b'O', 0, 0x0000, 0, b"", octets_0),
+        (b'O', 0, 0x0000, 0, b"", OCTETS_0),
         (
             b'R',
             0,
@@ -21,37 +21,37 @@ fn recording_a_fix_fails(rt: HostRuntime) -> Result<(), Fail> {
         (b'T', 0, 0x0000, 0, b"", b""),
     ];
     let failing: [u64; 1] = [2];
-    assert_eq!(rt; first_wrong(rt.alloc(), Edition::E2013, &failing, &rows), 5);
+    assert!(rt; first_wrong(rt.alloc(), Edition::E2013, &failing, rows) == 5);
     Ok(())
 }
 
 #[test]
 fn storing_the_code_fails(rt: HostRuntime) -> Result<(), Fail> {
-    let octets_0: &[u8] =
+    const OCTETS_0: &[u8] =
         b"~\x01\x00\x00*\x019\x124Vx\x00\x00\x00\x00\x00\x00\x00\x00\x00\x00\x00\x00\x00\x00\x00\x00\x00\x00\x00\x00\x00\x00\x00\x00\x00\x00\x00\x00\x00\x00\x001234567\x01JT808\x04~";
-    let octets_1: &[u8] =
+    const OCTETS_1: &[u8] =
         b"~\x01\x00\x00*\x019\x124Vx\x00\x01\x00\x00\x00\x00\x00\x00\x00\x00\x00\x00\x00\x00\x00\x00\x00\x00\x00\x00\x00\x00\x00\x00\x00\x00\x00\x00\x00\x00\x001234567\x01JT808\x05~";
-    let rows: [(u8, u32, u16, u8, &[u8], &[u8]); 5] = [
+    let rows: &[(u8, u32, u16, u8, &[u8], &[u8])] = &[
         (b'F', 1, 0x0000, 0, b"", b""),
-        (b'O', 0, 0x0000, 0, b"", octets_0),
+        (b'O', 0, 0x0000, 0, b"", OCTETS_0),
         (b'R', 0, 0x0000, 0, b"AB", b"store"),
         (b'T', 60000, 0x0000, 0, b"", b""),
-        (b'O', 0, 0x0000, 0, b"", octets_1),
+        (b'O', 0, 0x0000, 0, b"", OCTETS_1),
     ];
     let failing: [u64; 1] = [3];
-    assert_eq!(rt; first_wrong(rt.alloc(), Edition::E2013, &failing, &rows), 5);
+    assert!(rt; first_wrong(rt.alloc(), Edition::E2013, &failing, rows) == 5);
     Ok(())
 }
 
 #[test]
 fn forming_fails(rt: HostRuntime) -> Result<(), Fail> {
-    let octets_0: &[u8] =
+    const OCTETS_0: &[u8] =
         b"~\x01\x00\x00*\x019\x124Vx\x00\x00\x00\x00\x00\x00\x00\x00\x00\x00\x00\x00\x00\x00\x00\x00\x00\x00\x00\x00\x00\x00\x00\x00\x00\x00\x00\x00\x00\x00\x001234567\x01JT808\x04~";
-    let octets_1: &[u8] =
+    const OCTETS_1: &[u8] =
         b"~\x02\x00\x00\x1c\x019\x124Vx\x00\x03\x00\x00\x00\x00\x00\x00\x00\x03\x00\x00\x00\x01\x06\xbc>@\x00\x00\x00\x00\x00\x00$\x01\x01\x00\x00\x00\xcf~";
-    let rows: [(u8, u32, u16, u8, &[u8], &[u8]); 7] = [
+    let rows: &[(u8, u32, u16, u8, &[u8], &[u8])] = &[
         (b'F', 1, 0x0000, 0, b"", b""),
-        (b'O', 0, 0x0000, 0, b"", octets_0),
+        (b'O', 0, 0x0000, 0, b"", OCTETS_0),
         (
             b'R',
             0,
@@ -70,22 +70,22 @@ fn forming_fails(rt: HostRuntime) -> Result<(), Fail> {
             b"",
             b"~\x01\x02\x00\x02\x019\x124Vx\x00\x02AB0~",
         ),
-        (b'A', 2, 0x0102, 0, b"", octets_1),
+        (b'A', 2, 0x0102, 0, b"", OCTETS_1),
     ];
     let failing: [u64; 1] = [4];
-    assert_eq!(rt; first_wrong(rt.alloc(), Edition::E2013, &failing, &rows), 7);
+    assert!(rt; first_wrong(rt.alloc(), Edition::E2013, &failing, rows) == 7);
     Ok(())
 }
 
 #[test]
 fn accepting_fails(rt: HostRuntime) -> Result<(), Fail> {
-    let octets_0: &[u8] =
+    const OCTETS_0: &[u8] =
         b"~\x01\x00\x00*\x019\x124Vx\x00\x00\x00\x00\x00\x00\x00\x00\x00\x00\x00\x00\x00\x00\x00\x00\x00\x00\x00\x00\x00\x00\x00\x00\x00\x00\x00\x00\x00\x00\x001234567\x01JT808\x04~";
-    let octets_1: &[u8] =
+    const OCTETS_1: &[u8] =
         b"~\x02\x00\x00\x1c\x019\x124Vx\x00\x02\x00\x00\x00\x00\x00\x00\x00\x03\x00\x00\x00\x01\x06\xbc>@\x00\x00\x00\x00\x00\x00$\x01\x01\x00\x00\x00\xce~";
-    let rows: [(u8, u32, u16, u8, &[u8], &[u8]); 9] = [
+    let rows: &[(u8, u32, u16, u8, &[u8], &[u8])] = &[
         (b'F', 1, 0x0000, 0, b"", b""),
-        (b'O', 0, 0x0000, 0, b"", octets_0),
+        (b'O', 0, 0x0000, 0, b"", OCTETS_0),
         (
             b'R',
             0,
@@ -94,7 +94,7 @@ fn accepting_fails(rt: HostRuntime) -> Result<(), Fail> {
             b"AB",
             b"~\x01\x02\x00\x02\x019\x124Vx\x00\x01AB3~",
         ),
-        (b'A', 1, 0x0102, 0, b"", octets_1),
+        (b'A', 1, 0x0102, 0, b"", OCTETS_1),
         (b'A', 2, 0x0200, 0, b"", b"store"),
         (b'T', 0, 0x0000, 0, b"", b""),
         (
@@ -105,7 +105,7 @@ fn accepting_fails(rt: HostRuntime) -> Result<(), Fail> {
             b"",
             b"~\x01\x02\x00\x02\x019\x124Vx\x00\x03AB1~",
         ),
-        (b'A', 3, 0x0102, 0, b"", octets_1),
+        (b'A', 3, 0x0102, 0, b"", OCTETS_1),
         (
             b'A',
             2,
@@ -116,16 +116,16 @@ fn accepting_fails(rt: HostRuntime) -> Result<(), Fail> {
         ),
     ];
     let failing: [u64; 1] = [5];
-    assert_eq!(rt; first_wrong(rt.alloc(), Edition::E2013, &failing, &rows), 9);
+    assert!(rt; first_wrong(rt.alloc(), Edition::E2013, &failing, rows) == 9);
     Ok(())
 }
 
 #[test]
 fn removing_the_code_fails(rt: HostRuntime) -> Result<(), Fail> {
-    let octets_0: &[u8] =
+    const OCTETS_0: &[u8] =
         b"~\x01\x00\x00*\x019\x124Vx\x00\x00\x00\x00\x00\x00\x00\x00\x00\x00\x00\x00\x00\x00\x00\x00\x00\x00\x00\x00\x00\x00\x00\x00\x00\x00\x00\x00\x00\x00\x001234567\x01JT808\x04~";
-    let rows: [(u8, u32, u16, u8, &[u8], &[u8]); 7] = [
-        (b'O', 0, 0x0000, 0, b"", octets_0),
+    let rows: &[(u8, u32, u16, u8, &[u8], &[u8])] = &[
+        (b'O', 0, 0x0000, 0, b"", OCTETS_0),
         (
             b'R',
             0,
@@ -155,6 +155,6 @@ fn removing_the_code_fails(rt: HostRuntime) -> Result<(), Fail> {
         ),
     ];
     let failing: [u64; 1] = [3];
-    assert_eq!(rt; first_wrong(rt.alloc(), Edition::E2013, &failing, &rows), 7);
+    assert!(rt; first_wrong(rt.alloc(), Edition::E2013, &failing, rows) == 7);
     Ok(())
 }

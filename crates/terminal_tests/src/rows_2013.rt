@@ -4,31 +4,31 @@ use std::test::Fail;
 
 #[test]
 fn waits_grow(rt: HostRuntime) -> Result<(), Fail> {
-    let octets_0: &[u8] =
+    const OCTETS_0: &[u8] =
         b"~\x01\x00\x00*\x019\x124Vx\x00\x00\x00\x00\x00\x00\x00\x00\x00\x00\x00\x00\x00\x00\x00\x00\x00\x00\x00\x00\x00\x00\x00\x00\x00\x00\x00\x00\x00\x00\x001234567\x01JT808\x04~";
-    let octets_1: &[u8] =
+    const OCTETS_1: &[u8] =
         b"timed out \x00\x00\x00\x00\x00\x00\x00\x00\x00\x00\x00\x00\x00\x05\x09\x10";
-    let rows: [(u8, u32, u16, u8, &[u8], &[u8]); 6] = [
-        (b'O', 0, 0x0000, 0, b"", octets_0),
-        (b'T', 10000, 0x0000, 0, b"", octets_0),
-        (b'T', 30000, 0x0000, 0, b"", octets_0),
-        (b'T', 90000, 0x0000, 0, b"", octets_0),
+    let rows: &[(u8, u32, u16, u8, &[u8], &[u8])] = &[
+        (b'O', 0, 0x0000, 0, b"", OCTETS_0),
+        (b'T', 10000, 0x0000, 0, b"", OCTETS_0),
+        (b'T', 30000, 0x0000, 0, b"", OCTETS_0),
+        (b'T', 90000, 0x0000, 0, b"", OCTETS_0),
         (b'T', 329999, 0x0000, 0, b"", b""),
-        (b'T', 330000, 0x0000, 0, b"", octets_1),
+        (b'T', 330000, 0x0000, 0, b"", OCTETS_1),
     ];
     let failing: [u64; 0] = [];
-    assert_eq!(rt; first_wrong(rt.alloc(), Edition::E2013, &failing, &rows), 6);
+    assert!(rt; first_wrong(rt.alloc(), Edition::E2013, &failing, rows) == 6);
     Ok(())
 }
 
 #[test]
 fn a_response_to_another_id_is_passed_over(rt: HostRuntime) -> Result<(), Fail> {
-    let octets_0: &[u8] =
+    const OCTETS_0: &[u8] =
         b"~\x01\x00\x00*\x019\x124Vx\x00\x00\x00\x00\x00\x00\x00\x00\x00\x00\x00\x00\x00\x00\x00\x00\x00\x00\x00\x00\x00\x00\x00\x00\x00\x00\x00\x00\x00\x00\x001234567\x01JT808\x04~";
-    let octets_1: &[u8] =
+    const OCTETS_1: &[u8] =
         b"~\x02\x00\x00\x1c\x019\x124Vx\x00\x02\x00\x00\x00\x00\x00\x00\x00\x03\x00\x00\x00\x01\x06\xbc>@\x00\x00\x00\x00\x00\x00$\x01\x01\x00\x00\x00\xce~";
-    let rows: [(u8, u32, u16, u8, &[u8], &[u8]); 8] = [
-        (b'O', 0, 0x0000, 0, b"", octets_0),
+    let rows: &[(u8, u32, u16, u8, &[u8], &[u8])] = &[
+        (b'O', 0, 0x0000, 0, b"", OCTETS_0),
         (
             b'R',
             0,
@@ -39,7 +39,7 @@ fn a_response_to_another_id_is_passed_over(rt: HostRuntime) -> Result<(), Fail> 
         ),
         (b'A', 1, 0x0102, 0, b"", b""),
         (b'F', 1, 0x0000, 0, b"", b""),
-        (b'T', 0, 0x0000, 0, b"", octets_1),
+        (b'T', 0, 0x0000, 0, b"", OCTETS_1),
         (b'A', 2, 0x0002, 0, b"", b""),
         (b'A', 3, 0x0200, 0, b"", b""),
         (
@@ -52,18 +52,18 @@ fn a_response_to_another_id_is_passed_over(rt: HostRuntime) -> Result<(), Fail> 
         ),
     ];
     let failing: [u64; 0] = [];
-    assert_eq!(rt; first_wrong(rt.alloc(), Edition::E2013, &failing, &rows), 8);
+    assert!(rt; first_wrong(rt.alloc(), Edition::E2013, &failing, rows) == 8);
     Ok(())
 }
 
 #[test]
 fn a_unit_is_denied(rt: HostRuntime) -> Result<(), Fail> {
-    let octets_0: &[u8] =
+    const OCTETS_0: &[u8] =
         b"~\x01\x00\x00*\x019\x124Vx\x00\x00\x00\x00\x00\x00\x00\x00\x00\x00\x00\x00\x00\x00\x00\x00\x00\x00\x00\x00\x00\x00\x00\x00\x00\x00\x00\x00\x00\x00\x001234567\x01JT808\x04~";
-    let octets_1: &[u8] =
+    const OCTETS_1: &[u8] =
         b"~\x02\x00\x00\x1c\x019\x124Vx\x00\x02\x00\x00\x00\x00\x00\x00\x00\x03\x00\x00\x00\x01\x06\xbc>@\x00\x00\x00\x00\x00\x00$\x01\x01\x00\x00\x00\xce~";
-    let rows: [(u8, u32, u16, u8, &[u8], &[u8]); 7] = [
-        (b'O', 0, 0x0000, 0, b"", octets_0),
+    let rows: &[(u8, u32, u16, u8, &[u8], &[u8])] = &[
+        (b'O', 0, 0x0000, 0, b"", OCTETS_0),
         (
             b'R',
             0,
@@ -74,23 +74,23 @@ fn a_unit_is_denied(rt: HostRuntime) -> Result<(), Fail> {
         ),
         (b'A', 1, 0x0102, 0, b"", b""),
         (b'F', 1, 0x0000, 0, b"", b""),
-        (b'T', 0, 0x0000, 0, b"", octets_1),
+        (b'T', 0, 0x0000, 0, b"", OCTETS_1),
         (b'A', 2, 0x0200, 1, b"", b"denied \x00\x02\x02\x00\x01"),
         (b'T', 0, 0x0000, 0, b"", b""),
     ];
     let failing: [u64; 0] = [];
-    assert_eq!(rt; first_wrong(rt.alloc(), Edition::E2013, &failing, &rows), 7);
+    assert!(rt; first_wrong(rt.alloc(), Edition::E2013, &failing, rows) == 7);
     Ok(())
 }
 
 #[test]
 fn an_alarm_that_is_handled_accepts(rt: HostRuntime) -> Result<(), Fail> {
-    let octets_0: &[u8] =
+    const OCTETS_0: &[u8] =
         b"~\x01\x00\x00*\x019\x124Vx\x00\x00\x00\x00\x00\x00\x00\x00\x00\x00\x00\x00\x00\x00\x00\x00\x00\x00\x00\x00\x00\x00\x00\x00\x00\x00\x00\x00\x00\x00\x001234567\x01JT808\x04~";
-    let octets_1: &[u8] =
+    const OCTETS_1: &[u8] =
         b"~\x02\x00\x00\x1c\x019\x124Vx\x00\x02\x00\x00\x00\x00\x00\x00\x00\x03\x00\x00\x00\x01\x06\xbc>@\x00\x00\x00\x00\x00\x00$\x01\x01\x00\x00\x00\xce~";
-    let rows: [(u8, u32, u16, u8, &[u8], &[u8]); 7] = [
-        (b'O', 0, 0x0000, 0, b"", octets_0),
+    let rows: &[(u8, u32, u16, u8, &[u8], &[u8])] = &[
+        (b'O', 0, 0x0000, 0, b"", OCTETS_0),
         (
             b'R',
             0,
@@ -101,7 +101,7 @@ fn an_alarm_that_is_handled_accepts(rt: HostRuntime) -> Result<(), Fail> {
         ),
         (b'A', 1, 0x0102, 0, b"", b""),
         (b'F', 1, 0x0000, 0, b"", b""),
-        (b'T', 0, 0x0000, 0, b"", octets_1),
+        (b'T', 0, 0x0000, 0, b"", OCTETS_1),
         (
             b'A',
             2,
@@ -113,50 +113,50 @@ fn an_alarm_that_is_handled_accepts(rt: HostRuntime) -> Result<(), Fail> {
         (b'A', 2, 0x0200, 4, b"", b""),
     ];
     let failing: [u64; 0] = [];
-    assert_eq!(rt; first_wrong(rt.alloc(), Edition::E2013, &failing, &rows), 7);
+    assert!(rt; first_wrong(rt.alloc(), Edition::E2013, &failing, rows) == 7);
     Ok(())
 }
 
 #[test]
 fn a_window_of_sixteen(rt: HostRuntime) -> Result<(), Fail> {
-    let octets_0: &[u8] =
+    const OCTETS_0: &[u8] =
         b"~\x01\x00\x00*\x019\x124Vx\x00\x00\x00\x00\x00\x00\x00\x00\x00\x00\x00\x00\x00\x00\x00\x00\x00\x00\x00\x00\x00\x00\x00\x00\x00\x00\x00\x00\x00\x00\x001234567\x01JT808\x04~";
-    let octets_1: &[u8] =
+    const OCTETS_1: &[u8] =
         b"~\x02\x00\x00\x1c\x019\x124Vx\x00\x02\x00\x00\x00\x00\x00\x00\x00\x03\x00\x00\x00\x01\x06\xbc>@\x00\x00\x00\x00\x00\x00$\x01\x01\x00\x00\x00\xce~";
-    let octets_2: &[u8] =
+    const OCTETS_2: &[u8] =
         b"~\x02\x00\x00\x1c\x019\x124Vx\x00\x03\x00\x00\x00\x00\x00\x00\x00\x03\x00\x00\x00\x02\x06\xbc>@\x00\x00\x00\x00\x00\x00$\x01\x01\x00\x00\x00\xcc~";
-    let octets_3: &[u8] =
+    const OCTETS_3: &[u8] =
         b"~\x02\x00\x00\x1c\x019\x124Vx\x00\x04\x00\x00\x00\x00\x00\x00\x00\x03\x00\x00\x00\x03\x06\xbc>@\x00\x00\x00\x00\x00\x00$\x01\x01\x00\x00\x00\xca~";
-    let octets_4: &[u8] =
+    const OCTETS_4: &[u8] =
         b"~\x02\x00\x00\x1c\x019\x124Vx\x00\x05\x00\x00\x00\x00\x00\x00\x00\x03\x00\x00\x00\x04\x06\xbc>@\x00\x00\x00\x00\x00\x00$\x01\x01\x00\x00\x00\xcc~";
-    let octets_5: &[u8] =
+    const OCTETS_5: &[u8] =
         b"~\x02\x00\x00\x1c\x019\x124Vx\x00\x06\x00\x00\x00\x00\x00\x00\x00\x03\x00\x00\x00\x05\x06\xbc>@\x00\x00\x00\x00\x00\x00$\x01\x01\x00\x00\x00\xce~";
-    let octets_6: &[u8] =
+    const OCTETS_6: &[u8] =
         b"~\x02\x00\x00\x1c\x019\x124Vx\x00\x07\x00\x00\x00\x00\x00\x00\x00\x03\x00\x00\x00\x06\x06\xbc>@\x00\x00\x00\x00\x00\x00$\x01\x01\x00\x00\x00\xcc~";
-    let octets_7: &[u8] =
+    const OCTETS_7: &[u8] =
         b"~\x02\x00\x00\x1c\x019\x124Vx\x00\x08\x00\x00\x00\x00\x00\x00\x00\x03\x00\x00\x00\x07\x06\xbc>@\x00\x00\x00\x00\x00\x00$\x01\x01\x00\x00\x00\xc2~";
-    let octets_8: &[u8] =
+    const OCTETS_8: &[u8] =
         b"~\x02\x00\x00\x1c\x019\x124Vx\x00\x09\x00\x00\x00\x00\x00\x00\x00\x03\x00\x00\x00\x08\x06\xbc>@\x00\x00\x00\x00\x00\x00$\x01\x01\x00\x00\x00\xcc~";
-    let octets_9: &[u8] =
+    const OCTETS_9: &[u8] =
         b"~\x02\x00\x00\x1c\x019\x124Vx\x00\x0a\x00\x00\x00\x00\x00\x00\x00\x03\x00\x00\x00\x09\x06\xbc>@\x00\x00\x00\x00\x00\x00$\x01\x01\x00\x00\x00\xce~";
-    let octets_10: &[u8] =
+    const OCTETS_10: &[u8] =
         b"~\x02\x00\x00\x1c\x019\x124Vx\x00\x0b\x00\x00\x00\x00\x00\x00\x00\x03\x00\x00\x00\x0a\x06\xbc>@\x00\x00\x00\x00\x00\x00$\x01\x01\x00\x00\x00\xcc~";
-    let octets_11: &[u8] =
+    const OCTETS_11: &[u8] =
         b"~\x02\x00\x00\x1c\x019\x124Vx\x00\x0c\x00\x00\x00\x00\x00\x00\x00\x03\x00\x00\x00\x0b\x06\xbc>@\x00\x00\x00\x00\x00\x00$\x01\x01\x00\x00\x00\xca~";
-    let octets_12: &[u8] =
+    const OCTETS_12: &[u8] =
         b"~\x02\x00\x00\x1c\x019\x124Vx\x00\x0d\x00\x00\x00\x00\x00\x00\x00\x03\x00\x00\x00\x0c\x06\xbc>@\x00\x00\x00\x00\x00\x00$\x01\x01\x00\x00\x00\xcc~";
-    let octets_13: &[u8] =
+    const OCTETS_13: &[u8] =
         b"~\x02\x00\x00\x1c\x019\x124Vx\x00\x0e\x00\x00\x00\x00\x00\x00\x00\x03\x00\x00\x00\x0d\x06\xbc>@\x00\x00\x00\x00\x00\x00$\x01\x01\x00\x00\x00\xce~";
-    let octets_14: &[u8] =
+    const OCTETS_14: &[u8] =
         b"~\x02\x00\x00\x1c\x019\x124Vx\x00\x0f\x00\x00\x00\x00\x00\x00\x00\x03\x00\x00\x00\x0e\x06\xbc>@\x00\x00\x00\x00\x00\x00$\x01\x01\x00\x00\x00\xcc~";
-    let octets_15: &[u8] =
+    const OCTETS_15: &[u8] =
         b"~\x02\x00\x00\x1c\x019\x124Vx\x00\x10\x00\x00\x00\x00\x00\x00\x00\x03\x00\x00\x00\x0f\x06\xbc>@\x00\x00\x00\x00\x00\x00$\x01\x01\x00\x00\x00\xd2~";
-    let octets_16: &[u8] =
+    const OCTETS_16: &[u8] =
         b"~\x02\x00\x00\x1c\x019\x124Vx\x00\x11\x00\x00\x00\x00\x00\x00\x00\x03\x00\x00\x00\x10\x06\xbc>@\x00\x00\x00\x00\x00\x00$\x01\x01\x00\x00\x00\xcc~";
-    let octets_17: &[u8] =
+    const OCTETS_17: &[u8] =
         b"~\x07\x04\x00{\x019\x124Vx\x00\x12\x00\x04\x01\x00\x1c\x00\x00\x00\x00\x00\x00\x00\x03\x00\x00\x00\x11\x06\xbc>@\x00\x00\x00\x00\x00\x00$\x01\x01\x00\x00\x00\x00\x1c\x00\x00\x00\x00\x00\x00\x00\x03\x00\x00\x00\x12\x06\xbc>@\x00\x00\x00\x00\x00\x00$\x01\x01\x00\x00\x00\x00\x1c\x00\x00\x00\x00\x00\x00\x00\x03\x00\x00\x00\x13\x06\xbc>@\x00\x00\x00\x00\x00\x00$\x01\x01\x00\x00\x00\x00\x1c\x00\x00\x00\x00\x00\x00\x00\x03\x00\x00\x00\x14\x06\xbc>@\x00\x00\x00\x00\x00\x00$\x01\x01\x00\x00\x00[~told \x00\x00\x00\x00\x00\x00\x00\x00";
-    let rows: [(u8, u32, u16, u8, &[u8], &[u8]); 44] = [
-        (b'O', 0, 0x0000, 0, b"", octets_0),
+    let rows: &[(u8, u32, u16, u8, &[u8], &[u8])] = &[
+        (b'O', 0, 0x0000, 0, b"", OCTETS_0),
         (
             b'R',
             0,
@@ -167,37 +167,37 @@ fn a_window_of_sixteen(rt: HostRuntime) -> Result<(), Fail> {
         ),
         (b'A', 1, 0x0102, 0, b"", b""),
         (b'F', 1, 0x0000, 0, b"", b""),
-        (b'T', 0, 0x0000, 0, b"", octets_1),
+        (b'T', 0, 0x0000, 0, b"", OCTETS_1),
         (b'F', 2, 0x0000, 0, b"", b""),
-        (b'T', 0, 0x0000, 0, b"", octets_2),
+        (b'T', 0, 0x0000, 0, b"", OCTETS_2),
         (b'F', 3, 0x0000, 0, b"", b""),
-        (b'T', 0, 0x0000, 0, b"", octets_3),
+        (b'T', 0, 0x0000, 0, b"", OCTETS_3),
         (b'F', 4, 0x0000, 0, b"", b""),
-        (b'T', 0, 0x0000, 0, b"", octets_4),
+        (b'T', 0, 0x0000, 0, b"", OCTETS_4),
         (b'F', 5, 0x0000, 0, b"", b""),
-        (b'T', 0, 0x0000, 0, b"", octets_5),
+        (b'T', 0, 0x0000, 0, b"", OCTETS_5),
         (b'F', 6, 0x0000, 0, b"", b""),
-        (b'T', 0, 0x0000, 0, b"", octets_6),
+        (b'T', 0, 0x0000, 0, b"", OCTETS_6),
         (b'F', 7, 0x0000, 0, b"", b""),
-        (b'T', 0, 0x0000, 0, b"", octets_7),
+        (b'T', 0, 0x0000, 0, b"", OCTETS_7),
         (b'F', 8, 0x0000, 0, b"", b""),
-        (b'T', 0, 0x0000, 0, b"", octets_8),
+        (b'T', 0, 0x0000, 0, b"", OCTETS_8),
         (b'F', 9, 0x0000, 0, b"", b""),
-        (b'T', 0, 0x0000, 0, b"", octets_9),
+        (b'T', 0, 0x0000, 0, b"", OCTETS_9),
         (b'F', 10, 0x0000, 0, b"", b""),
-        (b'T', 0, 0x0000, 0, b"", octets_10),
+        (b'T', 0, 0x0000, 0, b"", OCTETS_10),
         (b'F', 11, 0x0000, 0, b"", b""),
-        (b'T', 0, 0x0000, 0, b"", octets_11),
+        (b'T', 0, 0x0000, 0, b"", OCTETS_11),
         (b'F', 12, 0x0000, 0, b"", b""),
-        (b'T', 0, 0x0000, 0, b"", octets_12),
+        (b'T', 0, 0x0000, 0, b"", OCTETS_12),
         (b'F', 13, 0x0000, 0, b"", b""),
-        (b'T', 0, 0x0000, 0, b"", octets_13),
+        (b'T', 0, 0x0000, 0, b"", OCTETS_13),
         (b'F', 14, 0x0000, 0, b"", b""),
-        (b'T', 0, 0x0000, 0, b"", octets_14),
+        (b'T', 0, 0x0000, 0, b"", OCTETS_14),
         (b'F', 15, 0x0000, 0, b"", b""),
-        (b'T', 0, 0x0000, 0, b"", octets_15),
+        (b'T', 0, 0x0000, 0, b"", OCTETS_15),
         (b'F', 16, 0x0000, 0, b"", b""),
-        (b'T', 0, 0x0000, 0, b"", octets_16),
+        (b'T', 0, 0x0000, 0, b"", OCTETS_16),
         (b'F', 17, 0x0000, 0, b"", b""),
         (b'T', 0, 0x0000, 0, b"", b""),
         (b'F', 18, 0x0000, 0, b"", b""),
@@ -206,13 +206,10 @@ fn a_window_of_sixteen(rt: HostRuntime) -> Result<(), Fail> {
         (b'T', 0, 0x0000, 0, b"", b""),
         (b'F', 20, 0x0000, 0, b"", b""),
         (b'T', 0, 0x0000, 0, b"", b""),
-        (b'A', 2, 0x0200, 0, b"", octets_17),
+        (b'A', 2, 0x0200, 0, b"", OCTETS_17),
     ];
     let failing: [u64; 0] = [];
-    assert_eq!(rt;
-        first_wrong(rt.alloc(), Edition::E2013, &failing, &rows),
-        44
-    );
+    assert!(rt; first_wrong(rt.alloc(), Edition::E2013, &failing, rows) == 44);
     Ok(())
 }
 
@@ -232,35 +229,35 @@ fn a_code_that_is_too_long(rt: HostRuntime) -> Result<(), Fail> {
         (b'O', 0, 0x0000, 0, b"", octets_3),
     ];
     let failing: [u64; 0] = [];
-    assert_eq!(rt; first_wrong(rt.alloc(), Edition::E2013, &failing, &rows), 3);
+    assert!(rt; first_wrong(rt.alloc(), Edition::E2013, &failing, &rows) == 3);
     Ok(())
 }
 
 #[test]
 fn a_registration_is_denied(rt: HostRuntime) -> Result<(), Fail> {
-    let octets_0: &[u8] =
+    const OCTETS_0: &[u8] =
         b"~\x01\x00\x00*\x019\x124Vx\x00\x00\x00\x00\x00\x00\x00\x00\x00\x00\x00\x00\x00\x00\x00\x00\x00\x00\x00\x00\x00\x00\x00\x00\x00\x00\x00\x00\x00\x00\x001234567\x01JT808\x04~";
-    let octets_1: &[u8] =
+    const OCTETS_1: &[u8] =
         b"~\x01\x00\x00*\x019\x124Vx\x00\x01\x00\x00\x00\x00\x00\x00\x00\x00\x00\x00\x00\x00\x00\x00\x00\x00\x00\x00\x00\x00\x00\x00\x00\x00\x00\x00\x00\x00\x001234567\x01JT808\x05~";
-    let rows: [(u8, u32, u16, u8, &[u8], &[u8]); 4] = [
-        (b'O', 0, 0x0000, 0, b"", octets_0),
+    let rows: &[(u8, u32, u16, u8, &[u8], &[u8])] = &[
+        (b'O', 0, 0x0000, 0, b"", OCTETS_0),
         (b'R', 1, 0x0000, 0, b"AB", b""),
         (b'R', 0, 0x0000, 1, b"", b"denied \x00\x00\x01"),
-        (b'O', 0, 0x0000, 0, b"", octets_1),
+        (b'O', 0, 0x0000, 0, b"", OCTETS_1),
     ];
     let failing: [u64; 0] = [];
-    assert_eq!(rt; first_wrong(rt.alloc(), Edition::E2013, &failing, &rows), 4);
+    assert!(rt; first_wrong(rt.alloc(), Edition::E2013, &failing, rows) == 4);
     Ok(())
 }
 
 #[test]
 fn a_stored_code(rt: HostRuntime) -> Result<(), Fail> {
-    let octets_0: &[u8] =
+    const OCTETS_0: &[u8] =
         b"~\x01\x00\x00*\x019\x124Vx\x00\x00\x00\x00\x00\x00\x00\x00\x00\x00\x00\x00\x00\x00\x00\x00\x00\x00\x00\x00\x00\x00\x00\x00\x00\x00\x00\x00\x00\x00\x001234567\x01JT808\x04~";
-    let octets_1: &[u8] =
+    const OCTETS_1: &[u8] =
         b"~\x01\x00\x00*\x019\x124Vx\x00\x03\x00\x00\x00\x00\x00\x00\x00\x00\x00\x00\x00\x00\x00\x00\x00\x00\x00\x00\x00\x00\x00\x00\x00\x00\x00\x00\x00\x00\x001234567\x01JT808\x07~";
-    let rows: [(u8, u32, u16, u8, &[u8], &[u8]); 8] = [
-        (b'O', 0, 0x0000, 0, b"", octets_0),
+    let rows: &[(u8, u32, u16, u8, &[u8], &[u8])] = &[
+        (b'O', 0, 0x0000, 0, b"", OCTETS_0),
         (
             b'R',
             0,
@@ -281,20 +278,20 @@ fn a_stored_code(rt: HostRuntime) -> Result<(), Fail> {
         ),
         (b'A', 1, 0x0102, 0, b"", b""),
         (b'A', 2, 0x0102, 1, b"", b"denied \x00\x02\x01\x02\x01"),
-        (b'O', 0, 0x0000, 0, b"", octets_1),
+        (b'O', 0, 0x0000, 0, b"", OCTETS_1),
     ];
     let failing: [u64; 0] = [];
-    assert_eq!(rt; first_wrong(rt.alloc(), Edition::E2013, &failing, &rows), 8);
+    assert!(rt; first_wrong(rt.alloc(), Edition::E2013, &failing, rows) == 8);
     Ok(())
 }
 
 #[test]
 fn forty_fixes_that_wait(rt: HostRuntime) -> Result<(), Fail> {
-    let octets_0: &[u8] =
+    const OCTETS_0: &[u8] =
         b"~\x01\x00\x00*\x019\x124Vx\x00\x00\x00\x00\x00\x00\x00\x00\x00\x00\x00\x00\x00\x00\x00\x00\x00\x00\x00\x00\x00\x00\x00\x00\x00\x00\x00\x00\x00\x00\x001234567\x01JT808\x04~";
-    let octets_1: &[u8] =
+    const OCTETS_1: &[u8] =
         b"~\x07\x04\x03\xff\x019\x124Vx\x00\x02\x00\x22\x01\x00\x1c\x00\x00\x00\x00\x00\x00\x00\x03\x00\x00\x00\x01\x06\xbc>@\x00\x00\x00\x00\x00\x00$\x01\x01\x00\x00\x00\x00\x1c\x00\x00\x00\x00\x00\x00\x00\x03\x00\x00\x00\x02\x06\xbc>@\x00\x00\x00\x00\x00\x00$\x01\x01\x00\x00\x00\x00\x1c\x00\x00\x00\x00\x00\x00\x00\x03\x00\x00\x00\x03\x06\xbc>@\x00\x00\x00\x00\x00\x00$\x01\x01\x00\x00\x00\x00\x1c\x00\x00\x00\x00\x00\x00\x00\x03\x00\x00\x00\x04\x06\xbc>@\x00\x00\x00\x00\x00\x00$\x01\x01\x00\x00\x00\x00\x1c\x00\x00\x00\x00\x00\x00\x00\x03\x00\x00\x00\x05\x06\xbc>@\x00\x00\x00\x00\x00\x00$\x01\x01\x00\x00\x00\x00\x1c\x00\x00\x00\x00\x00\x00\x00\x03\x00\x00\x00\x06\x06\xbc>@\x00\x00\x00\x00\x00\x00$\x01\x01\x00\x00\x00\x00\x1c\x00\x00\x00\x00\x00\x00\x00\x03\x00\x00\x00\x07\x06\xbc>@\x00\x00\x00\x00\x00\x00$\x01\x01\x00\x00\x00\x00\x1c\x00\x00\x00\x00\x00\x00\x00\x03\x00\x00\x00\x08\x06\xbc>@\x00\x00\x00\x00\x00\x00$\x01\x01\x00\x00\x00\x00\x1c\x00\x00\x00\x00\x00\x00\x00\x03\x00\x00\x00\x09\x06\xbc>@\x00\x00\x00\x00\x00\x00$\x01\x01\x00\x00\x00\x00\x1c\x00\x00\x00\x00\x00\x00\x00\x03\x00\x00\x00\x0a\x06\xbc>@\x00\x00\x00\x00\x00\x00$\x01\x01\x00\x00\x00\x00\x1c\x00\x00\x00\x00\x00\x00\x00\x03\x00\x00\x00\x0b\x06\xbc>@\x00\x00\x00\x00\x00\x00$\x01\x01\x00\x00\x00\x00\x1c\x00\x00\x00\x00\x00\x00\x00\x03\x00\x00\x00\x0c\x06\xbc>@\x00\x00\x00\x00\x00\x00$\x01\x01\x00\x00\x00\x00\x1c\x00\x00\x00\x00\x00\x00\x00\x03\x00\x00\x00\x0d\x06\xbc>@\x00\x00\x00\x00\x00\x00$\x01\x01\x00\x00\x00\x00\x1c\x00\x00\x00\x00\x00\x00\x00\x03\x00\x00\x00\x0e\x06\xbc>@\x00\x00\x00\x00\x00\x00$\x01\x01\x00\x00\x00\x00\x1c\x00\x00\x00\x00\x00\x00\x00\x03\x00\x00\x00\x0f\x06\xbc>@\x00\x00\x00\x00\x00\x00$\x01\x01\x00\x00\x00\x00\x1c\x00\x00\x00\x00\x00\x00\x00\x03\x00\x00\x00\x10\x06\xbc>@\x00\x00\x00\x00\x00\x00$\x01\x01\x00\x00\x00\x00\x1c\x00\x00\x00\x00\x00\x00\x00\x03\x00\x00\x00\x11\x06\xbc>@\x00\x00\x00\x00\x00\x00$\x01\x01\x00\x00\x00\x00\x1c\x00\x00\x00\x00\x00\x00\x00\x03\x00\x00\x00\x12\x06\xbc>@\x00\x00\x00\x00\x00\x00$\x01\x01\x00\x00\x00\x00\x1c\x00\x00\x00\x00\x00\x00\x00\x03\x00\x00\x00\x13\x06\xbc>@\x00\x00\x00\x00\x00\x00$\x01\x01\x00\x00\x00\x00\x1c\x00\x00\x00\x00\x00\x00\x00\x03\x00\x00\x00\x14\x06\xbc>@\x00\x00\x00\x00\x00\x00$\x01\x01\x00\x00\x00\x00\x1c\x00\x00\x00\x00\x00\x00\x00\x03\x00\x00\x00\x15\x06\xbc>@\x00\x00\x00\x00\x00\x00$\x01\x01\x00\x00\x00\x00\x1c\x00\x00\x00\x00\x00\x00\x00\x03\x00\x00\x00\x16\x06\xbc>@\x00\x00\x00\x00\x00\x00$\x01\x01\x00\x00\x00\x00\x1c\x00\x00\x00\x00\x00\x00\x00\x03\x00\x00\x00\x17\x06\xbc>@\x00\x00\x00\x00\x00\x00$\x01\x01\x00\x00\x00\x00\x1c\x00\x00\x00\x00\x00\x00\x00\x03\x00\x00\x00\x18\x06\xbc>@\x00\x00\x00\x00\x00\x00$\x01\x01\x00\x00\x00\x00\x1c\x00\x00\x00\x00\x00\x00\x00\x03\x00\x00\x00\x19\x06\xbc>@\x00\x00\x00\x00\x00\x00$\x01\x01\x00\x00\x00\x00\x1c\x00\x00\x00\x00\x00\x00\x00\x03\x00\x00\x00\x1a\x06\xbc>@\x00\x00\x00\x00\x00\x00$\x01\x01\x00\x00\x00\x00\x1c\x00\x00\x00\x00\x00\x00\x00\x03\x00\x00\x00\x1b\x06\xbc>@\x00\x00\x00\x00\x00\x00$\x01\x01\x00\x00\x00\x00\x1c\x00\x00\x00\x00\x00\x00\x00\x03\x00\x00\x00\x1c\x06\xbc>@\x00\x00\x00\x00\x00\x00$\x01\x01\x00\x00\x00\x00\x1c\x00\x00\x00\x00\x00\x00\x00\x03\x00\x00\x00\x1d\x06\xbc>@\x00\x00\x00\x00\x00\x00$\x01\x01\x00\x00\x00\x00\x1c\x00\x00\x00\x00\x00\x00\x00\x03\x00\x00\x00\x1e\x06\xbc>@\x00\x00\x00\x00\x00\x00$\x01\x01\x00\x00\x00\x00\x1c\x00\x00\x00\x00\x00\x00\x00\x03\x00\x00\x00\x1f\x06\xbc>@\x00\x00\x00\x00\x00\x00$\x01\x01\x00\x00\x00\x00\x1c\x00\x00\x00\x00\x00\x00\x00\x03\x00\x00\x00 \x06\xbc>@\x00\x00\x00\x00\x00\x00$\x01\x01\x00\x00\x00\x00\x1c\x00\x00\x00\x00\x00\x00\x00\x03\x00\x00\x00!\x06\xbc>@\x00\x00\x00\x00\x00\x00$\x01\x01\x00\x00\x00\x00\x1c\x00\x00\x00\x00\x00\x00\x00\x03\x00\x00\x00\x22\x06\xbc>@\x00\x00\x00\x00\x00\x00$\x01\x01\x00\x00\x00\xcd~~\x07\x04\x00\xb7\x019\x124Vx\x00\x03\x00\x06\x01\x00\x1c\x00\x00\x00\x00\x00\x00\x00\x03\x00\x00\x00#\x06\xbc>@\x00\x00\x00\x00\x00\x00$\x01\x01\x00\x00\x00\x00\x1c\x00\x00\x00\x00\x00\x00\x00\x03\x00\x00\x00$\x06\xbc>@\x00\x00\x00\x00\x00\x00$\x01\x01\x00\x00\x00\x00\x1c\x00\x00\x00\x00\x00\x00\x00\x03\x00\x00\x00%\x06\xbc>@\x00\x00\x00\x00\x00\x00$\x01\x01\x00\x00\x00\x00\x1c\x00\x00\x00\x00\x00\x00\x00\x03\x00\x00\x00&\x06\xbc>@\x00\x00\x00\x00\x00\x00$\x01\x01\x00\x00\x00\x00\x1c\x00\x00\x00\x00\x00\x00\x00\x03\x00\x00\x00'\x06\xbc>@\x00\x00\x00\x00\x00\x00$\x01\x01\x00\x00\x00\x00\x1c\x00\x00\x00\x00\x00\x00\x00\x03\x00\x00\x00(\x06\xbc>@\x00\x00\x00\x00\x00\x00$\x01\x01\x00\x00\x00\x8b~";
-    let rows: [(u8, u32, u16, u8, &[u8], &[u8]); 43] = [
+    let rows: &[(u8, u32, u16, u8, &[u8], &[u8])] = &[
         (b'F', 1, 0x0000, 0, b"", b""),
         (b'F', 2, 0x0000, 0, b"", b""),
         (b'F', 3, 0x0000, 0, b"", b""),
@@ -335,7 +332,7 @@ fn forty_fixes_that_wait(rt: HostRuntime) -> Result<(), Fail> {
         (b'F', 38, 0x0000, 0, b"", b""),
         (b'F', 39, 0x0000, 0, b"", b""),
         (b'F', 40, 0x0000, 0, b"", b""),
-        (b'O', 0, 0x0000, 0, b"", octets_0),
+        (b'O', 0, 0x0000, 0, b"", OCTETS_0),
         (
             b'R',
             0,
@@ -344,22 +341,19 @@ fn forty_fixes_that_wait(rt: HostRuntime) -> Result<(), Fail> {
             b"AB",
             b"~\x01\x02\x00\x02\x019\x124Vx\x00\x01AB3~",
         ),
-        (b'A', 1, 0x0102, 0, b"", octets_1),
+        (b'A', 1, 0x0102, 0, b"", OCTETS_1),
     ];
     let failing: [u64; 0] = [];
-    assert_eq!(rt;
-        first_wrong(rt.alloc(), Edition::E2013, &failing, &rows),
-        43
-    );
+    assert!(rt; first_wrong(rt.alloc(), Edition::E2013, &failing, rows) == 43);
     Ok(())
 }
 
 #[test]
 fn heartbeats(rt: HostRuntime) -> Result<(), Fail> {
-    let octets_0: &[u8] =
+    const OCTETS_0: &[u8] =
         b"~\x01\x00\x00*\x019\x124Vx\x00\x00\x00\x00\x00\x00\x00\x00\x00\x00\x00\x00\x00\x00\x00\x00\x00\x00\x00\x00\x00\x00\x00\x00\x00\x00\x00\x00\x00\x00\x001234567\x01JT808\x04~";
-    let rows: [(u8, u32, u16, u8, &[u8], &[u8]); 11] = [
-        (b'O', 0, 0x0000, 0, b"", octets_0),
+    let rows: &[(u8, u32, u16, u8, &[u8], &[u8])] = &[
+        (b'O', 0, 0x0000, 0, b"", OCTETS_0),
         (
             b'R',
             0,
@@ -400,23 +394,20 @@ fn heartbeats(rt: HostRuntime) -> Result<(), Fail> {
         (b'B', 0, 0x0000, 0, b"", b""),
     ];
     let failing: [u64; 0] = [];
-    assert_eq!(rt;
-        first_wrong(rt.alloc(), Edition::E2013, &failing, &rows),
-        11
-    );
+    assert!(rt; first_wrong(rt.alloc(), Edition::E2013, &failing, rows) == 11);
     Ok(())
 }
 
 #[test]
 fn a_unit_is_sent_again(rt: HostRuntime) -> Result<(), Fail> {
-    let octets_0: &[u8] =
+    const OCTETS_0: &[u8] =
         b"~\x01\x00\x00*\x019\x124Vx\x00\x00\x00\x00\x00\x00\x00\x00\x00\x00\x00\x00\x00\x00\x00\x00\x00\x00\x00\x00\x00\x00\x00\x00\x00\x00\x00\x00\x00\x00\x001234567\x01JT808\x04~";
-    let octets_1: &[u8] =
+    const OCTETS_1: &[u8] =
         b"~\x02\x00\x00\x1c\x019\x124Vx\x00\x02\x00\x00\x00\x00\x00\x00\x00\x03\x00\x00\x00\x01\x06\xbc>@\x00\x00\x00\x00\x00\x00$\x01\x01\x00\x00\x00\xce~";
-    let octets_2: &[u8] =
+    const OCTETS_2: &[u8] =
         b"timed out \x00\x00\x00\x00\x00\x00\x00\x00\x00\x00\x00\x00\x00\x05\x09\x10";
-    let rows: [(u8, u32, u16, u8, &[u8], &[u8]); 12] = [
-        (b'O', 0, 0x0000, 0, b"", octets_0),
+    let rows: &[(u8, u32, u16, u8, &[u8], &[u8])] = &[
+        (b'O', 0, 0x0000, 0, b"", OCTETS_0),
         (
             b'R',
             0,
@@ -427,12 +418,12 @@ fn a_unit_is_sent_again(rt: HostRuntime) -> Result<(), Fail> {
         ),
         (b'A', 1, 0x0102, 0, b"", b""),
         (b'F', 1, 0x0000, 0, b"", b""),
-        (b'T', 0, 0x0000, 0, b"", octets_1),
-        (b'T', 10000, 0x0000, 0, b"", octets_1),
+        (b'T', 0, 0x0000, 0, b"", OCTETS_1),
+        (b'T', 10000, 0x0000, 0, b"", OCTETS_1),
         (b'T', 29999, 0x0000, 0, b"", b""),
-        (b'T', 30000, 0x0000, 0, b"", octets_1),
-        (b'T', 90000, 0x0000, 0, b"", octets_1),
-        (b'T', 330000, 0x0000, 0, b"", octets_2),
+        (b'T', 30000, 0x0000, 0, b"", OCTETS_1),
+        (b'T', 90000, 0x0000, 0, b"", OCTETS_1),
+        (b'T', 330000, 0x0000, 0, b"", OCTETS_2),
         (
             b'O',
             0,
@@ -441,12 +432,9 @@ fn a_unit_is_sent_again(rt: HostRuntime) -> Result<(), Fail> {
             b"",
             b"~\x01\x02\x00\x02\x019\x124Vx\x00\x03AB1~",
         ),
-        (b'A', 3, 0x0102, 0, b"", octets_1),
+        (b'A', 3, 0x0102, 0, b"", OCTETS_1),
     ];
     let failing: [u64; 0] = [];
-    assert_eq!(rt;
-        first_wrong(rt.alloc(), Edition::E2013, &failing, &rows),
-        12
-    );
+    assert!(rt; first_wrong(rt.alloc(), Edition::E2013, &failing, rows) == 12);
     Ok(())
 }

@@ -103,7 +103,7 @@ pub fn started(alloc: Global, edition: Edition, failing: Seq<u64>) -> Option<Ter
 }
 
 // The frames, the units that were told as accepted, and the end, or the error, as octets.
-fn transcript(alloc: Global, answer: Result<Actions, TerminalError>) -> Result<Octets, Memory> {
+fn transcript(alloc: Global, answer: &Result<Actions, TerminalError>) -> Result<Octets, Memory> {
     let mut said = Vec::new(alloc);
     match answer {
         Ok(actions) => {
@@ -154,14 +154,14 @@ fn open(alloc: Global, terminal: &mut Terminal<MemVault>) -> Result<Octets, Memo
     ensures { terminal.new.state.time ≡ terminal.old.state.time }
 {
     let result = terminal.event(alloc, Event::Opened);
-    transcript(alloc, result)
+    transcript(alloc, &result)
 }
 
 fn lose(alloc: Global, terminal: &mut Terminal<MemVault>) -> Result<Octets, Memory>
     ensures { terminal.new.state.time ≡ terminal.old.state.time }
 {
     let result = terminal.event(alloc, Event::Lost);
-    transcript(alloc, result)
+    transcript(alloc, &result)
 }
 
 /// A heartbeat is asked for.
@@ -169,7 +169,7 @@ pub fn beat(alloc: Global, terminal: &mut Terminal<MemVault>) -> Result<Octets, 
     ensures { terminal.new.state.time ≡ terminal.old.state.time }
 {
     let result = terminal.event(alloc, Event::Beat);
-    transcript(alloc, result)
+    transcript(alloc, &result)
 }
 
 fn tick(alloc: Global, terminal: &mut Terminal<MemVault>, now: u64) -> Result<Octets, Memory>
@@ -177,7 +177,7 @@ fn tick(alloc: Global, terminal: &mut Terminal<MemVault>, now: u64) -> Result<Oc
     ensures { terminal.new.state.time ≡ now }
 {
     let result = terminal.event(alloc, Event::Tick(now));
-    transcript(alloc, result)
+    transcript(alloc, &result)
 }
 
 // The terminal hears a message of the platform, in its phone's edition.
@@ -205,7 +205,7 @@ fn hear(
         packet: None,
     };
     let result = terminal.event(alloc, Event::Received(header, message));
-    transcript(alloc, result)
+    transcript(alloc, &result)
 }
 
 fn hear_reply(

@@ -63,7 +63,7 @@ fn in_place(rt: HostRuntime) {
     let heartbeat = header(0x0002, 0, None);
     let mut stream = Stream::new();
     assert!(rt; gives(&mut stream, &HEARTBEAT, Ok((0, heartbeat, none))));
-    assert_eq!(rt; stream.frame(), None);
+    assert!(rt; stream.frame() == None);
 
     let mut wrong = HEARTBEAT;
     wrong[13] = 0x33;
@@ -87,7 +87,7 @@ fn in_place(rt: HostRuntime) {
         )
     );
 
-    assert_eq!(rt; stream.take_in_place(&HEARTBEAT[..5]), (5, Split::More));
+    assert!(rt; stream.take_in_place(&HEARTBEAT[..5]) == (5, Split::More));
     assert!(rt; gives(&mut stream, &HEARTBEAT[5..], Ok((47, heartbeat, none))));
 }
 
@@ -95,82 +95,77 @@ fn in_place(rt: HostRuntime) {
 fn cut_in_two(rt: HostRuntime) {
     for cut in 1..15 {
         let mut stream = Stream::new();
-        assert_eq!(rt; stream.take(&HEARTBEAT[..cut]), (cut, StreamItem::More));
-        assert_eq!(rt; stream.frame(), None);
-        assert_eq!(rt;
-            stream.take(&HEARTBEAT[cut..]),
-            (15 - cut, StreamItem::Frame)
-        );
+        assert!(rt; stream.take(&HEARTBEAT[..cut]) == (cut, StreamItem::More));
+        assert!(rt; stream.frame() == None);
+        assert!(rt; stream.take(&HEARTBEAT[cut..]) == (15 - cut, StreamItem::Frame));
         let body: &[u8] = &[];
-        assert_eq!(rt; stream.frame(), Some((0, header(0x0002, 0, None), body)));
-        assert_eq!(rt; stream.finish(), None);
+        assert!(rt; stream.frame() == Some((0, header(0x0002, 0, None), body)));
+        assert!(rt; stream.finish() == None);
     }
 }
 
 #[test]
 fn unfinished(rt: HostRuntime) {
     let mut stream = Stream::new();
-    assert_eq!(rt; stream.take(&HEARTBEAT[..14]), (14, StreamItem::More));
-    assert_eq!(rt; stream.frame(), None);
+    assert!(rt; stream.take(&HEARTBEAT[..14]) == (14, StreamItem::More));
+    assert!(rt; stream.frame() == None);
     let refusal = Refusal {
         at: 14,
         inside: 0,
         why: Why::Truncated,
     };
-    assert_eq!(rt; stream.finish(), Some(refusal));
+    assert!(rt; stream.finish() == Some(refusal));
+}
+
+fn an_empty_frame_is_refused() -> bool {
+    let mut stream = Stream::new();
+    let empty = refused(0, 0, Why::EmptyFrame);
+    let opens = brings(&mut stream, &[0x7E], &[(1, StreamItem::More)]);
+    let answers = [(1, empty), (14, StreamItem::Frame)];
+    let all = brings(&mut stream, &HEARTBEAT, &answers);
+    opens && all && stream.frame().map(|frame| frame.0) == Some(1)
+}
+
+fn a_stray_run_is_refused() -> bool {
+    let mut stream = Stream::new();
+    let stray = refused(0, 0, Why::Stray);
+    let answers = [(1, stray), (1, StreamItem::More)];
+    let runs = brings(&mut stream, &[0x00, 0x00], &answers);
+    let all = brings(&mut stream, &HEARTBEAT, &[(15, StreamItem::Frame)]);
+    runs && all && stream.frame().map(|frame| frame.0) == Some(2)
+}
+
+fn a_bad_escape_is_refused() -> bool {
+    let mut stream = Stream::new();
+    let bad = refused(4, 0, Why::BadEscape);
+    let octets = [0x7E, 0x00, 0x02, 0x7D, 0x03, 0x7E];
+    let all = brings(&mut stream, &octets, &[(5, bad), (1, StreamItem::More)]);
+    all && stream.finish() == None
+}
+
+fn a_long_frame_is_refused() -> bool {
+    let mut stream = Stream::new();
+    let long = refused(1046, 0, Why::TooLong);
+    let stray = refused(1048, 0, Why::Stray);
+    let opens = brings(&mut stream, &[0x7E], &[(1, StreamItem::More)]);
+    let refuses = brings(&mut stream, &[0x00; 1046], &[(1046, long)]);
+    let answers = [(2, stray), (13, StreamItem::More)];
+    let all = brings(&mut stream, &HEARTBEAT, &answers);
+    let end = stream.finish().map(|end| (end.at, end.why));
+    opens && refuses && all && end == Some((1062, Why::Truncated))
 }
 
 #[test]
 fn refusals_of_the_line(rt: HostRuntime) {
-    let mut stream = Stream::new();
-    let empty = refused(0, 0, Why::EmptyFrame);
-    assert!(rt; brings(&mut stream, &[0x7E], &[(1, StreamItem::More)]));
-    assert!(rt;
-        brings(
-            &mut stream,
-            &HEARTBEAT,
-            &[(1, empty), (14, StreamItem::Frame)]
-        )
-    );
-    assert_eq!(rt; stream.frame().map(|frame| frame.0), Some(1));
-
-    let mut stream = Stream::new();
-    let stray = refused(0, 0, Why::Stray);
-    assert!(rt;
-        brings(
-            &mut stream,
-            &[0x00, 0x00],
-            &[(1, stray), (1, StreamItem::More)]
-        )
-    );
-    assert!(rt; brings(&mut stream, &HEARTBEAT, &[(15, StreamItem::Frame)]));
-    assert_eq!(rt; stream.frame().map(|frame| frame.0), Some(2));
-
-    let mut stream = Stream::new();
-    let bad = refused(4, 0, Why::BadEscape);
-    let octets = [0x7E, 0x00, 0x02, 0x7D, 0x03, 0x7E];
-    assert!(rt; brings(&mut stream, &octets, &[(5, bad), (1, StreamItem::More)]));
-    assert_eq!(rt; stream.finish(), None);
-
-    let mut stream = Stream::new();
-    let long = refused(1046, 0, Why::TooLong);
-    let stray = refused(1048, 0, Why::Stray);
-    assert!(rt; brings(&mut stream, &[0x7E], &[(1, StreamItem::More)]));
-    assert!(rt; brings(&mut stream, &[0x00; 1046], &[(1046, long)]));
-    assert!(rt;
-        brings(
-            &mut stream,
-            &HEARTBEAT,
-            &[(2, stray), (13, StreamItem::More)]
-        )
-    );
-    let end = stream.finish().map(|end| (end.at, end.why));
-    assert_eq!(rt; end, Some((1062, Why::Truncated)));
+    assert!(rt; an_empty_frame_is_refused());
+    assert!(rt; a_stray_run_is_refused());
+    assert!(rt; a_bad_escape_is_refused());
+    assert!(rt; a_long_frame_is_refused());
 }
 
 #[test]
 fn refusals_of_contents(rt: HostRuntime) {
-    let rows: [(&[u8], u64, Why); 9] = [
+    let rows: &[(&[u8], u64, Why)] = &[
         (
             b"\x7E\x00\x02\x00\x00\x01\x39\x12\x34\x56\x78\x00\x00\x33\x7E",
             12,
@@ -222,7 +217,7 @@ fn refusals_of_contents(rt: HostRuntime) {
             Why::TooShort,
         ),
     ];
-    for (octets, inside, why) in rows {
+    for &(octets, inside, why) in rows {
         assert!(rt; octets.len() <= 21);
         let mut stream = Stream::new();
         assert!(rt;
@@ -232,13 +227,10 @@ fn refusals_of_contents(rt: HostRuntime) {
                 &[(octets.len(), refused(0, inside, why))]
             )
         );
-        assert_eq!(rt; stream.frame(), None);
-        assert_eq!(rt; stream.finish(), None);
+        assert!(rt; stream.frame() == None);
+        assert!(rt; stream.finish() == None);
         assert!(rt; brings(&mut stream, &HEARTBEAT, &[(15, StreamItem::Frame)]));
-        assert_eq!(rt;
-            stream.frame().map(|frame| frame.0),
-            Some(octets.len() as u64)
-        );
+        assert!(rt; stream.frame().map(|frame| frame.0) == Some(octets.len() as u64));
     }
 }
 
@@ -253,10 +245,7 @@ fn packets(rt: HostRuntime) {
     let mut stream = Stream::new();
     assert!(rt; brings(&mut stream, octets, &[(21, StreamItem::Frame)]));
     let body: &[u8] = &[0x00, 0x07];
-    assert_eq!(rt;
-        stream.frame(),
-        Some((0, header(0x0104, 10, Some(packet)), body))
-    );
+    assert!(rt; stream.frame() == Some((0, header(0x0104, 10, Some(packet)), body)));
 }
 
 #[test]
@@ -270,11 +259,11 @@ fn written_back(rt: HostRuntime) -> Result<(), Fail> {
     line[2059] = 0x42;
     line[2060] = 0x7E;
     let mut stream = Stream::new();
-    assert_eq!(rt; stream.take(&line), (2061, StreamItem::Frame));
+    assert!(rt; stream.take(&line) == (2061, StreamItem::Frame));
     let (place, read, body) = stream.frame().expect(&rt, "a frame");
-    assert_eq!(rt; place, 0);
-    assert_eq!(rt; read, header(0x0FFF, 0, None));
-    assert_eq!(rt; body, [0x7E; 1023].as_slice());
+    assert!(rt; place == 0);
+    assert!(rt; read == header(0x0FFF, 0, None));
+    assert!(rt; body == [0x7E; 1023].as_slice());
 
     let mut content = ArrayVec::new();
     write_header(&read, 1023, &mut content);
@@ -282,12 +271,12 @@ fn written_back(rt: HostRuntime) -> Result<(), Fail> {
         .try_extend_from_slice(body)
         .expect(&rt, "room for the body");
     let last = check(content.as_slice());
-    assert_eq!(rt; last, 0x42);
+    assert!(rt; last == 0x42);
     content
         .try_push(last)
         .expect(&rt, "room for the check octet");
     let mut frame = ArrayVec::new();
     escape_into(content.as_slice(), &mut frame);
-    assert_eq!(rt; frame.as_slice(), line.as_slice());
+    assert!(rt; frame.as_slice() == line.as_slice());
     Ok(())
 }
