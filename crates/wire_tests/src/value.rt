@@ -31,6 +31,7 @@ fn phones(rt: HostRuntime) -> Result<(), Fail> {
 fn two(alloc: Global) -> Result<Seq<u8>, Memory> {
     let mut list = Seq::new(alloc);
     list.push(7)?;
+    list.reserve(1)?;
     list.push(9)?;
     Ok(list)
 }
