@@ -125,45 +125,49 @@ escape_stands state code octet is (inr both) = (rw (is, both.0, both.1) refl, rw
 gathered_there : (old new : State) (octet p q : ℕ) → old.mode ≡ modes.Inside → new ≡ gathering old octet → q ≡ p + 1 → standing new q ≡ keeping (standing old p) octet
 gathered_there old new octet p q is e f = rw (e, f, is) refl
 
+-- an escape, behind others
+escape_behind : (start old new : State) (piece : List ℕ) (i octet : ℕ) → old.mode ≡ modes.Inside → length old.content < 1045 → i + 1 < length piece → get_or piece i 0 ≡ 0x7D
+    → ((get_or piece (i + 1) 0 ≡ 0x01) × (octet ≡ 0x7D)) ⊎ ((get_or piece (i + 1) 0 ≡ 0x02) × (octet ≡ 0x7E)) → new ≡ gathering old octet
+    → Runs start (standing old (start.place + i)) (take i piece) [] → Runs start (standing new (start.place + (i + 2))) (take (i + 2) piece) []
+escape_behind start old new piece i octet is room two escape code e before =
+    let here = standing old (start.place + i) in
+    let mid = passing here modes.Escaping in
+    let begins = rw (sym escape) at escape_begins here is room in
+    let stands = escape_stands mid (get_or piece (i + 1) 0) octet refl code in
+    let kept : standing new (start.place + (i + 2)) ≡ keeping mid octet =
+    rw (e, is) (moved modes.Inside (old.content ++ octet ∷ []) (old.content ++ octet ∷ []) (start.place + (i + 2)) (start.place + i + 1 + 1) old.opened refl (omega arith)) in
+    let both : i + 1 + 1 ≡ i + 2 = omega arith in
+    subst (λ (n : ℕ). Runs start (standing new (start.place + (i + 2))) (take n piece) []) both
+    (Runs-next start mid (standing new (start.place + (i + 2))) piece (i + 1) [] two (Runs-next start here mid piece i [] (omega (arith, two)) before (sym begins.0) (sym begins.1)) (kept ∙ sym stands.0) (sym stands.1))
+
 pub escape_runs : (old new : State) (piece : List ℕ) (octet : ℕ) → old.mode ≡ modes.Inside → length old.content < 1045 → 1 < length piece → get_or piece 0 0 ≡ 0x7D
     → ((get_or piece 1 0 ≡ 0x01) × (octet ≡ 0x7D)) ⊎ ((get_or piece 1 0 ≡ 0x02) × (octet ≡ 0x7E)) → new ≡ gathering old octet
     → (place : ℕ) → Runs (standing old place) (standing new (place + 2)) (take 2 piece) []
 escape_runs old new piece octet is room two escape code e place =
     let here = standing old place in
-    let mid = passing here modes.Escaping in
-    let begins = rw (sym escape) at escape_begins here is room in
-    let stands = escape_stands mid (get_or piece 1 0) octet refl code in
-    let kept : standing new (place + 2) ≡ keeping mid octet = rw (e, is) (moved modes.Inside (old.content ++ octet ∷ []) (old.content ++ octet ∷ []) (place + 2) (place + 1 + 1) old.opened refl (omega arith)) in
-    Runs-next here mid (standing new (place + 2)) piece 1 [] two (Runs-next here here mid piece 0 [] (omega (arith, two)) (Runs-none here) (sym begins.0) (sym begins.1)) (kept ∙ sym stands.0) (sym stands.1)
+    let zeroth : place + 0 ≡ place = omega arith in
+    escape_behind here old new piece 0 octet is room two escape code e (subst (λ (n : ℕ). Runs here (standing old n) [] []) (sym zeroth) (Runs-none here))
 
--- and so are more octets behind others
-pub gathered_onward : (start old new : State) (piece : List ℕ) (taken count : ℕ) → Runs start (standing old (start.place + taken)) (take taken piece) []
-    → ((place : ℕ) → Runs (standing old place) (standing new (place + count)) (take count (slice_range piece taken (length piece))) [])
-    → Runs start (standing new (start.place + (taken + count))) (take (taken + count) piece) []
-gathered_onward start old new piece taken count first second =
-    let total : start.place + taken + count ≡ start.place + (taken + count) = omega arith in
-    subst (λ (place : ℕ). Runs start (standing new place) (take (taken + count) piece) []) total
-    (Runs-onward start (standing old (start.place + taken)) (standing new (start.place + taken + count)) piece taken count [] first (second (start.place + taken)))
+-- an octet that stands for itself, behind others
+plain_behind : (start old new : State) (piece : List ℕ) (i : ℕ) → old.mode ≡ modes.Inside → length old.content < 1045 → i < length piece → get_or piece i 0 ≢ 0x7E → get_or piece i 0 ≢ 0x7D
+    → new ≡ gathering old (get_or piece i 0) → Runs start (standing old (start.place + i)) (take i piece) [] → Runs start (standing new (start.place + (i + 1))) (take (i + 1) piece) []
+plain_behind start old new piece i is room some flag escape e before =
+    let place : ℕ = start.place + i in
+    let at_here : standing old place ≡ at modes.Inside old.content place old.opened = mode_is (standing old place) modes.Inside is in
+    let kept = keeps_one (get_or piece i 0) old.content place old.opened flag escape room in
+    Runs-next start (standing old place) (standing new (start.place + (i + 1))) piece i [] some before
+    (gathered_there old new (get_or piece i 0) place (start.place + (i + 1)) is e (omega arith) ∙ sym kept.0 ∙ ap (λ (state : State). after state (get_or piece i 0)) (sym at_here))
+    (sym (ap (λ (state : State). events_of state (get_or piece i 0)) at_here ∙ kept.1))
 
--- an octet that stands for itself
-pub plain_runs : (old new : State) (piece : List ℕ) → old.mode ≡ modes.Inside → length old.content < 1045 → 0 < length piece → get_or piece 0 0 ≢ 0x7E → get_or piece 0 0 ≢ 0x7D
-    → new ≡ gathering old (get_or piece 0 0) → (place : ℕ) → Runs (standing old place) (standing new (place + 1)) (take 1 piece) []
-plain_runs old new piece is room some flag escape e place =
-    let here = standing old place in
-    let at_here : here ≡ at modes.Inside old.content place old.opened = mode_is here modes.Inside is in
-    let kept = keeps_one (get_or piece 0 0) old.content place old.opened flag escape room in
-    Runs-next here here (standing new (place + 1)) piece 0 [] some (Runs-none here)
-    (gathered_there old new (get_or piece 0 0) place (place + 1) is e refl ∙ sym kept.0 ∙ ap (λ (state : State). after state (get_or piece 0 0)) (sym at_here))
-    (sym (ap (λ (state : State). events_of state (get_or piece 0 0)) at_here ∙ kept.1))
-
--- an octet of content that stands at the front
-pub front_runs : (old new : State) (piece : List ℕ) (count octet : ℕ) → old.mode ≡ modes.Inside → length old.content < 1045 → 1 < length piece
-    → StandsAtFront (get_or piece 0 0) (get_or piece 1 0) count octet → new ≡ gathering old octet → (place : ℕ) → Runs (standing old place) (standing new (place + count)) (take count piece) []
-front_runs old new piece count octet is room two (inl h) e place =
-    subst (λ (n : ℕ). Runs (standing old place) (standing new (place + n)) (take n piece) []) (sym h.0) (escape_runs old new piece octet is room two h.1 h.2 e place)
-front_runs old new piece count octet is room two (inr h) e place =
-    subst (λ (n : ℕ). Runs (standing old place) (standing new (place + n)) (take n piece) []) (sym h.0)
-    (plain_runs old new piece is room (omega (arith, two)) h.1 h.2 (e ∙ ap (gathering old) h.3) place)
+-- an octet of content that stands behind others
+pub front_behind : (start old new : State) (piece : List ℕ) (i count octet : ℕ) → old.mode ≡ modes.Inside → length old.content < 1045 → i + 1 < length piece
+    → StandsAtFront (get_or piece i 0) (get_or piece (i + 1) 0) count octet → new ≡ gathering old octet → Runs start (standing old (start.place + i)) (take i piece) []
+    → Runs start (standing new (start.place + (i + count))) (take (i + count) piece) []
+front_behind start old new piece i count octet is room two (inl h) e before =
+    subst (λ (n : ℕ). Runs start (standing new (start.place + (i + n))) (take (i + n) piece) []) (sym h.0) (escape_behind start old new piece i octet is room two h.1 h.2 e before)
+front_behind start old new piece i count octet is room two (inr h) e before =
+    subst (λ (n : ℕ). Runs start (standing new (start.place + (i + n))) (take (i + n) piece) []) (sym h.0)
+    (plain_behind start old new piece i is room (omega (arith, two)) h.1 h.2 (e ∙ ap (gathering old) h.3) before)
 
 -- ---- what a run is to the streams
 

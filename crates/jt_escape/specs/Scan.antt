@@ -34,7 +34,7 @@ keeping state octet =
 abbrev pub gathering : State → ℕ → State
 gathering state octet = record state { content = state.content ++ octet ∷ [] }
 
--- an octet of content stands in so many octets, of which there are two at least: by an escape in both, or for itself in the first
+-- of a stream of which two octets are there, so many have an octet of content: both by an escape, or the first for itself
 abbrev pub StandsAtFront : (first second count octet : ℕ) → Type 0
 StandsAtFront first second count octet =
     ((count ≡ 2) × (first ≡ 0x7D) × (((second ≡ 0x01) × (octet ≡ 0x7D)) ⊎ ((second ≡ 0x02) × (octet ≡ 0x7E))))

@@ -17,6 +17,9 @@ use std::marker::Model;
 // Escapes with fewer octets than this between them are near one another: a search takes about as long as so many octets.
 const NEAR: usize = 8;
 
+// The bits by which an escaped octet differs from its code.
+const CODED: u8 = 0x7C;
+
 /// Where in its stream a splitter stands.
 #[derive(Clone, Copy, Debug, PartialEq, Eq)]
 pub enum Mode {
@@ -120,9 +123,8 @@ fn front(octet: u8, code: u8) -> Option<(usize, u8)>
     if (octet == FLAG) | wrong {
         return None;
     }
-    let escaped = select_unpredictable(code == FLAG_CODE, FLAG, ESCAPE);
     let count = select_unpredictable(escapes, 2, 1);
-    Some((count, select_unpredictable(escapes, escaped, octet)))
+    Some((count, select_unpredictable(escapes, code ^ CODED, octet)))
 }
 
 // How many octets stand behind the opening flag before the next flag or escape. The search goes no further than the longest
@@ -363,48 +365,35 @@ impl Splitter {
         }
     }
 
-    // Gathers the octet that stands at the front of two or more, where it is one of content and there is room for it: how many
-    // octets it takes. The place is not moved.
-    #[inline(always)]
-    fn gather_next(&mut self, octets: &[u8]) -> usize
-        requires mode { self.old.mode ≡ Inside }
-        requires some { 1 < length octets.now }
-        ensures within { result ≤ length octets.now }
-        ensures mode { self.new.mode ≡ Inside }
-        ensures place { self.new.place ≡ self.old.place }
-        ensures runs { (place : ℕ) → Runs (standing self.old place) (standing self.new (place + result)) (take result octets.now) [] }
-    {
-        if self.content.is_full() {
-            return 0;
-        }
-        match front(octets[0], octets[1]) {
-            None => 0,
-            Some((count, octet)) => {
-                self.gather(octet);
-                count
-            }
-        }
-    }
-
     // Gathers content octets one by one, as long as escapes stand near one another: how many octets they take. The place is
-    // not moved. Where escapes stand so, a search for each takes longer.
+    // not moved. Where escapes stand so, a search for each takes longer. Both octets that may be the next are read before it
+    // is known which is, so that no step waits for a read; so the last one or two are left to those that call.
     #[inline(always)]
     fn gather_near(&mut self, octets: &[u8]) -> usize
-        requires { self.old.mode ≡ Inside }
+        requires mode { self.old.mode ≡ Inside }
+        requires room { length self.old.content + length octets.now ≤ 1045 }
         ensures within { result ≤ length octets.now }
         ensures mode { self.new.mode ≡ Inside }
         ensures place { self.new.place ≡ self.old.place }
         ensures runs { Runs self.old (standing self.new (self.old.place + result)) (take result octets.now) [] }
     {
+        if octets.is_empty() {
+            return 0;
+        }
+        let mut first = octets[0];
         let mut taken = 0;
-        let mut plain = 0;
-        while taken + 1 < octets.len() && plain < NEAR {
-            let count = self.gather_next(&octets[taken..]);
-            if count == 0 {
-                return taken;
+        let mut left = NEAR;
+        while taken + 2 < octets.len() && left > 0 {
+            let (second, third) = (octets[taken + 1], octets[taken + 2]);
+            match front(first, second) {
+                None => return taken,
+                Some((count, octet)) => {
+                    self.gather(octet);
+                    first = select_unpredictable(count == 1, second, third);
+                    left = select_unpredictable(count == 1, left - 1, NEAR);
+                    taken += count;
+                }
             }
-            plain = select_unpredictable(count == 1, plain + 1, 0);
-            taken += count;
         }
         taken
     }
@@ -418,7 +407,8 @@ impl Splitter {
         ensures mode { self.new.mode ≡ Inside }
         ensures runs { Runs self.old self.new (take result octets.now) [] }
     {
-        let taken = self.gather_near(octets);
+        let room = self.content.remaining_capacity();
+        let taken = self.gather_near(&octets[..octets.len().min(room)]);
         self.place += taken as u64;
         taken
     }
