@@ -2,7 +2,7 @@
 
 ghost use Rattle.std.specs.Prelude.{◌≡◌, ◌==◌, ◌≤◌, ◌↔◌, ◌++◌, length, Some, None, IsTrue, IfOk, MatchResult, OnOk};
 ghost use Rattle.jt_layout.specs.Answer.{Answers};
-ghost use Rattle.jt_layout.specs.Reading.{Finds, Gives};
+ghost use Rattle.jt_layout.specs.Reading.{Finds, Gives, Judges};
 ghost use Rattle.jt_codec.specs.Resend as layouts;
 
 use jt_layout::{Reader, Writer, all_fit};
@@ -130,6 +130,25 @@ fn resend_in(alloc: Global, edition: Edition, octets: &[u8]) -> Result<Resend, C
         wide,
         numbers,
     })
+}
+
+fn judge_numbers(alloc: Global, wide: bool, octets: &[u8]) -> Result<(), CodecError>
+    ensures { Judges result ((layouts.numbered wide).read octets.now 0) }
+{
+    let mut reader = Reader::new(octets);
+    reader.word()?;
+    let count = read_count(&mut reader, wide)?;
+    reader.pass::<u16>(alloc, count as usize)?;
+    Ok(reader.end()?)
+}
+
+// Judges a request to send packets again: the error is that of `read_resend`, and no list is made.
+#[tactic(auto, unfolding(crate::specs::Resend::resend))]
+pub(crate) fn judge_resend(alloc: Global, edition: Edition, octets: &[u8]) -> Result<(), CodecError>
+    ensures { Judges result ((layouts.resend edition).read octets.now 0) }
+{
+    judge(edition, octets)?;
+    judge_numbers(alloc, is_wide(edition, octets.len()), octets)
 }
 
 // A request to send packets again.

@@ -1,13 +1,13 @@
 -- What follows for readers and writers of any layout.
 use Rattle.std.proofs.Common.{◌≡◌, ℕ, ◌⊎◌, inl, inr, List, ◌++◌, Option, Some, Result, Ok, Err, refl, sym, ap, ◌∙◌, append_assoc, arith}
-use Rattle.std.specs.Prelude.{MatchResult}
+use Rattle.std.specs.Prelude.{IsOk, MatchResult}
 use Rattle.jt_value.specs.declared.refusal.Refusal.{Refusal}
 use Rattle.jt_value.specs.declared.refusal.CodecError.{CodecError}
 use Rattle.jt_value.specs.declared.refusal.CodecError.TheVariants as errors
 use Rattle.jt_value.specs.Octets.{AreOctets}
-use Rattle.jt_layout.specs.Layout.{Body, Fills, body_case}
+use Rattle.jt_layout.specs.Layout.{◌>>=◌, Body, Fills, body_case}
 use Rattle.jt_layout.specs.Answer.{Answers, IsOneToOne}
-use Rattle.jt_layout.specs.Reading.{Gives, Finds}
+use Rattle.jt_layout.specs.Reading.{Gives, Finds, Judges}
 use Rattle.jt_layout.proofs.Laws.{IsBody, ok_is, err_is}
 
 -- a reader that gives what reading gives answers by the layout
@@ -58,6 +58,26 @@ wrote old mid new a b first second = second ∙ ap (λ (t : List ℕ). t ++ b) f
 -- a value of one case of an enum
 pub answers_case : {A B : Type 0} (f : Body A) (make : A → B) (case_of : B → Option A) → ((x : A) → case_of (make x) ≡ Some x) → (s : List ℕ) (a : A) → Fills f s 0 a → Fills (body_case f make case_of) s 0 (make a)
 answers_case f make case_of back s a h = record { fits = rw (back a) h.fits; parts = rw (back a) h.parts }
+
+-- a value is judged as one case of an enum is
+judges_made : {A B X : Type 0} (make : A → B) (r : Result X CodecError) (read : Result A Refusal) → Judges r read → Judges r (read >>= λ x. Ok (make x))
+judges_made make (Ok x) (Ok a) h = refl
+judges_made make (Ok x) (Err q) h = absurd cc
+judges_made make (Err errors.Memory) read h = tt
+judges_made make (Err (errors.Refused q)) read h = rw h refl
+
+pub judges_case : {A B X : Type 0} (f : Body A) (make : A → B) (case_of : B → Option A) (s : List ℕ) (r : Result X CodecError) → Judges r (f.read s 0) → Judges r ((body_case f make case_of).read s 0)
+judges_case f make case_of s r h = judges_made make r (f.read s 0) h
+
+value_of : {A : Type 0} (r : Result A Refusal) → IsOk r → (a : A) × (r ≡ Ok a)
+value_of (Ok a) h = (a, refl)
+value_of (Err q) h = absurd cc
+
+-- octets that are judged right are a value
+pub judged_right : {A X : Type 0} (b : Body A) → IsBody b → (s : List ℕ) (x : X) → AreOctets s → Judges (Ok x) (b.read s 0) → (a : A) × Fills b s 0 a
+judged_right b law s x bytes h =
+    let value = value_of (b.read s 0) h in
+    (value.0, law.takes s 0 value.0 bytes (omega arith) value.1)
 
 -- a reader that takes no memory, seen by view, answers by the layout
 pub answers_plainly : {X A : Type 0} (b : Body A) → IsBody b → (view : X → A) (s : List ℕ) (r : Result X Refusal) → AreOctets s → Finds view r (b.read s 0) → MatchResult r (λ x. Fills b s 0 (view x)) (λ q. b.Refuses s 0 q)

@@ -1,5 +1,5 @@
 -- What a reader of fields found, beside what `read` gives from the place where it stood. To be believed.
-use Rattle.std.specs.Prelude.{◌≡◌, Result, Ok, Err}
+use Rattle.std.specs.Prelude.{◌≡◌, ℕ, Result, Ok, Err, IsOk}
 use Rattle.jt_value.specs.declared.refusal.Refusal.{Refusal}
 use Rattle.jt_value.specs.declared.refusal.CodecError.{CodecError}
 use Rattle.jt_value.specs.declared.refusal.CodecError.TheVariants as errors
@@ -18,3 +18,13 @@ Fails (errors.Refused r) read = read ≡ Err r
 abbrev pub Gives : {X Y : Type 0} → (X → Y) → Result X CodecError → Result Y Refusal → Type 0
 Gives view (Ok x) read = read ≡ Ok (view x)
 Gives view (Err e) read = Fails e read
+
+-- Reading gives a value up to this place, which is not told; or it fails, as `Gives` says.
+abbrev pub Passes : {X Y : Type 0} → ℕ → Result X CodecError → Result (Y × ℕ) Refusal → Type 0
+Passes place (Ok x) read = (y : _) × (read ≡ Ok (y, place))
+Passes place (Err e) read = Fails e read
+
+-- Reading gives a value, which is not told; or it fails, as `Gives` says.
+abbrev pub Judges : {X Y : Type 0} → Result X CodecError → Result Y Refusal → Type 0
+Judges (Ok x) read = IsOk read
+Judges (Err e) read = Fails e read

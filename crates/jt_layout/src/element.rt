@@ -5,7 +5,7 @@ ghost use Rattle.std.specs.List.{flat_map, AllByRecursion};
 ghost use Rattle.std.specs.Io.{StartsWith};
 ghost use Rattle.jt_value.specs.Octets.{AreOctets};
 ghost use Rattle.jt_layout.specs.Layout.{Part, times, to_the_end};
-ghost use Rattle.jt_layout.specs.Reading.{Gives};
+ghost use Rattle.jt_layout.specs.Reading.{Gives, Passes};
 
 use crate::reader::Reader;
 use crate::writer::Writer;
@@ -109,6 +109,17 @@ impl<'a> Reader<'a> {
             list.push(element)?;
         }
         Ok(list)
+    }
+
+    /// Passes over the next so many elements, and keeps none.
+    pub fn pass<T: Element>(&mut self, alloc: Global, count: usize) -> Result<(), CodecError>
+        ensures value { Passes self.new.place result ((times count T.layout).read self.old.octets self.old.place) }
+        ensures octets { self.new.octets ≡ self.old.octets }
+    {
+        for _ in 0..count {
+            T::read(alloc, self)?;
+        }
+        Ok(())
     }
 
     /// All elements up to the end.

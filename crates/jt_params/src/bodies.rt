@@ -2,7 +2,7 @@
 
 ghost use Rattle.std.specs.Prelude.{◌≡◌, ◌↔◌, IsTrue, IfOk};
 ghost use Rattle.jt_layout.specs.Answer.{Answers, IsOneToOne};
-ghost use Rattle.jt_layout.specs.Reading.{Gives};
+ghost use Rattle.jt_layout.specs.Reading.{Gives, Judges};
 ghost use Rattle.jt_params.specs.Params as layouts;
 
 use crate::param::Param;
@@ -27,6 +27,17 @@ pub fn read_params(alloc: Global, octets: &[u8]) -> Result<Seq<Param>, CodecErro
     ensures { Answers layouts.params octets.now result }
 {
     params_in(alloc, octets)
+}
+
+/// Judges a count octet and that many parameters, up to the end: the error is that of `read_params`, and no list is made.
+#[tactic(auto, unfolding(crate::specs::Params::params))]
+pub fn judge_params(alloc: Global, octets: &[u8]) -> Result<(), CodecError>
+    ensures { Judges result (layouts.params.read octets.now 0) }
+{
+    let mut reader = Reader::new(octets);
+    let count = reader.byte()?;
+    reader.pass::<Param>(alloc, count as usize)?;
+    Ok(reader.end()?)
 }
 
 /// Whether there are at most 255 parameters, each of which has octets.
@@ -69,6 +80,18 @@ pub fn read_params_reply(alloc: Global, octets: &[u8]) -> Result<(u16, Seq<Param
     params_reply_in(alloc, octets)
 }
 
+/// Judges the answer to a question for parameters: the error is that of `read_params_reply`, and no list is made.
+#[tactic(auto, unfolding(crate::specs::Params::params_reply))]
+pub fn judge_params_reply(alloc: Global, octets: &[u8]) -> Result<(), CodecError>
+    ensures { Judges result (layouts.params_reply.read octets.now 0) }
+{
+    let mut reader = Reader::new(octets);
+    reader.word()?;
+    let count = reader.byte()?;
+    reader.pass::<Param>(alloc, count as usize)?;
+    Ok(reader.end()?)
+}
+
 /// Whether there are at most 255 parameters, each of which has octets.
 #[tactic(auto, unfolding(crate::specs::Params::params_reply, jt_layout::specs::Layout::number))]
 pub fn params_reply_fits(reply: u16, params: &Seq<Param>) -> bool
@@ -106,6 +129,17 @@ pub fn read_query_some(alloc: Global, octets: &[u8]) -> Result<Seq<u32>, CodecEr
     ensures { Answers layouts.query_some octets.now result }
 {
     query_some_in(alloc, octets)
+}
+
+/// Judges a question for some parameters: the error is that of `read_query_some`, and no list is made.
+#[tactic(auto, unfolding(crate::specs::Params::query_some))]
+pub fn judge_query_some(alloc: Global, octets: &[u8]) -> Result<(), CodecError>
+    ensures { Judges result (layouts.query_some.read octets.now 0) }
+{
+    let mut reader = Reader::new(octets);
+    let count = reader.byte()?;
+    reader.pass::<u32>(alloc, count as usize)?;
+    Ok(reader.end()?)
 }
 
 /// Whether there are at most 255 ids.

@@ -6,8 +6,9 @@ mod param;
 mod table;
 
 pub use bodies::{
-    law_param_bodies, params_fit, params_reply_fits, query_some_fits, read_params,
-    read_params_reply, read_query_some, write_params, write_params_reply, write_query_some,
+    judge_params, judge_params_reply, judge_query_some, law_param_bodies, params_fit,
+    params_reply_fits, query_some_fits, read_params, read_params_reply, read_query_some,
+    write_params, write_params_reply, write_query_some,
 };
 pub use param::{Kind, Param, ParamValue, kind_of};
 pub use table::{ParamError, ParamTable, law_tables};

@@ -2,7 +2,7 @@
 
 ghost use Rattle.std.specs.Prelude.{◌≡◌, ◌↔◌, ◌++◌, IsTrue, IfOk};
 ghost use Rattle.jt_layout.specs.Answer.{Answers, IsOneToOne};
-ghost use Rattle.jt_layout.specs.Reading.{Gives};
+ghost use Rattle.jt_layout.specs.Reading.{Gives, Judges};
 ghost use Rattle.jt_region_bodies.specs.Regions.{circles};
 
 use crate::limit::Limit;
@@ -106,6 +106,18 @@ pub fn read_circles(alloc: Global, octets: &[u8]) -> Result<(u8, Seq<Circle>), C
     ensures { Answers circles octets.now result }
 {
     circles_in(alloc, octets)
+}
+
+/// Judges the body of a setting of circles: the error is that of `read_circles`, and no list is made.
+#[tactic(auto, unfolding(crate::specs::Regions::circles))]
+pub fn judge_circles(alloc: Global, octets: &[u8]) -> Result<(), CodecError>
+    ensures { Judges result (circles.read octets.now 0) }
+{
+    let mut reader = Reader::new(octets);
+    reader.byte()?;
+    let count = reader.byte()?;
+    reader.pass::<Circle>(alloc, count as usize)?;
+    Ok(reader.end()?)
 }
 
 /// The body of a setting of circles that fit.

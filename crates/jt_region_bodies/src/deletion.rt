@@ -2,7 +2,7 @@
 
 ghost use Rattle.std.specs.Prelude.{◌≡◌, ◌↔◌, ◌++◌, IsTrue, IfOk};
 ghost use Rattle.jt_layout.specs.Answer.{Answers, IsOneToOne};
-ghost use Rattle.jt_layout.specs.Reading.{Gives};
+ghost use Rattle.jt_layout.specs.Reading.{Gives, Judges};
 ghost use Rattle.jt_region_bodies.specs.Regions as layouts;
 
 use jt_layout::{Reader, Writer, all_fit};
@@ -53,6 +53,17 @@ pub fn read_deletion(alloc: Global, octets: &[u8]) -> Result<Deletion, CodecErro
     ensures { Answers layouts.deletion octets.now result }
 {
     deletion_in(alloc, octets)
+}
+
+/// Judges a deletion's body: the error is that of `read_deletion`, and no list is made.
+#[tactic(auto, unfolding(crate::specs::Regions::deletion))]
+pub fn judge_deletion(alloc: Global, octets: &[u8]) -> Result<(), CodecError>
+    ensures { Judges result (layouts.deletion.read octets.now 0) }
+{
+    let mut reader = Reader::new(octets);
+    let count = reader.byte()?;
+    reader.pass::<u32>(alloc, count as usize)?;
+    Ok(reader.end()?)
 }
 
 /// The body of a deletion of at most 255 ids.

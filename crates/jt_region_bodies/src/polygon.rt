@@ -2,7 +2,7 @@
 
 ghost use Rattle.std.specs.Prelude.{◌≡◌, ◌↔◌, ◌++◌, IsTrue, IfOk};
 ghost use Rattle.jt_layout.specs.Answer.{Answers, IsOneToOne};
-ghost use Rattle.jt_layout.specs.Reading.{Gives};
+ghost use Rattle.jt_layout.specs.Reading.{Gives, Judges};
 ghost use Rattle.jt_region_bodies.specs.Regions as layouts;
 
 use crate::limit::Limit;
@@ -127,6 +127,21 @@ pub fn read_polygon(alloc: Global, octets: &[u8]) -> Result<Polygon, CodecError>
     ensures { Answers layouts.polygon octets.now result }
 {
     polygon_in(alloc, octets)
+}
+
+/// Judges a polygon's body: the error is that of `read_polygon`, and no list is made.
+#[tactic(auto, unfolding(crate::specs::Regions::polygon))]
+pub fn judge_polygon(alloc: Global, octets: &[u8]) -> Result<(), CodecError>
+    ensures { Judges result (layouts.polygon.read octets.now 0) }
+{
+    let mut reader = Reader::new(octets);
+    reader.dword()?;
+    let attribute = reader.word()?;
+    read_times(&mut reader, attribute)?;
+    read_limit(&mut reader, attribute)?;
+    let count = reader.word()?;
+    reader.pass::<Vertex>(alloc, count as usize)?;
+    Ok(reader.end()?)
 }
 
 /// The body of a polygon that fits.

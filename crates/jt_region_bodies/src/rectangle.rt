@@ -2,7 +2,7 @@
 
 ghost use Rattle.std.specs.Prelude.{◌≡◌, ◌↔◌, ◌++◌, IsTrue, IfOk};
 ghost use Rattle.jt_layout.specs.Answer.{Answers, IsOneToOne};
-ghost use Rattle.jt_layout.specs.Reading.{Gives};
+ghost use Rattle.jt_layout.specs.Reading.{Gives, Judges};
 ghost use Rattle.jt_region_bodies.specs.Regions.{rectangles};
 
 use crate::limit::Limit;
@@ -113,6 +113,18 @@ pub fn read_rectangles(alloc: Global, octets: &[u8]) -> Result<(u8, Seq<Rectangl
     ensures { Answers rectangles octets.now result }
 {
     rectangles_in(alloc, octets)
+}
+
+/// Judges the body of a setting of rectangles: the error is that of `read_rectangles`, and no list is made.
+#[tactic(auto, unfolding(crate::specs::Regions::rectangles))]
+pub fn judge_rectangles(alloc: Global, octets: &[u8]) -> Result<(), CodecError>
+    ensures { Judges result (rectangles.read octets.now 0) }
+{
+    let mut reader = Reader::new(octets);
+    reader.byte()?;
+    let count = reader.byte()?;
+    reader.pass::<Rectangle>(alloc, count as usize)?;
+    Ok(reader.end()?)
 }
 
 /// The body of a setting of rectangles that fit.

@@ -2,7 +2,7 @@
 
 ghost use Rattle.std.specs.Prelude.{◌≡◌, ◌↔◌, ◌++◌, IsTrue, IfOk};
 ghost use Rattle.jt_layout.specs.Answer.{Answers, IsOneToOne};
-ghost use Rattle.jt_layout.specs.Reading.{Gives};
+ghost use Rattle.jt_layout.specs.Reading.{Gives, Judges};
 ghost use Rattle.jt_region_bodies.specs.Regions as layouts;
 
 use crate::limit::Limit;
@@ -162,6 +162,20 @@ pub fn read_route(alloc: Global, octets: &[u8]) -> Result<Route, CodecError>
     ensures { Answers layouts.route octets.now result }
 {
     route_in(alloc, octets)
+}
+
+/// Judges a route's body: the error is that of `read_route`, and no list is made.
+#[tactic(auto, unfolding(crate::specs::Regions::route))]
+pub fn judge_route(alloc: Global, octets: &[u8]) -> Result<(), CodecError>
+    ensures { Judges result (layouts.route.read octets.now 0) }
+{
+    let mut reader = Reader::new(octets);
+    reader.dword()?;
+    let attribute = reader.word()?;
+    read_times(&mut reader, attribute)?;
+    let count = reader.word()?;
+    reader.pass::<RoutePoint>(alloc, count as usize)?;
+    Ok(reader.end()?)
 }
 
 /// The body of a route that fits.
