@@ -14,8 +14,7 @@ returns-in_err-read-clause-value g c =
 pub loop-preserved : goal.loop-preserved
 loop-preserved g c =
     let so_far = c.loop.invariant.1 in
-    let read = rw c.loop.invariant.0 at c.in_ok-read.ensures.value in
-    (
+    let read = rw c.loop.invariant.0 at c.in_ok-read.ensures.value in (
       c.in_ok-read.ensures.octets ∙ c.loop.invariant.0,
       (so_far.0 ++ c.in_ok-read.field-0 ∷ [], times_step (g.T.Element.layout).read c.args.self.now.octets so_far.0 c.args.count c.loop.counter c.loop.self.place c.in_ok-read.field-0 c.read.new.reader.place (read_times (g.T.Element.layout).read c.args.count c.args.self.now.octets c.args.self.now.place) c.loop-test.true read so_far.1),
     )
