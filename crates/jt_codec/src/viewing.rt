@@ -155,10 +155,9 @@ fn view_row<'a>(
 }
 
 /// The message of the body behind this header, of at most 1,023 octets, read in place, or the first reason against the body,
-/// with its offset in the content and `at` 0: what `read_message` answers. It is there for packets, messages
-/// without fields, general responses, orders to track, texts, orders, positions, batches and ids without a row, and None says
-/// that the header is of another message. No memory is
-/// taken.
+/// with its offset in the content and `at` 0: what `read_message` answers. It is there for packets, messages without fields,
+/// general responses, orders to track, texts, orders, positions, batches and ids without a row, and None says that the header
+/// is of another message. No memory is taken.
 #[inline(always)]
 pub fn view_message<'a>(header: &Header, body: &'a [u8]) -> Option<Result<MessageView<'a>, Refusal>>
     requires { length body.now < 2 ^ 10 }
