@@ -238,11 +238,27 @@ fn header(id: u16, serial: u16, packet: Option<Packet>) -> Header {
     }
 }
 
+fn header_2019(id: u16) -> Header {
+    let digits = [0, 0, 0, 0, 0x01, 0x39, 0x12, 0x34, 0x56, 0x78];
+    Header {
+        edition: Edition::E2019,
+        id,
+        bit15: false,
+        version: 1,
+        phone: Phone {
+            edition: Edition::E2019,
+            digits,
+        },
+        serial: 0,
+        packet: None,
+    }
+}
+
 // Why a body that is read in place is refused.
-fn view_refusal(id: u16, body: &[u8]) -> Option<Refusal>
+fn view_refusal(header: &Header, body: &[u8]) -> Option<Refusal>
     requires { length body.now < 2 ^ 10 }
 {
-    match view_message(&header(id, 0, None), body) {
+    match view_message(header, body) {
         Some(Err(refusal)) => Some(refusal),
         Some(Ok(_)) | None => None,
     }
@@ -281,17 +297,80 @@ fn views(rt: HostRuntime) {
     assert!(rt; heartbeat);
     assert!(rt; is_position(&POSITION, 20_000_000, 10));
     assert!(rt; is_batch(&[0, 0, 1], 1, 0));
-    assert!(rt; view_message(&header(0x0003, 0, None), &[]).is_none());
+    assert!(rt; view_message(&header(0x8106, 0, None), &[0]).is_none());
     let rows: &[(u16, &[u8], u64, Why)] = &[
         (0x0002, b"\x07", 12, Why::Trailing),
+        (0x0003, b"\x07", 12, Why::Trailing),
+        (0x8104, b"\x07", 12, Why::Trailing),
+        (0x8201, b"\x07", 12, Why::Trailing),
         (0x0200, &POSITION[..27], 34, Why::Truncated),
         (0x0704, b"\0\0", 14, Why::Truncated),
         (0x8001, b"\0\x07\x02\0\0\0", 17, Why::Trailing),
+        (0x8202, b"\0\x05\0\0\x02", 14, Why::Truncated),
+        (0x8202, b"\0\0\0\0\0\x09\x01", 18, Why::Trailing),
+        (0x8300, b"", 12, Why::Truncated),
+        (0x8105, b"", 12, Why::Truncated),
     ];
     for &(id, body, inside, why) in rows {
         assert!(rt; body.len() < 1024);
-        assert!(rt; view_refusal(id, body) == refused(inside, why));
+        assert!(rt; view_refusal(&header(id, 0, None), body) == refused(inside, why));
     }
+    assert!(rt; view_refusal(&header_2019(0x8300), b"\x01") == refused(18, Why::Truncated));
+}
+
+#[test]
+fn views_without_fields(rt: HostRuntime) {
+    let deregister = matches!(
+        &view_message(&header(0x0003, 0, None), &[]),
+        Some(Ok(MessageView::Deregister))
+    );
+    assert!(rt; deregister);
+    let query = matches!(
+        &view_message(&header(0x8104, 0, None), &[]),
+        Some(Ok(MessageView::QueryParams))
+    );
+    assert!(rt; query);
+    let query = matches!(
+        &view_message(&header(0x8201, 0, None), &[]),
+        Some(Ok(MessageView::QueryPosition))
+    );
+    assert!(rt; query);
+}
+
+// A text of 2019 has a kind in place of the first octet that the text of 2013 has.
+#[test]
+fn views_of_tracks_texts_and_orders(rt: HostRuntime) {
+    let track = matches!(
+        &view_message(&header(0x8202, 0, None), &[0, 5, 0, 0, 2, 0x58]),
+        Some(Ok(MessageView::Track {
+            interval: 5,
+            validity: Some(600)
+        }))
+    );
+    assert!(rt; track);
+    let end = matches!(
+        &view_message(&header(0x8202, 0, None), &[0, 0]),
+        Some(Ok(MessageView::Track {
+            interval: 0,
+            validity: None
+        }))
+    );
+    assert!(rt; end);
+    let text = matches!(
+        &view_message(&header(0x8300, 0, None), &[1, 2, 0x41]),
+        Some(Ok(MessageView::Text { flag: 1, kind: None, text })) if *text == [2, 0x41].as_slice()
+    );
+    assert!(rt; text);
+    let text = matches!(
+        &view_message(&header_2019(0x8300), &[1, 2, 0x41]),
+        Some(Ok(MessageView::Text { flag: 1, kind: Some(2), text })) if *text == [0x41].as_slice()
+    );
+    assert!(rt; text);
+    let order = matches!(
+        &view_message(&header(0x8105, 0, None), &[3, 0xD6, 0]),
+        Some(Ok(MessageView::Control { command: 3, text })) if *text == [0xD6, 0].as_slice()
+    );
+    assert!(rt; order);
 }
 
 #[test]
@@ -330,7 +409,7 @@ fn views_of_responses_and_octets(rt: HostRuntime) {
     assert!(rt; part);
 }
 
-// Of a registration's reply a message is made; all others are judged in place.
+// Of parameters a message is made; all others are judged in place.
 #[test]
 fn judgements(rt: HostRuntime) {
     let good: &[(u16, &[u8])] = &[
@@ -339,6 +418,11 @@ fn judgements(rt: HostRuntime) {
         (0x8001, b"\0\x07\0\x02\0"),
         (0x0900, b"A\x01"),
         (0x8100, b"\0\x05\x04"),
+        (0x8103, b"\0"),
+        (0x8201, b""),
+        (0x8202, b"\0\0"),
+        (0x8300, b"\x01"),
+        (0x8105, b"\x03"),
     ];
     for &(id, body) in good {
         assert!(rt; body.len() < 1024);
@@ -349,6 +433,10 @@ fn judgements(rt: HostRuntime) {
         (0x0200, &POSITION[..27], 34, Why::Truncated),
         (0x8001, b"\0\x07\0\x02", 16, Why::Truncated),
         (0x8100, b"\0\x05\x03A", 15, Why::Trailing),
+        (0x8103, b"", 12, Why::Truncated),
+        (0x8104, b"\x07", 12, Why::Trailing),
+        (0x8202, b"\0\x05", 14, Why::Truncated),
+        (0x8300, b"", 12, Why::Truncated),
     ];
     for &(id, body, inside, why) in bad {
         assert!(rt; body.len() < 1024);

@@ -9,9 +9,17 @@ use Rattle.jt_codec.specs.declared.message.Message.TheVariants as message
 use Rattle.jt_codec.specs.declared.viewing.MessageView.{MessageView}
 use Rattle.jt_codec.specs.declared.viewing.MessageView.TheVariants as view
 
--- the ids of heartbeats, general responses, positions and batches, whose messages have a view each
+-- the ids of messages without fields: heartbeats, a registration given up, questions for all parameters and for the position
+abbrev pub is_empty : ℕ → Bool
+is_empty id = (id == 0x0002) || (id == 0x0003) || (id == 0x8104) || (id == 0x8201)
+
+-- the ids of general responses, orders to track, texts and orders
+abbrev pub is_flat : ℕ → Bool
+is_flat id = (id == 0x0001) || (id == 0x8001) || (id == 0x8202) || (id == 0x8300) || (id == 0x8105)
+
+-- the ids of these, positions and batches, whose messages have a view each
 abbrev pub has_view : ℕ → Bool
-has_view id = (id == 0x0002) || (id == 0x0001) || (id == 0x8001) || (id == 0x0200) || (id == 0x0704)
+has_view id = is_empty id || is_flat id || (id == 0x0200) || (id == 0x0704)
 
 -- one of these messages, or octets under an id without a row of the edition, which are kept unread
 abbrev pub IsReadInPlace : Edition → ℕ → List ℕ → Type 0
@@ -27,6 +35,12 @@ abbrev pub viewed : MessageView → Message
 viewed view.Heartbeat = message.Heartbeat
 viewed (view.TerminalAck reply id result) = message.TerminalAck reply id result
 viewed (view.PlatformAck reply id result) = message.PlatformAck reply id result
+viewed view.Deregister = message.Deregister
+viewed view.QueryParams = message.QueryParams
+viewed view.QueryPosition = message.QueryPosition
+viewed (view.Track interval validity) = message.Track interval validity
+viewed (view.Text flag kind text) = message.Text flag kind text.now
+viewed (view.Control command text) = message.Control command text.now
 viewed (view.Position position) = message.Position (viewed_position position)
 viewed (view.Batch batch) = message.Batch (record { kind = batch.kind; fixes = batch.fixes })
 viewed (view.Opaque id body) = message.Opaque id body.now

@@ -1,15 +1,49 @@
 //! Texts and orders.
 
-ghost use Rattle.std.specs.Prelude.{◌≡◌, ◌++◌, IfOk};
+ghost use Rattle.std.specs.Prelude.{◌≡◌, ◌++◌, IfOk, MatchResult};
 ghost use Rattle.jt_layout.specs.Answer.{Answers};
-ghost use Rattle.jt_layout.specs.Reading.{Gives};
+ghost use Rattle.jt_layout.specs.Layout.{Fills};
+ghost use Rattle.jt_layout.specs.Reading.{Finds, Gives};
 ghost use Rattle.jt_codec.specs.Bodies.{Fits, body_octets};
 ghost use Rattle.jt_codec.specs.Layouts.{flag_kind_and_text, octet_and_text};
 ghost use Rattle.jt_codec.specs.declared.message.Message.TheVariants as message;
 
 use jt_layout::{Reader, Writer};
-use jt_value::{CodecError, Edition, Memory, Octets};
+use jt_value::{CodecError, Edition, Memory, Octets, Refusal};
 use std::alloc::Global;
+
+#[tactic(auto, unfolding(crate::specs::Layouts::octet_and_text, jt_layout::specs::Layout::rest))]
+fn octet_and_slice<'a>(octets: &'a [u8]) -> Result<(u8, &'a [u8]), Refusal>
+    ensures { Finds (λ fields. (fields.0, fields.1.now)) result (octet_and_text.read octets.now 0) }
+{
+    let mut reader = Reader::new(octets);
+    let octet = reader.byte()?;
+    Ok((octet, &octets[reader.place()..]))
+}
+
+// A flag or a command, and the text behind it, in place.
+pub(crate) fn view_octet_and_text<'a>(octets: &'a [u8]) -> Result<(u8, &'a [u8]), Refusal>
+    ensures { MatchResult result (λ fields. Fills octet_and_text octets.now 0 (fields.0, fields.1.now)) (λ refusal. octet_and_text.Refuses octets.now 0 refusal) }
+{
+    octet_and_slice(octets)
+}
+
+#[tactic(auto, unfolding(crate::specs::Layouts::flag_kind_and_text, jt_layout::specs::Layout::rest))]
+fn flag_kind_and_slice<'a>(octets: &'a [u8]) -> Result<(u8, u8, &'a [u8]), Refusal>
+    ensures { Finds (λ fields. (fields.0, fields.1, fields.2.now)) result (flag_kind_and_text.read octets.now 0) }
+{
+    let mut reader = Reader::new(octets);
+    let flag = reader.byte()?;
+    let kind = reader.byte()?;
+    Ok((flag, kind, &octets[reader.place()..]))
+}
+
+// A flag, a kind and the text behind them, in place.
+pub(crate) fn view_flag_kind_and_text<'a>(octets: &'a [u8]) -> Result<(u8, u8, &'a [u8]), Refusal>
+    ensures { MatchResult result (λ fields. Fills flag_kind_and_text octets.now 0 (fields.0, fields.1, fields.2.now)) (λ refusal. flag_kind_and_text.Refuses octets.now 0 refusal) }
+{
+    flag_kind_and_slice(octets)
+}
 
 #[tactic(auto, unfolding(crate::specs::Layouts::octet_and_text))]
 fn octet_and_text_in(alloc: Global, octets: &[u8]) -> Result<(u8, Octets), CodecError>

@@ -91,6 +91,9 @@ fn asked_in_view(
 {
     match view {
         MessageView::Position(_) | MessageView::Batch(_) => unit(alloc, header, body),
+        MessageView::Deregister => Ok(Request::Deregister {
+            phone: header.phone,
+        }),
         _other => Ok(other(header)),
     }
 }

@@ -7,7 +7,9 @@ ghost use Rattle.jt_codec.specs.Viewing.{viewed};
 ghost use Rattle.jt_text.specs.Fields.{ack_fields};
 ghost use Rattle.jt_text.specs.Frames.{frame_start, header_fields, view_line};
 
-use crate::fields::{push_item_views, push_position_views, put_ack, put_fixed};
+use crate::fields::{
+    push_control, push_item_views, push_position_views, push_text, push_track, put_ack, put_fixed,
+};
 use crate::frame::{id_name, put_front};
 use crate::line::Line;
 use crate::values::push_octets;
@@ -52,6 +54,88 @@ fn push_heartbeat_line(
     line.clear();
     line.put_str("\n");
     push_behind_front(text, line, place, header, "heartbeat", body_len)
+}
+
+// A message without fields, whose name this is.
+#[tactic(auto, using(std::proofs::Common::append_assoc))]
+#[inline(always)]
+fn push_empty_line(
+    text: &mut String,
+    line: &mut Line,
+    place: u64,
+    header: &Header,
+    name: &str,
+    body_len: u16,
+) -> Result<(), AllocError>
+    requires name { length name.now ≤ 17 }
+    ensures text { OnOk result (string_bytes text.new ≡ string_bytes text.old
+        ++ (frame_start place header.now name.now ++ (header_fields header.now body_len ++ codes "\n"))) }
+    ensures kept { StartsWith (string_bytes text.new) (string_bytes text.old) }
+{
+    line.clear();
+    line.put_str("\n");
+    push_behind_front(text, line, place, header, name, body_len)
+}
+
+#[tactic(auto, using(std::proofs::Common::append_assoc), unfolding(crate::specs::Frames::view_line, crate::specs::Names::id_name))]
+fn push_track_line(
+    text: &mut String,
+    line: &mut Line,
+    place: u64,
+    header: &Header,
+    interval: u16,
+    validity: Option<u32>,
+    body_len: u16,
+) -> Result<(), AllocError>
+    ensures text { OnOk result (string_bytes text.new ≡ string_bytes text.old ++ view_line place header.now (message.Track interval validity) body_len) }
+    ensures kept { StartsWith (string_bytes text.new) (string_bytes text.old) }
+{
+    line.clear();
+    push_behind_front(text, line, place, header, "track", body_len)?;
+    push_track(text, interval, validity)?;
+    text.push_str("\n")?;
+    Ok(())
+}
+
+#[tactic(auto, using(std::proofs::Common::append_assoc), unfolding(crate::specs::Frames::view_line, crate::specs::Names::id_name))]
+fn push_text_line(
+    text: &mut String,
+    line: &mut Line,
+    place: u64,
+    header: &Header,
+    flag: u8,
+    kind: Option<u8>,
+    octets: &[u8],
+    body_len: u16,
+) -> Result<(), AllocError>
+    ensures text { OnOk result (string_bytes text.new ≡ string_bytes text.old ++ view_line place header.now (message.Text flag kind octets.now) body_len) }
+    ensures kept { StartsWith (string_bytes text.new) (string_bytes text.old) }
+{
+    line.clear();
+    push_behind_front(text, line, place, header, "text", body_len)?;
+    push_text(text, line, flag, kind, octets)?;
+    text.push_str("\n")?;
+    Ok(())
+}
+
+#[tactic(auto, using(std::proofs::Common::append_assoc), unfolding(crate::specs::Frames::view_line, crate::specs::Names::id_name))]
+fn push_control_line(
+    text: &mut String,
+    line: &mut Line,
+    place: u64,
+    header: &Header,
+    command: u8,
+    octets: &[u8],
+    body_len: u16,
+) -> Result<(), AllocError>
+    ensures text { OnOk result (string_bytes text.new ≡ string_bytes text.old ++ view_line place header.now (message.Control command octets.now) body_len) }
+    ensures kept { StartsWith (string_bytes text.new) (string_bytes text.old) }
+{
+    line.clear();
+    push_behind_front(text, line, place, header, "control", body_len)?;
+    push_control(text, line, command, octets)?;
+    text.push_str("\n")?;
+    Ok(())
 }
 
 // Makes the line hold what a general response's has behind its front: the fields and the line's end.
@@ -180,6 +264,27 @@ pub fn push_message_view_line(
             hold_response(line, reply, id, result);
             push_behind_front(text, line, place, header, "platform-ack", body_len)
         }
+        MessageView::Deregister => {
+            push_empty_line(text, line, place, header, "deregister", body_len)
+        }
+        MessageView::QueryParams => {
+            push_empty_line(text, line, place, header, "query-params", body_len)
+        }
+        MessageView::QueryPosition => {
+            push_empty_line(text, line, place, header, "query-position", body_len)
+        }
+        MessageView::Track { interval, validity } => {
+            push_track_line(text, line, place, header, interval, validity, body_len)
+        }
+        MessageView::Text {
+            flag,
+            kind,
+            text: octets,
+        } => push_text_line(text, line, place, header, flag, kind, octets, body_len),
+        MessageView::Control {
+            command,
+            text: octets,
+        } => push_control_line(text, line, place, header, command, octets, body_len),
         MessageView::Position(view) => {
             push_position_line(text, line, place, header, view, body_len)
         }

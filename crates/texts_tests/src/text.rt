@@ -1,4 +1,4 @@
-use jt_codec::{Message, MessageView, read_body};
+use jt_codec::{Message, MessageView, read_body, view_message};
 use jt_header::{Header, Packet};
 use jt_position::{view_batch, view_position};
 use jt_register::{Auth, AuthTail};
@@ -326,6 +326,88 @@ fn refusals(rt: HostRuntime) {
         let line = refusal_line(rt.alloc(), &refusal).expect(&rt, "a line");
         assert_eq!(rt; line.as_slice(), written.as_bytes());
     }
+}
+
+// Reads a body in place, and compares its line.
+fn expect_in_place(rt: &impl Abort, alloc: Global, header: &Header, body: &[u8], written: &str) {
+    assert!(rt; body.len() < 1024);
+    let mut line = Line::new();
+    let mut text = String::new(alloc);
+    let answer = view_message(header, body).expect(rt, "a view");
+    let view = answer.expect(rt, "a message");
+    push_message_view_line(&mut text, &mut line, 7, header, view, body.len() as u16).expect(
+        rt, "room",
+    );
+    assert_eq!(rt; text.as_str(), written);
+}
+
+#[test]
+fn orders_in_place(rt: HostRuntime) {
+    let rows: [(u16, &[u8], &str); 7] = [
+        (
+            0x0003,
+            b"",
+            "7 2013 0x0003 deregister phone=013912345678 serial=3 body=0\n",
+        ),
+        (
+            0x8104,
+            b"",
+            "7 2013 0x8104 query-params phone=013912345678 serial=3 body=0\n",
+        ),
+        (
+            0x8201,
+            b"",
+            "7 2013 0x8201 query-position phone=013912345678 serial=3 body=0\n",
+        ),
+        (
+            0x8202,
+            b"\0\0",
+            "7 2013 0x8202 track phone=013912345678 serial=3 body=2 interval=0 validity=-\n",
+        ),
+        (
+            0x8202,
+            b"\0\x05\0\0\x02\x58",
+            "7 2013 0x8202 track phone=013912345678 serial=3 body=6 interval=5 validity=600\n",
+        ),
+        (
+            0x8300,
+            b"\x01\x02\x41",
+            "7 2013 0x8300 text phone=013912345678 serial=3 body=3 flag=1 text=0241\n",
+        ),
+        (
+            0x8105,
+            b"\x03\xd6\0",
+            "7 2013 0x8105 control phone=013912345678 serial=3 body=3 command=3 text=d600\n",
+        ),
+    ];
+    for (id, body, written) in rows {
+        expect_in_place(&rt, rt.alloc(), &header(id, None), body, written);
+    }
+}
+
+// In 2019 the octet behind the flag is the text's kind.
+#[test]
+fn a_text_of_2019_in_place(rt: HostRuntime) {
+    let digits = [0, 0, 0, 0, 0x01, 0x39, 0x12, 0x34, 0x56, 0x78];
+    let header = Header {
+        edition: Edition::E2019,
+        id: 0x8300,
+        bit15: false,
+        version: 1,
+        phone: Phone {
+            edition: Edition::E2019,
+            digits,
+        },
+        serial: 3,
+        packet: None,
+    };
+    expect_in_place(
+        &rt,
+        rt.alloc(),
+        &header,
+        b"\x01\x02\x41",
+        "7 2019 0x8300 text phone=00000000013912345678 serial=3 version=1 body=3 flag=1 kind=2 text=41\n",
+    );
 }
 
 // A batch of two positions, of 33 and 28 octets, and a refusal.

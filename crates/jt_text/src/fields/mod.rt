@@ -17,7 +17,7 @@ use crate::values::{push_number, push_octets};
 use jt_codec::Message;
 use jt_params::Param;
 use jt_position::Position;
-use orders::{push_control, push_text, push_track};
+pub(crate) use orders::{push_control, push_text, push_track};
 use params::{push_params, push_query_some};
 pub(crate) use position::{push_item_views, push_position_views, put_fixed};
 use position::{push_batch, push_position};

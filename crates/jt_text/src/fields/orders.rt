@@ -19,7 +19,7 @@ fn push_validity(text: &mut String, validity: Option<u32>) -> Result<(), AllocEr
 }
 
 #[tactic(auto, using(std::proofs::Common::append_assoc), unfolding(crate::specs::OrderFields::track_fields))]
-pub(super) fn push_track(
+pub(crate) fn push_track(
     text: &mut String,
     interval: u16,
     validity: Option<u32>,
@@ -43,7 +43,7 @@ fn push_kind(text: &mut String, kind: Option<u8>) -> Result<(), AllocError>
 }
 
 #[tactic(auto, using(std::proofs::Common::append_assoc), unfolding(crate::specs::OrderFields::text_fields))]
-pub(super) fn push_text(
+pub(crate) fn push_text(
     text: &mut String,
     line: &mut Line,
     flag: u8,
@@ -59,7 +59,7 @@ pub(super) fn push_text(
 }
 
 #[tactic(auto, using(std::proofs::Common::append_assoc), unfolding(crate::specs::OrderFields::control_fields))]
-pub(super) fn push_control(
+pub(crate) fn push_control(
     text: &mut String,
     line: &mut Line,
     command: u8,
