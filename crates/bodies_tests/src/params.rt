@@ -1,9 +1,9 @@
 ghost use Rattle.std.specs.Prelude.{◌≡◌, length, IfOk};
 
 use jt_params::{
-    Kind, Param, ParamError, ParamTable, ParamValue, kind_of, params_fit, params_reply_fits,
-    query_some_fits, read_params, read_params_reply, read_query_some, write_params,
-    write_params_reply, write_query_some,
+    Kind, Param, ParamError, ParamTable, ParamValue, judge_params, judge_params_reply,
+    judge_query_some, kind_of, params_fit, params_reply_fits, query_some_fits, read_params,
+    read_params_reply, read_query_some, write_params, write_params_reply, write_query_some,
 };
 use jt_value::{CodecError, Memory, Octets, Refusal, Seq, Why};
 use std::alloc::Global;
@@ -106,6 +106,19 @@ fn no_parameters(rt: HostRuntime) {
     assert!(rt; none.is_empty());
     let trailing = read_params(rt.alloc(), b"\0\0").err();
     assert_eq!(rt; trailing, Some(refused(1, Why::Trailing)));
+}
+
+#[test]
+fn bodies_of_parameters_are_judged(rt: HostRuntime) {
+    assert!(rt; judge_params(rt.alloc(), b"\x01\0\0\0\x01\x04\0\0\0\x3c") == Ok(()));
+    assert!(rt; judge_params_reply(rt.alloc(), b"\0\x07\0") == Ok(()));
+    assert!(rt; judge_query_some(rt.alloc(), b"\x01\0\0\0\x01") == Ok(()));
+    let truncated = judge_params(rt.alloc(), b"\x01\0\0\0\x01\x04\0\0\0").err();
+    assert!(rt; truncated == Some(refused(6, Why::Truncated)));
+    let trailing = judge_params_reply(rt.alloc(), b"\0\x07\0\0").err();
+    assert!(rt; trailing == Some(refused(3, Why::Trailing)));
+    let truncated = judge_query_some(rt.alloc(), b"\x02\0\0\0\x01\0\0\0").err();
+    assert!(rt; truncated == Some(refused(5, Why::Truncated)));
 }
 
 #[test]

@@ -409,7 +409,7 @@ fn views_of_responses_and_octets(rt: HostRuntime) {
     assert!(rt; part);
 }
 
-// Of parameters a message is made; all others are judged in place.
+// Of a registration's reply a message is made; of parameters no list; all others are judged in place.
 #[test]
 fn judgements(rt: HostRuntime) {
     let good: &[(u16, &[u8])] = &[
@@ -450,6 +450,66 @@ fn judgements(rt: HostRuntime) {
     };
     let part = header(0x0002, 0, Some(packet));
     assert!(rt; judge_message(rt.alloc(), &part, &[7]) == Ok(None));
+}
+
+// Bodies that are lists, of 2013, whose bodies begin behind twelve octets.
+#[test]
+fn lists_are_judged(rt: HostRuntime) {
+    let rows: &[(u16, &[u8])] = &[
+        (0x8003, b"\0\x0a\x02\0\x01\0\x02"),
+        (0x8103, b"\x01\0\0\0\x01\x04\0\0\0\x3c"),
+        (0x8106, b"\x01\0\0\0\x01"),
+        (0x0104, b"\0\x07\0"),
+        (0x8600, b"\0\0"),
+        (0x8602, b"\0\0"),
+        (0x8604, b"\0\0\0\x09\0\0\0\0"),
+        (0x8606, b"\0\0\0\x09\0\0\0\0"),
+        (0x8601, b"\x01\0\0\0\x07"),
+        (0x8603, b"\0"),
+        (0x8605, b"\0"),
+        (0x8607, b"\0"),
+    ];
+    for &(id, body) in rows {
+        assert!(rt; body.len() < 1024);
+        assert!(rt; judge_message(rt.alloc(), &header(id, 0, None), body) == Ok(None));
+    }
+}
+
+#[test]
+fn lists_are_refused_where_they_go_wrong(rt: HostRuntime) {
+    let rows: &[(u16, &[u8], u64, Why)] = &[
+        (0x8003, b"\0\x0a\x03\0\x01\0\x02", 14, Why::BadCount),
+        (0x8103, b"\x01\0\0\0\x01\x04\0\0\0", 18, Why::Truncated),
+        (0x8106, b"\x02\0\0\0\x01\0\0\0", 17, Why::Truncated),
+        (0x0104, b"\0\x07\0\0", 15, Why::Trailing),
+        (0x8600, b"\0\x01", 14, Why::Truncated),
+        (0x8602, b"\0\0\0", 14, Why::Trailing),
+        (
+            0x8604,
+            b"\0\0\0\x09\0\0\0\x01\0\0\0\x01",
+            24,
+            Why::Truncated,
+        ),
+        (0x8606, b"\0\0\0\x09\0\0\0\x01\0\0\0", 20, Why::Truncated),
+        (0x8601, b"\x01\0\0\0\x07\0", 17, Why::Trailing),
+        (0x8607, b"", 12, Why::Truncated),
+    ];
+    for &(id, body, inside, why) in rows {
+        assert!(rt; body.len() < 1024);
+        assert!(rt;
+            judge_message(rt.alloc(), &header(id, 0, None), body) == Ok(refused(inside, why))
+        );
+    }
+}
+
+// A body of 2019 begins behind seventeen octets.
+#[test]
+fn requests_of_2019_are_judged(rt: HostRuntime) {
+    let header = header_2019(0x0005);
+    let right = judge_message(rt.alloc(), &header, b"\0\x0a\x02\0\x01\0\x02");
+    assert!(rt; right == Ok(None));
+    let wrong = judge_message(rt.alloc(), &header, b"\0\x0a\0\x03\0\x01\0\x07");
+    assert!(rt; wrong == Ok(refused(19, Why::BadCount)));
 }
 
 // Why the content of a frame is refused.

@@ -1,7 +1,8 @@
 use jt_region_bodies::{
-    Circle, Limit, Rectangle, RoutePoint, Vertex, circles_fit, read_circles, read_deletion,
-    read_polygon, read_rectangles, read_route, rectangles_fit, write_circles, write_deletion,
-    write_polygon, write_rectangles, write_route,
+    Circle, Limit, Rectangle, RoutePoint, Vertex, circles_fit, judge_circles, judge_deletion,
+    judge_polygon, judge_rectangles, judge_route, read_circles, read_deletion, read_polygon,
+    read_rectangles, read_route, rectangles_fit, write_circles, write_deletion, write_polygon,
+    write_rectangles, write_route,
 };
 use jt_value::{CodecError, Refusal, Why};
 
@@ -212,6 +213,29 @@ fn deletions(rt: HostRuntime) {
         assert!(rt; written.as_slice() == body);
     }
     let cut = read_deletion(rt.alloc(), b"\x02\0\0\0\x07\0\0\x01").err();
+    assert!(rt; cut == Some(refused(5, Why::Truncated)));
+}
+
+#[test]
+fn bodies_are_judged(rt: HostRuntime) {
+    assert!(rt; judge_circles(rt.alloc(), &CIRCLES) == Ok(()));
+    assert!(rt; judge_rectangles(rt.alloc(), &RECTANGLES) == Ok(()));
+    assert!(rt; judge_polygon(rt.alloc(), &POLYGON) == Ok(()));
+    assert!(rt; judge_route(rt.alloc(), &ROUTE) == Ok(()));
+    assert!(rt; judge_deletion(rt.alloc(), b"\x01\0\0\0\x07") == Ok(()));
+}
+
+#[test]
+fn bodies_are_judged_as_they_are_read(rt: HostRuntime) {
+    let trailing = judge_circles(rt.alloc(), b"\0\0\0").err();
+    assert!(rt; trailing == Some(refused(2, Why::Trailing)));
+    let cut = judge_rectangles(rt.alloc(), b"\0\x01\0\0\0\x07\0").err();
+    assert!(rt; cut == Some(refused(6, Why::Truncated)));
+    let cut = judge_polygon(rt.alloc(), &POLYGON[..31]).err();
+    assert!(rt; cut == Some(refused(28, Why::Truncated)));
+    let cut = judge_route(rt.alloc(), &ROUTE[..44]).err();
+    assert!(rt; cut == Some(refused(44, Why::Truncated)));
+    let cut = judge_deletion(rt.alloc(), b"\x02\0\0\0\x07\0\0\x01").err();
     assert!(rt; cut == Some(refused(5, Why::Truncated)));
 }
 

@@ -73,6 +73,16 @@ fn lists_of_a_count_and_up_to_the_end(rt: HostRuntime) -> Result<(), Fail> {
     Ok(())
 }
 
+#[test]
+fn elements_are_passed_over(rt: HostRuntime) {
+    let body = [0, 1, 0, 2, 9];
+    let mut reader = Reader::new(&body);
+    assert!(rt; reader.pass::<u16>(rt.alloc(), 2) == Ok(()));
+    assert!(rt; reader.place() == 4);
+    let short = reader.pass::<u32>(rt.alloc(), 1).err();
+    assert!(rt; short == Some(CodecError::Refused(refusal(4, Why::Truncated))));
+}
+
 #[tactic(auto, unfolding(jt_layout::specs::Layout::number))]
 #[test]
 fn what_is_written_comes_in_order(rt: HostRuntime) -> Result<(), Fail> {
