@@ -1,6 +1,6 @@
 -- What follows for readers and writers of any layout.
 use Rattle.std.proofs.Common.{◌≡◌, ℕ, ◌⊎◌, inl, inr, List, ◌++◌, Option, Some, Result, Ok, Err, refl, sym, ap, ◌∙◌, append_assoc, arith}
-use Rattle.std.specs.Prelude.{IsOk, MatchResult}
+use Rattle.std.specs.Prelude.{MatchResult}
 use Rattle.jt_value.specs.declared.refusal.Refusal.{Refusal}
 use Rattle.jt_value.specs.declared.refusal.CodecError.{CodecError}
 use Rattle.jt_value.specs.declared.refusal.CodecError.TheVariants as errors
@@ -68,16 +68,6 @@ judges_made make (Err (errors.Refused q)) read h = rw h refl
 
 pub judges_case : {A B X : Type 0} (f : Body A) (make : A → B) (case_of : B → Option A) (s : List ℕ) (r : Result X CodecError) → Judges r (f.read s 0) → Judges r ((body_case f make case_of).read s 0)
 judges_case f make case_of s r h = judges_made make r (f.read s 0) h
-
-value_of : {A : Type 0} (r : Result A Refusal) → IsOk r → (a : A) × (r ≡ Ok a)
-value_of (Ok a) h = (a, refl)
-value_of (Err q) h = absurd cc
-
--- octets that are judged right are a value
-pub judged_right : {A X : Type 0} (b : Body A) → IsBody b → (s : List ℕ) (x : X) → AreOctets s → Judges (Ok x) (b.read s 0) → (a : A) × Fills b s 0 a
-judged_right b law s x bytes h =
-    let value = value_of (b.read s 0) h in
-    (value.0, law.takes s 0 value.0 bytes (omega arith) value.1)
 
 -- a reader that takes no memory, seen by view, answers by the layout
 pub answers_plainly : {X A : Type 0} (b : Body A) → IsBody b → (view : X → A) (s : List ℕ) (r : Result X Refusal) → AreOctets s → Finds view r (b.read s 0) → MatchResult r (λ x. Fills b s 0 (view x)) (λ q. b.Refuses s 0 q)
