@@ -11,9 +11,9 @@ use itoa::write_digits;
 use std::alloc::AllocError;
 use std::marker::Model;
 
-// Octets of the room. The front of a frame's line, with the fields of a position or a response, is shorter, and so are an item
-// and a refusal's line. The digits of long octets fill it, a piece at a time.
-const ROOM: usize = 512;
+/// Octets of the room. The front of a frame's line, with the fields of a position or a response, is shorter, and so are an item
+/// and a refusal's line. The digits of long octets fill it, a piece at a time, and so do elements of lists.
+pub(crate) const ROOM: usize = 512;
 
 /// Octets whose digits fill the room.
 pub(crate) const HALF_ROOM: usize = ROOM / 2;

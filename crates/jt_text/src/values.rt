@@ -1,6 +1,6 @@
 //! Values as text, each put at the end of a text.
 
-ghost use Rattle.std.specs.Prelude.{◌≡◌, ◌≤◌, ◌++◌, length, string_bytes, OnOk};
+ghost use Rattle.std.specs.Prelude.{◌≡◌, ◌+◌, ◌*◌, ◌≤◌, ◌++◌, length, string_bytes, codes, OnOk};
 ghost use Rattle.std.specs.Fmt.{decimal};
 ghost use Rattle.std.specs.Str.{IsUtf8};
 ghost use Rattle.std.specs.Io.{StartsWith};
@@ -19,6 +19,9 @@ const ROOM: usize = NAME + 20;
 
 // Octets whose digits fill the room of a line behind such a name.
 const BEHIND_NAME: usize = HALF_ROOM - NAME / 2;
+
+// Octets of a value that is put together with all that stands in front of it.
+const SHORT: usize = 200;
 
 // Octets that are a text, which is proved and not tested at run time.
 #[inline(always)]
@@ -110,4 +113,41 @@ pub(crate) fn push_octets(
         return text.push_str("-");
     }
     push_digits(text, line, name, octets)
+}
+
+// Octets as digits, or the word for none, behind a colon, in front of a line.
+#[inline(always)]
+fn put_octets(line: &mut Line, octets: &[u8])
+    requires { length line.old + 2 * length octets.now + 2 ≤ 512 }
+    ensures text { line.new ≡ codes ":" ++ (octets_text octets.now ++ line.old) }
+    ensures room { length line.new ≤ length line.old + 2 * length octets.now + 2 }
+{
+    if octets.is_empty() {
+        line.put_str(":-");
+        return;
+    }
+    line.put_named_digits(":", octets);
+}
+
+/// A field of octets behind a short name and the digits of an id. `line` is room that is used again.
+#[inline(always)]
+pub(crate) fn push_value(
+    text: &mut String,
+    line: &mut Line,
+    name: &str,
+    id: &[u8],
+    octets: &[u8],
+) -> Result<(), AllocError>
+    requires { (length name.now ≤ 16) × (length id.now ≤ 4) }
+    ensures text { OnOk result (string_bytes text.new ≡ string_bytes text.old ++ (name.now ++ (encode_lower id.now ++ (codes ":" ++ octets_text octets.now)))) }
+    ensures kept { StartsWith (string_bytes text.new) (string_bytes text.old) }
+{
+    if octets.len() <= SHORT {
+        line.clear();
+        put_octets(line, octets);
+        line.put_named_digits(name, id);
+        return line.push_to(text);
+    }
+    push_digits(text, line, name, id)?;
+    push_octets(text, line, ":", octets)
 }

@@ -1,5 +1,6 @@
 //! The fields of messages.
 
+mod lists;
 mod orders;
 mod params;
 mod position;
@@ -98,7 +99,9 @@ pub(crate) fn push_fields(
         }
         Message::Heartbeat | Message::Deregister | Message::QueryParams | Message::QueryPosition =>
             Ok(()),
-        Message::TerminalResend(resend) | Message::Resend(resend) => push_resend(text, resend),
+        Message::TerminalResend(resend) | Message::Resend(resend) => {
+            push_resend(text, line, resend)
+        }
         Message::Register(register) => push_register(text, line, register),
         Message::RegisterReply(reply) => push_register_reply(text, line, reply),
         Message::Auth(auth) => push_auth(text, line, auth),

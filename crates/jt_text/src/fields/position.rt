@@ -13,7 +13,7 @@ ghost use Rattle.jt_text.specs.Values.{byte_digits};
 
 use crate::line::Line;
 use crate::times::names_moment;
-use crate::values::{push_digits, push_number, push_octets};
+use crate::values::{push_number, push_value};
 use itoa::Buffer;
 use jt_position::{Batch, Fixed, Item, ItemView, Items, Position, PositionView, Positions};
 use std::alloc::AllocError;
@@ -78,8 +78,7 @@ fn push_raw(text: &mut String, line: &mut Line, id: u8, value: &[u8]) -> Result<
     ensures text { OnOk result (string_bytes text.new ≡ string_bytes text.old ++ item_text (items.Raw id value.now)) }
     ensures kept { StartsWith (string_bytes text.new) (string_bytes text.old) }
 {
-    push_digits(text, line, " item=0x", &[id])?;
-    push_octets(text, line, ":", value)
+    push_value(text, line, " item=0x", &[id], value)
 }
 
 // An item of one number.

@@ -1,114 +1,92 @@
 //! The fields of regions and their deletion.
 
-ghost use Rattle.std.specs.Prelude.{◌≡◌, ℕ, List, ◌++◌, string_bytes, codes, OnOk};
-ghost use Rattle.std.specs.List.{flat_map};
+ghost use Rattle.std.specs.Prelude.{◌≡◌, ◌+◌, ◌≤◌, ◌++◌, length, string_bytes, codes, OnOk};
 ghost use Rattle.std.specs.Fmt.{decimal};
 ghost use Rattle.std.specs.Io.{StartsWith};
 ghost use Rattle.jt_text.specs.RegionFields.{circles_fields, deletion_fields, limit_text, point_place, polygon_fields, rectangles_fields, region_start, route_fields, thresholds_text, times_text};
 
+use super::lists::{Shown, push_all};
 use crate::line::Line;
-use crate::values::{push_digits, push_number};
+use crate::values::push_number;
 use jt_region_bodies::{Circle, Limit, Polygon, Rectangle, Route, RoutePoint, Vertex};
 use std::alloc::AllocError;
 
-/// What a list of a message has a text for.
-trait Shown {
-    ghost shown: { Self → List ℕ };
-
-    /// Puts the text of the value at the end of a text, behind a blank. `line` is room that is used again.
-    fn push_to(&self, text: &mut String, line: &mut Line) -> Result<(), AllocError>
-        ensures text { OnOk result (string_bytes text.new ≡ string_bytes text.old ++ shown self.now) }
-        ensures kept { StartsWith (string_bytes text.new) (string_bytes text.old) };
-}
-
-fn push_all<T: Shown>(text: &mut String, line: &mut Line, list: &[T]) -> Result<(), AllocError>
-    ensures text { OnOk result (string_bytes text.new ≡ string_bytes text.old ++ flat_map T.shown list.now) }
-    ensures kept { StartsWith (string_bytes text.new) (string_bytes text.old) }
-{
-    for item in list {
-        item.push_to(text, line)?;
-    }
-    Ok(())
-}
-
 // Two numbers, the first behind a name.
 #[tactic(auto, using(std::proofs::Common::append_assoc))]
-fn push_pair(text: &mut String, name: &str, first: u64, second: u64) -> Result<(), AllocError>
-    ensures text { OnOk result (string_bytes text.new ≡ string_bytes text.old ++ (name.now ++ (decimal first ++ (codes ":" ++ decimal second)))) }
-    ensures kept { StartsWith (string_bytes text.new) (string_bytes text.old) }
+#[inline(always)]
+fn put_pair(line: &mut Line, name: &str, first: u64, second: u64)
+    requires { length name.now + length line.old + 41 ≤ 512 }
+    ensures text { line.new ≡ name.now ++ (decimal first ++ (codes ":" ++ (decimal second ++ line.old))) }
+    ensures room { length line.new ≤ length name.now + length line.old + 41 }
 {
-    push_number(text, name, first)?;
-    push_number(text, ":", second)
+    line.put_named_number(":", second);
+    line.put_named_number(name, first);
 }
 
 #[tactic(auto, using(std::proofs::Common::append_assoc))]
-fn push_times(
-    text: &mut String,
-    line: &mut Line,
-    times: &Option<[u8; 12]>,
-) -> Result<(), AllocError>
-    ensures text { OnOk result (string_bytes text.new ≡ string_bytes text.old ++ times_text times.now) }
-    ensures kept { StartsWith (string_bytes text.new) (string_bytes text.old) }
+#[inline(always)]
+fn put_times(line: &mut Line, times: &Option<[u8; 12]>)
+    requires { length line.old ≤ 400 }
+    ensures text { line.new ≡ times_text times.now ++ line.old }
+    ensures room { length line.new ≤ length line.old + 26 }
 {
     match times {
-        None => text.push_str(":-:-"),
+        None => line.put_str(":-:-"),
         Some(times) => {
             let (start, end) = times.split_at(6);
-            push_digits(text, line, ":", start)?;
-            push_digits(text, line, ":", end)
+            line.put_named_digits(":", end);
+            line.put_named_digits(":", start);
         }
     }
 }
 
-fn push_limit(text: &mut String, limit: &Option<Limit>) -> Result<(), AllocError>
-    ensures text { OnOk result (string_bytes text.new ≡ string_bytes text.old ++ limit_text limit.now) }
-    ensures kept { StartsWith (string_bytes text.new) (string_bytes text.old) }
+#[tactic(auto, using(std::proofs::Common::append_assoc))]
+#[inline(always)]
+fn put_limit(line: &mut Line, limit: &Option<Limit>)
+    requires { length line.old ≤ 400 }
+    ensures text { line.new ≡ limit_text limit.now ++ line.old }
+    ensures room { length line.new ≤ length line.old + 42 }
 {
     match limit {
-        None => text.push_str(":-:-"),
-        Some(limit) => push_pair(text, ":", limit.speed as u64, limit.duration as u64),
+        None => line.put_str(":-:-"),
+        Some(limit) => put_pair(line, ":", limit.speed as u64, limit.duration as u64),
+    }
+}
+
+#[tactic(auto, using(std::proofs::Common::append_assoc))]
+#[inline(always)]
+fn put_thresholds(line: &mut Line, thresholds: &Option<(u16, u16)>)
+    requires { length line.old ≤ 400 }
+    ensures text { line.new ≡ thresholds_text thresholds.now ++ line.old }
+    ensures room { length line.new ≤ length line.old + 42 }
+{
+    match thresholds {
+        None => line.put_str(":-:-"),
+        Some((longest, shortest)) => put_pair(line, ":", *longest as u64, *shortest as u64),
     }
 }
 
 // What stands at the end of a region's fixed fields.
 #[tactic(auto, using(std::proofs::Common::append_assoc))]
-fn push_times_and_limit(
-    text: &mut String,
-    line: &mut Line,
-    times: &Option<[u8; 12]>,
-    limit: &Option<Limit>,
-) -> Result<(), AllocError>
-    ensures text { OnOk result (string_bytes text.new ≡ string_bytes text.old ++ (times_text times.now ++ limit_text limit.now)) }
-    ensures kept { StartsWith (string_bytes text.new) (string_bytes text.old) }
+fn put_times_and_limit(line: &mut Line, times: &Option<[u8; 12]>, limit: &Option<Limit>)
+    requires { length line.old ≤ 350 }
+    ensures text { line.new ≡ times_text times.now ++ (limit_text limit.now ++ line.old) }
+    ensures room { length line.new ≤ length line.old + 68 }
 {
-    push_times(text, line, times)?;
-    push_limit(text, limit)
-}
-
-fn push_thresholds(text: &mut String, thresholds: &Option<(u16, u16)>) -> Result<(), AllocError>
-    ensures text { OnOk result (string_bytes text.new ≡ string_bytes text.old ++ thresholds_text thresholds.now) }
-    ensures kept { StartsWith (string_bytes text.new) (string_bytes text.old) }
-{
-    match thresholds {
-        None => text.push_str(":-:-"),
-        Some((longest, shortest)) => push_pair(text, ":", *longest as u64, *shortest as u64),
-    }
+    put_limit(line, limit);
+    put_times(line, times);
 }
 
 // The id and the attribute of a region behind a name.
 #[tactic(auto, using(std::proofs::Common::append_assoc), unfolding(crate::specs::RegionFields::region_start))]
-fn push_start(
-    text: &mut String,
-    line: &mut Line,
-    name: &str,
-    id: u32,
-    attribute: u16,
-) -> Result<(), AllocError>
-    ensures text { OnOk result (string_bytes text.new ≡ string_bytes text.old ++ (name.now ++ region_start id attribute)) }
-    ensures kept { StartsWith (string_bytes text.new) (string_bytes text.old) }
+#[inline(always)]
+fn put_start(line: &mut Line, name: &str, id: u32, attribute: u16)
+    requires { length name.now + length line.old + 27 ≤ 512 }
+    ensures text { line.new ≡ name.now ++ (region_start id attribute ++ line.old) }
+    ensures room { length line.new ≤ length name.now + length line.old + 27 }
 {
-    push_number(text, name, id as u64)?;
-    push_digits(text, line, ":0x", attribute.to_be_bytes().as_slice())
+    line.put_named_digits(":0x", attribute.to_be_bytes().as_slice());
+    line.put_named_number(name, id as u64);
 }
 
 impl Shown for Circle {
@@ -116,13 +94,19 @@ impl Shown for Circle {
 
     ghost shown = { circle_text };
 
+    ghost most = { 166 };
+
+    #[inline(always)]
+    fn most() -> usize {
+        166
+    }
+
     #[tactic(auto, using(std::proofs::Common::append_assoc), unfolding(crate::specs::RegionFields::circle_text))]
-    fn push_to(&self, text: &mut String, line: &mut Line) -> Result<(), AllocError> {
-        push_start(text, line, " circle=", self.id, self.attribute)?;
-        push_pair(text, ":", self.lat as u64, self.lon as u64)?;
-        push_number(text, ":", self.radius as u64)?;
-        push_times_and_limit(text, line, &self.times, &self.limit)?;
-        Ok(())
+    fn put_to(&self, line: &mut Line) {
+        put_times_and_limit(line, &self.times, &self.limit);
+        line.put_named_number(":", self.radius as u64);
+        put_pair(line, ":", self.lat as u64, self.lon as u64);
+        put_start(line, " circle=", self.id, self.attribute);
     }
 }
 
@@ -131,13 +115,19 @@ impl Shown for Rectangle {
 
     ghost shown = { rectangle_text };
 
+    ghost most = { 190 };
+
+    #[inline(always)]
+    fn most() -> usize {
+        190
+    }
+
     #[tactic(auto, using(std::proofs::Common::append_assoc), unfolding(crate::specs::RegionFields::rectangle_text))]
-    fn push_to(&self, text: &mut String, line: &mut Line) -> Result<(), AllocError> {
-        push_start(text, line, " rectangle=", self.id, self.attribute)?;
-        push_pair(text, ":", self.top as u64, self.left as u64)?;
-        push_pair(text, ":", self.bottom as u64, self.right as u64)?;
-        push_times_and_limit(text, line, &self.times, &self.limit)?;
-        Ok(())
+    fn put_to(&self, line: &mut Line) {
+        put_times_and_limit(line, &self.times, &self.limit);
+        put_pair(line, ":", self.bottom as u64, self.right as u64);
+        put_pair(line, ":", self.top as u64, self.left as u64);
+        put_start(line, " rectangle=", self.id, self.attribute);
     }
 }
 
@@ -146,20 +136,29 @@ impl Shown for Vertex {
 
     ghost shown = { vertex_text };
 
+    ghost most = { 50 };
+
+    #[inline(always)]
+    fn most() -> usize {
+        50
+    }
+
     #[tactic(auto, using(std::proofs::Common::append_assoc), unfolding(crate::specs::RegionFields::vertex_text))]
-    fn push_to(&self, text: &mut String, line: &mut Line) -> Result<(), AllocError> {
-        push_pair(text, " vertex=", self.lat as u64, self.lon as u64)
+    #[inline(always)]
+    fn put_to(&self, line: &mut Line) {
+        put_pair(line, " vertex=", self.lat as u64, self.lon as u64);
     }
 }
 
 // The ids of a point and of its segment, and its place.
 #[tactic(auto, using(std::proofs::Common::append_assoc), unfolding(crate::specs::RegionFields::point_place))]
-fn push_point_place(text: &mut String, point: &RoutePoint) -> Result<(), AllocError>
-    ensures text { OnOk result (string_bytes text.new ≡ string_bytes text.old ++ point_place point.now) }
-    ensures kept { StartsWith (string_bytes text.new) (string_bytes text.old) }
+fn put_point_place(line: &mut Line, point: &RoutePoint)
+    requires { length line.old + 90 ≤ 512 }
+    ensures text { line.new ≡ point_place point.now ++ line.old }
+    ensures room { length line.new ≤ length line.old + 90 }
 {
-    push_pair(text, " point=", point.point as u64, point.segment as u64)?;
-    push_pair(text, ":", point.lat as u64, point.lon as u64)
+    put_pair(line, ":", point.lat as u64, point.lon as u64);
+    put_pair(line, " point=", point.point as u64, point.segment as u64);
 }
 
 impl Shown for RoutePoint {
@@ -167,14 +166,20 @@ impl Shown for RoutePoint {
 
     ghost shown = { point_text };
 
+    ghost most = { 200 };
+
+    #[inline(always)]
+    fn most() -> usize {
+        200
+    }
+
     #[tactic(auto, using(std::proofs::Common::append_assoc), unfolding(crate::specs::RegionFields::point_text))]
-    fn push_to(&self, text: &mut String, line: &mut Line) -> Result<(), AllocError> {
-        push_point_place(text, self)?;
-        push_number(text, ":", self.width as u64)?;
-        push_digits(text, line, ":0x", &[self.attribute])?;
-        push_thresholds(text, &self.thresholds)?;
-        push_limit(text, &self.limit)?;
-        Ok(())
+    fn put_to(&self, line: &mut Line) {
+        put_limit(line, &self.limit);
+        put_thresholds(line, &self.thresholds);
+        line.put_named_octet(":0x", self.attribute);
+        line.put_named_number(":", self.width as u64);
+        put_point_place(line, self);
     }
 }
 
@@ -184,9 +189,34 @@ impl Shown for u32 {
 
     ghost shown = { deleted_id_text };
 
-    fn push_to(&self, text: &mut String, line: &mut Line) -> Result<(), AllocError> {
-        push_number(text, " id=", *self as u64)
+    ghost most = { 24 };
+
+    #[inline(always)]
+    fn most() -> usize {
+        24
     }
+
+    #[inline(always)]
+    fn put_to(&self, line: &mut Line) {
+        line.put_named_number(" id=", *self as u64);
+    }
+}
+
+// The front of a list of circles or rectangles.
+#[tactic(auto, using(std::proofs::Common::append_assoc))]
+fn push_setting(
+    text: &mut String,
+    line: &mut Line,
+    setting: u8,
+    count: usize,
+) -> Result<(), AllocError>
+    ensures text { OnOk result (string_bytes text.new ≡ string_bytes text.old ++ (codes " setting=" ++ (decimal setting ++ (codes " count=" ++ decimal count)))) }
+    ensures kept { StartsWith (string_bytes text.new) (string_bytes text.old) }
+{
+    line.clear();
+    line.put_named_number(" count=", count as u64);
+    line.put_named_number(" setting=", setting as u64);
+    line.push_to(text)
 }
 
 #[tactic(auto, using(std::proofs::Common::append_assoc), unfolding(crate::specs::RegionFields::circles_fields))]
@@ -199,8 +229,7 @@ pub(super) fn push_circles(
     ensures text { OnOk result (string_bytes text.new ≡ string_bytes text.old ++ circles_fields setting list.now) }
     ensures kept { StartsWith (string_bytes text.new) (string_bytes text.old) }
 {
-    push_number(text, " setting=", setting as u64)?;
-    push_number(text, " count=", list.len() as u64)?;
+    push_setting(text, line, setting, list.len())?;
     push_all(text, line, list)
 }
 
@@ -214,8 +243,7 @@ pub(super) fn push_rectangles(
     ensures text { OnOk result (string_bytes text.new ≡ string_bytes text.old ++ rectangles_fields setting list.now) }
     ensures kept { StartsWith (string_bytes text.new) (string_bytes text.old) }
 {
-    push_number(text, " setting=", setting as u64)?;
-    push_number(text, " count=", list.len() as u64)?;
+    push_setting(text, line, setting, list.len())?;
     push_all(text, line, list)
 }
 
@@ -228,9 +256,11 @@ pub(super) fn push_polygon(
     ensures text { OnOk result (string_bytes text.new ≡ string_bytes text.old ++ polygon_fields polygon.now) }
     ensures kept { StartsWith (string_bytes text.new) (string_bytes text.old) }
 {
-    push_start(text, line, " polygon=", polygon.id, polygon.attribute)?;
-    push_times_and_limit(text, line, &polygon.times, &polygon.limit)?;
-    push_number(text, " count=", polygon.vertices.len() as u64)?;
+    line.clear();
+    line.put_named_number(" count=", polygon.vertices.len() as u64);
+    put_times_and_limit(line, &polygon.times, &polygon.limit);
+    put_start(line, " polygon=", polygon.id, polygon.attribute);
+    line.push_to(text)?;
     push_all(text, line, polygon.vertices.as_slice())
 }
 
@@ -243,9 +273,11 @@ pub(super) fn push_route(
     ensures text { OnOk result (string_bytes text.new ≡ string_bytes text.old ++ route_fields route.now) }
     ensures kept { StartsWith (string_bytes text.new) (string_bytes text.old) }
 {
-    push_start(text, line, " route=", route.id, route.attribute)?;
-    push_times(text, line, &route.times)?;
-    push_number(text, " count=", route.points.len() as u64)?;
+    line.clear();
+    line.put_named_number(" count=", route.points.len() as u64);
+    put_times(line, &route.times);
+    put_start(line, " route=", route.id, route.attribute);
+    line.push_to(text)?;
     push_all(text, line, route.points.as_slice())
 }
 

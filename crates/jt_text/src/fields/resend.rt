@@ -1,38 +1,46 @@
 //! The fields of requests to send packets again.
 
 ghost use Rattle.std.specs.Prelude.{◌≡◌, ◌++◌, string_bytes, OnOk};
-ghost use Rattle.std.specs.List.{flat_map};
 ghost use Rattle.std.specs.Io.{StartsWith};
-ghost use Rattle.jt_text.specs.ResendFields.{number_text, resend_fields};
+ghost use Rattle.jt_text.specs.ResendFields.{resend_fields};
 
-use crate::values::push_number;
+use super::lists::{Shown, push_all};
+use crate::line::Line;
 use jt_codec::Resend;
 use std::alloc::AllocError;
 
-#[tactic(auto, unfolding(crate::specs::ResendFields::number_text))]
-fn push_packet_number(text: &mut String, number: u16) -> Result<(), AllocError>
-    ensures text { OnOk result (string_bytes text.new ≡ string_bytes text.old ++ number_text number) }
-    ensures kept { StartsWith (string_bytes text.new) (string_bytes text.old) }
-{
-    push_number(text, " number=", number as u64)
-}
+// The number of a packet that is asked for.
+impl Shown for u16 {
+    ghost use Rattle.jt_text.specs.ResendFields.{number_text};
 
-fn push_numbers(text: &mut String, numbers: &[u16]) -> Result<(), AllocError>
-    ensures text { OnOk result (string_bytes text.new ≡ string_bytes text.old ++ flat_map number_text numbers.now) }
-    ensures kept { StartsWith (string_bytes text.new) (string_bytes text.old) }
-{
-    for number in numbers {
-        push_packet_number(text, *number)?;
+    ghost shown = { number_text };
+
+    ghost most = { 28 };
+
+    #[inline(always)]
+    fn most() -> usize {
+        28
     }
-    Ok(())
+
+    #[tactic(auto, unfolding(crate::specs::ResendFields::number_text))]
+    #[inline(always)]
+    fn put_to(&self, line: &mut Line) {
+        line.put_named_number(" number=", *self as u64);
+    }
 }
 
 #[tactic(auto, using(std::proofs::Common::append_assoc), unfolding(crate::specs::ResendFields::resend_fields))]
-pub(super) fn push_resend(text: &mut String, resend: &Resend) -> Result<(), AllocError>
+pub(super) fn push_resend(
+    text: &mut String,
+    line: &mut Line,
+    resend: &Resend,
+) -> Result<(), AllocError>
     ensures text { OnOk result (string_bytes text.new ≡ string_bytes text.old ++ resend_fields resend.now) }
     ensures kept { StartsWith (string_bytes text.new) (string_bytes text.old) }
 {
-    push_number(text, " first=", resend.first as u64)?;
-    push_number(text, " count=", resend.numbers.len() as u64)?;
-    push_numbers(text, resend.numbers.as_slice())
+    line.clear();
+    line.put_named_number(" count=", resend.numbers.len() as u64);
+    line.put_named_number(" first=", resend.first as u64);
+    line.push_to(text)?;
+    push_all(text, line, resend.numbers.as_slice())
 }

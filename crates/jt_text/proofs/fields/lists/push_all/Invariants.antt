@@ -1,0 +1,11 @@
+use Rattle.std.proofs.Common.{◌≡◌, ◌++◌, length}
+use Rattle.std.specs.Prelude.{string_bytes}
+use Rattle.std.specs.Io.{StartsWith}
+use Rattle.std.specs.List.{flat_map}
+use Rattle.jt_text.proofs.fields.lists.push_all.Given as goal
+
+abbrev pub invariant-loop-left : goal.invariant-loop-left
+invariant-loop-left g l = (string_bytes l.text ++ flat_map g.T.Shown.shown l.left ≡ string_bytes l.fn.text ++ flat_map g.T.Shown.shown l.fn.list) × StartsWith (string_bytes l.text) (string_bytes l.fn.text)
+
+abbrev pub decreases-loop-left : goal.decreases-loop-left
+decreases-loop-left g l = length l.left
