@@ -1,6 +1,6 @@
 //! Bodies judged.
 
-ghost use Rattle.std.specs.Prelude.{◌≡◌, ◌<◌, ◌^◌, length, IfOk, IfSome, IsOk};
+ghost use Rattle.std.specs.Prelude.{◌≡◌, ◌<◌, ◌^◌, length, IfOk, IfSome, IsNone, IsOk};
 ghost use Rattle.std.specs.Result.{result_err};
 ghost use Rattle.jt_layout.specs.Reading.{Judges};
 ghost use Rattle.jt_codec.specs.Bodies.{body};
@@ -80,6 +80,27 @@ fn judge_made(alloc: Global, header: &Header, body: &[u8]) -> Result<Option<Refu
     }
 }
 
+// The refusal of a body that was judged, with its place counted in the content.
+fn refusal_of(
+    header: &Header,
+    octets: &[u8],
+    answer: Result<(), CodecError>,
+) -> Result<Option<Refusal>, Memory>
+    requires short { length octets.now < 2 ^ 10 }
+    requires whole { IsNone header.now.packet }
+    requires judged { Judges answer ((body header.now.edition header.now.id).read octets.now 0) }
+    ensures { IfOk result (λ refusal. refusal
+        ≡ result_err (message_read header.now.packet header.now.edition header.now.id octets.now)) }
+{
+    match answer {
+        Ok(()) => Ok(None),
+        Err(CodecError::Refused(refusal)) => {
+            Ok(Some(in_content(start_of_body(header.edition), refusal)))
+        }
+        Err(CodecError::Memory) => Err(Memory),
+    }
+}
+
 // Judges a body that is not viewed: no list is made of one that is a list, and of every other a message.
 #[inline(never)]
 fn judge_unseen(alloc: Global, header: &Header, body: &[u8]) -> Result<Option<Refusal>, Memory>
@@ -92,11 +113,7 @@ fn judge_unseen(alloc: Global, header: &Header, body: &[u8]) -> Result<Option<Re
     }
     match judge_list(alloc, header.edition, header.id, body) {
         None => judge_made(alloc, header, body),
-        Some(Ok(())) => Ok(None),
-        Some(Err(CodecError::Refused(refusal))) => {
-            Ok(Some(in_content(start_of_body(header.edition), refusal)))
-        }
-        Some(Err(CodecError::Memory)) => Err(Memory),
+        Some(answer) => refusal_of(header, body, answer),
     }
 }
 

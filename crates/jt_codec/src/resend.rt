@@ -142,7 +142,7 @@ fn judge_numbers(alloc: Global, wide: bool, octets: &[u8]) -> Result<(), CodecEr
     Ok(reader.end()?)
 }
 
-// Judges a request to send packets again: the error is that of `read_resend`, and no list is made.
+// Judges a request to send packets again: the refusal is that of `read_resend`, and no list is made.
 #[tactic(auto, unfolding(crate::specs::Resend::resend))]
 pub(crate) fn judge_resend(alloc: Global, edition: Edition, octets: &[u8]) -> Result<(), CodecError>
     ensures { Judges result ((layouts.resend edition).read octets.now 0) }

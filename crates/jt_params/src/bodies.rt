@@ -29,7 +29,7 @@ pub fn read_params(alloc: Global, octets: &[u8]) -> Result<Seq<Param>, CodecErro
     params_in(alloc, octets)
 }
 
-/// Judges a count octet and that many parameters, up to the end: the error is that of `read_params`, and no list is made.
+/// Judges a count octet and that many parameters, up to the end: the refusal is that of `read_params`, and no list is made.
 #[tactic(auto, unfolding(crate::specs::Params::params))]
 pub fn judge_params(alloc: Global, octets: &[u8]) -> Result<(), CodecError>
     ensures { Judges result (layouts.params.read octets.now 0) }
@@ -80,7 +80,7 @@ pub fn read_params_reply(alloc: Global, octets: &[u8]) -> Result<(u16, Seq<Param
     params_reply_in(alloc, octets)
 }
 
-/// Judges the answer to a question for parameters: the error is that of `read_params_reply`, and no list is made.
+/// Judges the answer to a question for parameters: the refusal is that of `read_params_reply`, and no list is made.
 #[tactic(auto, unfolding(crate::specs::Params::params_reply))]
 pub fn judge_params_reply(alloc: Global, octets: &[u8]) -> Result<(), CodecError>
     ensures { Judges result (layouts.params_reply.read octets.now 0) }
@@ -131,7 +131,7 @@ pub fn read_query_some(alloc: Global, octets: &[u8]) -> Result<Seq<u32>, CodecEr
     query_some_in(alloc, octets)
 }
 
-/// Judges a question for some parameters: the error is that of `read_query_some`, and no list is made.
+/// Judges a question for some parameters: the refusal is that of `read_query_some`, and no list is made.
 #[tactic(auto, unfolding(crate::specs::Params::query_some))]
 pub fn judge_query_some(alloc: Global, octets: &[u8]) -> Result<(), CodecError>
     ensures { Judges result (layouts.query_some.read octets.now 0) }

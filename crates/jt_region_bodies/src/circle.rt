@@ -108,7 +108,7 @@ pub fn read_circles(alloc: Global, octets: &[u8]) -> Result<(u8, Seq<Circle>), C
     circles_in(alloc, octets)
 }
 
-/// Judges the body of a setting of circles: the error is that of `read_circles`, and no list is made.
+/// Judges the body of a setting of circles: the refusal is that of `read_circles`, and no list is made.
 #[tactic(auto, unfolding(crate::specs::Regions::circles))]
 pub fn judge_circles(alloc: Global, octets: &[u8]) -> Result<(), CodecError>
     ensures { Judges result (circles.read octets.now 0) }

@@ -55,7 +55,7 @@ pub fn read_deletion(alloc: Global, octets: &[u8]) -> Result<Deletion, CodecErro
     deletion_in(alloc, octets)
 }
 
-/// Judges a deletion's body: the error is that of `read_deletion`, and no list is made.
+/// Judges a deletion's body: the refusal is that of `read_deletion`, and no list is made.
 #[tactic(auto, unfolding(crate::specs::Regions::deletion))]
 pub fn judge_deletion(alloc: Global, octets: &[u8]) -> Result<(), CodecError>
     ensures { Judges result (layouts.deletion.read octets.now 0) }

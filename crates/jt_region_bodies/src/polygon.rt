@@ -129,7 +129,7 @@ pub fn read_polygon(alloc: Global, octets: &[u8]) -> Result<Polygon, CodecError>
     polygon_in(alloc, octets)
 }
 
-/// Judges a polygon's body: the error is that of `read_polygon`, and no list is made.
+/// Judges a polygon's body: the refusal is that of `read_polygon`, and no list is made.
 #[tactic(auto, unfolding(crate::specs::Regions::polygon))]
 pub fn judge_polygon(alloc: Global, octets: &[u8]) -> Result<(), CodecError>
     ensures { Judges result (layouts.polygon.read octets.now 0) }

@@ -115,7 +115,7 @@ pub fn read_rectangles(alloc: Global, octets: &[u8]) -> Result<(u8, Seq<Rectangl
     rectangles_in(alloc, octets)
 }
 
-/// Judges the body of a setting of rectangles: the error is that of `read_rectangles`, and no list is made.
+/// Judges the body of a setting of rectangles: the refusal is that of `read_rectangles`, and no list is made.
 #[tactic(auto, unfolding(crate::specs::Regions::rectangles))]
 pub fn judge_rectangles(alloc: Global, octets: &[u8]) -> Result<(), CodecError>
     ensures { Judges result (rectangles.read octets.now 0) }

@@ -164,7 +164,7 @@ pub fn read_route(alloc: Global, octets: &[u8]) -> Result<Route, CodecError>
     route_in(alloc, octets)
 }
 
-/// Judges a route's body: the error is that of `read_route`, and no list is made.
+/// Judges a route's body: the refusal is that of `read_route`, and no list is made.
 #[tactic(auto, unfolding(crate::specs::Regions::route))]
 pub fn judge_route(alloc: Global, octets: &[u8]) -> Result<(), CodecError>
     ensures { Judges result (layouts.route.read octets.now 0) }

@@ -1,4 +1,4 @@
-//! Values as text, each put at the end of a text.
+//! Values as text.
 
 ghost use Rattle.std.specs.Prelude.{◌≡◌, ◌+◌, ◌*◌, ◌≤◌, ◌++◌, length, string_bytes, codes, OnOk};
 ghost use Rattle.std.specs.Fmt.{decimal};
@@ -77,9 +77,9 @@ pub(crate) fn push_number(text: &mut String, name: &str, number: u64) -> Result<
     push_named_number(text, "", number)
 }
 
-/// The digits of octets behind a name. `line` is room that is used again.
+// The digits of octets behind a name. `line` is room that is used again.
 #[inline(always)]
-pub(crate) fn push_digits(
+fn push_digits(
     text: &mut String,
     line: &mut Line,
     name: &str,

@@ -11,7 +11,6 @@ use std::alloc::AllocError;
 pub(super) trait Shown {
     ghost shown: { Self → List ℕ };
 
-    // Octets that each text has at most.
     ghost most: { ℕ };
 
     /// Octets that each text has at most.
