@@ -47,6 +47,7 @@ fn header(id: u16) -> Header {
 
 // Whether the line of this body is this one.
 fn is_shown(rt: &impl Abort, alloc: Global, id: u16, body: &[u8], written: &str) -> bool {
+    assert!(rt; body.len() < 1024);
     let message = read_body(alloc, Edition::E2013, id, body).expect(rt, "a body");
     let line = view_line(alloc, 7, &header(id), &message, body.len() as u16).expect(rt, "a line");
     line.as_slice() == written.as_bytes()
