@@ -9,6 +9,18 @@ use jt_value::{CodecError, Memory, Octets, Refusal, Seq, Why};
 use std::alloc::Global;
 use std::process::Abort;
 
+// The answer to question 7: 60 under 0x0001, and `abc` under 0x0013.
+const ANSWER: [u8; 20] = *b"\0\x07\x02\0\0\0\x01\x04\0\0\0\x3c\0\0\0\x13\x03abc";
+
+// Eleven parameters, of kinds that go by id and length.
+const KINDS: [u8; 82] =
+    *b"\x0b\0\0\0\x01\x02\0\x3c\0\0\0\x18\x04\0\0\x19\xd0\0\0\0\x80\x04\0\0\0\x01\0\0\0\x81\x02\0\x2c\
+\0\0\0\x82\x04\0\0\x01\x2c\0\0\0\x84\x01\x02\0\0\0\x84\x02\0\x02\0\0\0\x83\0\0\0\0\x10\x03abc\
+\0\0\0\x04\x04\0\0\0\x01\0\0\xf0\x01\0";
+
+// A question for 0x0001 and 0x8000_0013.
+const QUESTION: [u8; 9] = *b"\x02\0\0\0\x01\x80\0\0\x13";
+
 fn refused(inside: u64, why: Why) -> CodecError {
     CodecError::Refused(Refusal { at: 0, inside, why })
 }
@@ -44,18 +56,23 @@ fn refusal_of_reply(alloc: Global, body: &[u8]) -> Option<CodecError> {
 
 #[test]
 fn an_answer_with_a_number_and_a_text(rt: HostRuntime) {
-    let body = b"\0\x07\x02\0\0\0\x01\x04\0\0\0\x3c\0\0\0\x13\x03abc";
-    let (reply, params) = read_params_reply(rt.alloc(), body).expect(&rt, "a body");
-    assert_eq!(rt; reply, 7);
-    assert_eq!(rt; params.len(), 2);
+    let (reply, params) = read_params_reply(rt.alloc(), &ANSWER).expect(&rt, "a body");
+    assert!(rt; reply == 7);
+    assert!(rt; params.len() == 2);
     assert!(rt; is_dword(params.get(0), 0x0001, 60));
     assert!(rt; is_text(params.get(1), 0x0013, b"abc"));
     assert!(rt; params_reply_fits(reply, &params));
     let written = write_params_reply(rt.alloc(), reply, &params).expect(&rt, "octets");
-    assert_eq!(rt; written.as_slice(), body.as_slice());
-    for (length, inside) in [(1, 0), (2, 2), (6, 3), (7, 7), (11, 8), (12, 12), (19, 17)] {
-        let refusal = refusal_of_reply(rt.alloc(), &body[..length]);
-        assert_eq!(rt; refusal, Some(refused(inside, Why::Truncated)));
+    assert!(rt; written.as_slice() == ANSWER.as_slice());
+}
+
+#[test]
+fn an_answer_that_is_cut(rt: HostRuntime) {
+    let rows: &[(usize, u64)] = &[(1, 0), (2, 2), (6, 3), (7, 7), (11, 8), (12, 12), (19, 17)];
+    for &(length, inside) in rows {
+        assert!(rt; length <= 20);
+        let refusal = refusal_of_reply(rt.alloc(), &ANSWER[..length]);
+        assert!(rt; refusal == Some(refused(inside, Why::Truncated)));
     }
 }
 
@@ -70,14 +87,17 @@ fn shown(value: &ParamValue) -> Kind {
     }
 }
 
+// Whether a parameter has this id and shows this kind.
+fn shows(param: Option<&Param>, id: u32, kind: Kind) -> bool {
+    match param {
+        Some(param) => param.id == id && shown(&param.value) == kind,
+        None => false,
+    }
+}
+
 #[test]
 fn kinds_by_id_and_length(rt: HostRuntime) {
-    let body =
-        b"\x0b\0\0\0\x01\x02\0\x3c\0\0\0\x18\x04\0\0\x19\xd0\0\0\0\x80\x04\0\0\0\x01\0\0\0\x81\x02\0\x2c\
-\0\0\0\x82\x04\0\0\x01\x2c\0\0\0\x84\x01\x02\0\0\0\x84\x02\0\x02\0\0\0\x83\0\0\0\0\x10\x03abc\
-\0\0\0\x04\x04\0\0\0\x01\0\0\xf0\x01\0";
-    let params = read_params(rt.alloc(), body).expect(&rt, "a body");
-    for (place, id, kind) in [
+    let rows: &[(usize, u32, Kind)] = &[
         (0, 0x0001, Kind::Raw),
         (1, 0x0018, Kind::Dword),
         (2, 0x0080, Kind::Dword),
@@ -89,15 +109,20 @@ fn kinds_by_id_and_length(rt: HostRuntime) {
         (8, 0x0010, Kind::Raw),
         (9, 0x0004, Kind::Raw),
         (10, 0xF001, Kind::Raw),
-    ] {
-        let param = params.get(place).expect(&rt, "a parameter");
-        assert_eq!(rt; param.id, id);
-        assert_eq!(rt; shown(&param.value), kind);
+    ];
+    let params = read_params(rt.alloc(), &KINDS).expect(&rt, "a body");
+    for &(place, id, kind) in rows {
+        assert!(rt; shows(params.get(place), id, kind));
     }
-    assert_eq!(rt; params.len(), 11);
+    assert!(rt; params.len() == 11);
+}
+
+#[test]
+fn parameters_of_all_kinds_are_written_back(rt: HostRuntime) {
+    let params = read_params(rt.alloc(), &KINDS).expect(&rt, "a body");
     assert!(rt; params_fit(&params));
     let written = write_params(rt.alloc(), &params).expect(&rt, "octets");
-    assert_eq!(rt; written.as_slice(), body.as_slice());
+    assert!(rt; written.as_slice() == KINDS.as_slice());
 }
 
 #[test]
@@ -105,7 +130,7 @@ fn no_parameters(rt: HostRuntime) {
     let none = read_params(rt.alloc(), b"\0").expect(&rt, "a body");
     assert!(rt; none.is_empty());
     let trailing = read_params(rt.alloc(), b"\0\0").err();
-    assert_eq!(rt; trailing, Some(refused(1, Why::Trailing)));
+    assert!(rt; trailing == Some(refused(1, Why::Trailing)));
 }
 
 #[test]
@@ -113,6 +138,10 @@ fn bodies_of_parameters_are_judged(rt: HostRuntime) {
     assert!(rt; judge_params(rt.alloc(), b"\x01\0\0\0\x01\x04\0\0\0\x3c") == Ok(()));
     assert!(rt; judge_params_reply(rt.alloc(), b"\0\x07\0") == Ok(()));
     assert!(rt; judge_query_some(rt.alloc(), b"\x01\0\0\0\x01") == Ok(()));
+}
+
+#[test]
+fn bodies_of_parameters_are_judged_bad(rt: HostRuntime) {
     let truncated = judge_params(rt.alloc(), b"\x01\0\0\0\x01\x04\0\0\0").err();
     assert!(rt; truncated == Some(refused(6, Why::Truncated)));
     let trailing = judge_params_reply(rt.alloc(), b"\0\x07\0\0").err();
@@ -123,35 +152,107 @@ fn bodies_of_parameters_are_judged(rt: HostRuntime) {
 
 #[test]
 fn the_table_of_kinds(rt: HostRuntime) {
-    for id in [0x0001, 0x0002, 0x0003, 0x0018, 0x0029, 0x0055, 0x0080] {
-        assert_eq!(rt; kind_of(id), Kind::Dword);
-    }
-    assert_eq!(rt; kind_of(0x0081), Kind::Word);
-    assert_eq!(rt; kind_of(0x0082), Kind::Word);
-    assert_eq!(rt; kind_of(0x0083), Kind::Text);
-    assert_eq!(rt; kind_of(0x0084), Kind::Byte);
-    assert_eq!(rt; kind_of(0x0013), Kind::Text);
-    for id in [0, 0x0004, 0x0085, 0x0001_0001, 0xFFFF_FFFF] {
-        assert_eq!(rt; kind_of(id), Kind::Raw);
+    let rows: &[(u32, Kind)] = &[
+        (0x0001, Kind::Dword),
+        (0x0002, Kind::Dword),
+        (0x0003, Kind::Dword),
+        (0x0018, Kind::Dword),
+        (0x0029, Kind::Dword),
+        (0x0055, Kind::Dword),
+        (0x0080, Kind::Dword),
+        (0x0081, Kind::Word),
+        (0x0082, Kind::Word),
+        (0x0083, Kind::Text),
+        (0x0084, Kind::Byte),
+        (0x0013, Kind::Text),
+        (0, Kind::Raw),
+        (0x0004, Kind::Raw),
+        (0x0085, Kind::Raw),
+        (0x0001_0001, Kind::Raw),
+        (0xFFFF_FFFF, Kind::Raw),
+    ];
+    for &(id, kind) in rows {
+        assert!(rt; kind_of(id) == kind);
     }
 }
 
 #[test]
 fn a_question_for_some(rt: HostRuntime) {
-    let body = b"\x02\0\0\0\x01\x80\0\0\x13";
-    let ids = read_query_some(rt.alloc(), body).expect(&rt, "a body");
-    assert_eq!(rt; ids.as_slice(), [0x0001, 0x8000_0013].as_slice());
+    let ids = read_query_some(rt.alloc(), &QUESTION).expect(&rt, "a body");
+    assert!(rt; ids.as_slice() == [0x0001, 0x8000_0013].as_slice());
     assert!(rt; query_some_fits(&ids));
     let written = write_query_some(rt.alloc(), &ids).expect(&rt, "octets");
-    assert_eq!(rt; written.as_slice(), body.as_slice());
-    let truncated = read_query_some(rt.alloc(), &body[..8]).err();
-    assert_eq!(rt; truncated, Some(refused(5, Why::Truncated)));
+    assert!(rt; written.as_slice() == QUESTION.as_slice());
+}
+
+#[test]
+fn a_question_of_a_wrong_length(rt: HostRuntime) {
+    let truncated = read_query_some(rt.alloc(), &QUESTION[..8]).err();
+    assert!(rt; truncated == Some(refused(5, Why::Truncated)));
     let trailing = read_query_some(rt.alloc(), b"\x01\0\0\0\x01\0").err();
-    assert_eq!(rt; trailing, Some(refused(5, Why::Trailing)));
+    assert!(rt; trailing == Some(refused(5, Why::Trailing)));
 }
 
 fn list_of(rt: &impl Abort, alloc: Global, table: &ParamTable) -> Seq<Param> {
     table.list(alloc).expect(rt, "a list")
+}
+
+fn count_of(rt: &impl Abort, alloc: Global, table: &ParamTable) -> usize {
+    list_of(rt, alloc, table).len()
+}
+
+// Sets the parameters under the ids from 1 on.
+fn set_many(
+    rt: &impl Abort,
+    alloc: Global,
+    table: &mut ParamTable,
+    count: u16,
+) -> Result<(), ParamError> {
+    let params = many(alloc, count).expect(rt, "parameters");
+    assert!(rt; params.len() == usize::from(count));
+    table.set_all(&params)
+}
+
+// Sets two parameters.
+fn set_two(
+    rt: &impl Abort,
+    alloc: Global,
+    table: &mut ParamTable,
+    params: [Param; 2],
+) -> Result<(), ParamError> {
+    let params = Vec::from_array(alloc, params).expect(rt, "parameters");
+    table.set_all(&Seq::from_vec(params))
+}
+
+fn set_three(rt: &impl Abort, alloc: Global, table: &mut ParamTable) -> Result<(), ParamError> {
+    let params = [dword(0x0003, 5), dword(0x0001, 60), dword(0x0003, 3)];
+    let params = Vec::from_array(alloc, params).expect(rt, "parameters");
+    table.set_all(&Seq::from_vec(params))
+}
+
+fn lists_the_later(rt: &impl Abort, alloc: Global, table: &ParamTable) -> bool {
+    let listed = list_of(rt, alloc, table);
+    assert!(rt; listed.len() == 2);
+    is_dword(listed.get(0), 0x0001, 60) && is_dword(listed.get(1), 0x0003, 3)
+}
+
+fn selects_the_later(rt: &impl Abort, alloc: Global, table: &ParamTable) -> bool {
+    let ids = Vec::from_array(alloc, [0x0003, 0x0002, 0x0001]).expect(rt, "ids");
+    let ids = Seq::from_vec(ids);
+    let selected = table.select(alloc, &ids).expect(rt, "parameters");
+    assert!(rt; selected.len() == 2);
+    is_dword(selected.get(0), 0x0003, 3) && is_dword(selected.get(1), 0x0001, 60)
+}
+
+#[test]
+fn a_later_parameter_replaces_an_earlier_one(rt: HostRuntime) {
+    let mut table = ParamTable::new(rt.alloc());
+    assert!(rt; count_of(&rt, rt.alloc(), &table) == 0);
+    assert!(rt; set_three(&rt, rt.alloc(), &mut table) == Ok(()));
+    assert!(rt; lists_the_later(&rt, rt.alloc(), &table));
+    assert!(rt; selects_the_later(&rt, rt.alloc(), &table));
+    assert!(rt; table.dword(0x0001) == Some(60));
+    assert!(rt; table.dword(0x0002) == None);
 }
 
 // A parameter as the only one of a list.
@@ -162,65 +263,56 @@ fn only(alloc: Global, id: u32, octets: &[u8]) -> Result<Seq<Param>, Memory>
     Ok(Seq::from_vec(Vec::from_array(alloc, [Param { id, value }])?))
 }
 
-#[test]
-fn a_later_parameter_replaces_an_earlier_one(rt: HostRuntime) {
-    let params = Vec::from_array(
-        rt.alloc(),
-        [dword(0x0003, 5), dword(0x0001, 60), dword(0x0003, 3)],
-    )
-    .expect(&rt, "parameters");
-    let mut table = ParamTable::new(rt.alloc());
-    assert!(rt; list_of(&rt, rt.alloc(), &table).is_empty());
-    assert_eq!(rt; table.set_all(&Seq::from_vec(params)), Ok(()));
-    let listed = list_of(&rt, rt.alloc(), &table);
-    assert_eq!(rt; listed.len(), 2);
-    assert!(rt; is_dword(listed.get(0), 0x0001, 60));
-    assert!(rt; is_dword(listed.get(1), 0x0003, 3));
-    let ids = Vec::from_array(rt.alloc(), [0x0003, 0x0002, 0x0001]).expect(&rt, "ids");
-    let ids = Seq::from_vec(ids);
-    let selected = table.select(rt.alloc(), &ids).expect(&rt, "parameters");
-    assert_eq!(rt; selected.len(), 2);
-    assert!(rt; is_dword(selected.get(0), 0x0003, 3));
-    assert!(rt; is_dword(selected.get(1), 0x0001, 60));
-    assert_eq!(rt; table.dword(0x0001), Some(60));
-    assert_eq!(rt; table.dword(0x0002), None);
+// Sets a copy of raw octets under an id.
+fn set_raw(
+    rt: &impl Abort,
+    alloc: Global,
+    table: &mut ParamTable,
+    id: u32,
+    octets: &[u8],
+) -> Result<(), ParamError> {
+    let raw = only(alloc, id, octets).expect(rt, "a parameter");
+    let copied = raw.copy(alloc).expect(rt, "a copy");
+    table.set_all(&copied)
+}
+
+fn raw_fits(rt: &impl Abort, alloc: Global, id: u32, octets: &[u8]) -> bool {
+    let raw = only(alloc, id, octets).expect(rt, "a parameter");
+    params_fit(&raw)
 }
 
 // A value of another length is no number, and under an id of the kind raw octets of its length are none of its values.
 #[test]
 fn raw_octets_under_an_id_of_a_number(rt: HostRuntime) {
     let mut table = ParamTable::new(rt.alloc());
-    let params = Vec::from_array(rt.alloc(), [dword(0x0001, 60), dword(0x0003, 3)]);
-    let params = Seq::from_vec(params.expect(&rt, "parameters"));
-    assert_eq!(rt; table.set_all(&params), Ok(()));
-    let raw = only(rt.alloc(), 0x0001, &[0, 60]).expect(&rt, "a parameter");
-    let copied = raw.copy(rt.alloc()).expect(&rt, "a copy");
-    assert_eq!(rt; table.set_all(&copied), Ok(()));
-    assert_eq!(rt; table.dword(0x0001), None);
-    assert_eq!(rt; list_of(&rt, rt.alloc(), &table).len(), 2);
-    let untyped = only(rt.alloc(), 0x0001, &[0, 0, 0, 60]).expect(&rt, "a parameter");
-    assert!(rt; !params_fit(&untyped));
+    let params = [dword(0x0001, 60), dword(0x0003, 3)];
+    assert!(rt; set_two(&rt, rt.alloc(), &mut table, params) == Ok(()));
+    assert!(rt; set_raw(&rt, rt.alloc(), &mut table, 0x0001, &[0, 60]) == Ok(()));
+    assert!(rt; table.dword(0x0001) == None);
+    assert!(rt; count_of(&rt, rt.alloc(), &table) == 2);
+    assert!(rt; !raw_fits(&rt, rt.alloc(), 0x0001, &[0, 0, 0, 60]));
+}
+
+fn one_more_is_refused(rt: &impl Abort, alloc: Global, table: &mut ParamTable) -> bool {
+    let refusal = set_two(rt, alloc, table, [dword(1, 8), dword(1000, 8)]);
+    assert!(rt; refusal == Err(ParamError::TooMany(256)));
+    assert!(rt; count_of(rt, alloc, table) == 255);
+    table.dword(1) == Some(7) && table.dword(1000) == None
+}
+
+fn those_it_has_are_set_again(rt: &impl Abort, alloc: Global, table: &mut ParamTable) -> bool {
+    let set = set_two(rt, alloc, table, [dword(255, 9), dword(1, 9)]);
+    assert!(rt; set == Ok(()));
+    table.dword(255) == Some(9) && table.dword(254) == Some(7)
 }
 
 #[test]
 fn a_table_has_at_most_255(rt: HostRuntime) {
     let mut table = ParamTable::new(rt.alloc());
-    let full = many(rt.alloc(), 255).expect(&rt, "parameters");
-    assert_eq!(rt; full.len(), 255);
-    assert_eq!(rt; table.set_all(&full), Ok(()));
-    assert_eq!(rt; list_of(&rt, rt.alloc(), &table).len(), 255);
-    let one_more = Vec::from_array(rt.alloc(), [dword(1, 8), dword(1000, 8)]);
-    let one_more = Seq::from_vec(one_more.expect(&rt, "parameters"));
-    assert_eq!(rt; table.set_all(&one_more), Err(ParamError::TooMany(256)));
-    assert_eq!(rt; list_of(&rt, rt.alloc(), &table).len(), 255);
-    assert_eq!(rt; table.dword(1), Some(7));
-    assert_eq!(rt; table.dword(1000), None);
-    let all = many(rt.alloc(), 65_535).expect(&rt, "parameters");
-    assert_eq!(rt; all.len(), 65_535);
-    assert_eq!(rt; table.set_all(&all), Err(ParamError::TooMany(65_535)));
-    let again = Vec::from_array(rt.alloc(), [dword(255, 9), dword(1, 9)]);
-    let again = Seq::from_vec(again.expect(&rt, "parameters"));
-    assert_eq!(rt; table.set_all(&again), Ok(()));
-    assert_eq!(rt; table.dword(255), Some(9));
-    assert_eq!(rt; table.dword(254), Some(7));
+    assert!(rt; set_many(&rt, rt.alloc(), &mut table, 255) == Ok(()));
+    assert!(rt; count_of(&rt, rt.alloc(), &table) == 255);
+    assert!(rt; one_more_is_refused(&rt, rt.alloc(), &mut table));
+    let refusal = set_many(&rt, rt.alloc(), &mut table, 65_535);
+    assert!(rt; refusal == Err(ParamError::TooMany(65_535)));
+    assert!(rt; those_it_has_are_set_again(&rt, rt.alloc(), &mut table));
 }

@@ -2,25 +2,115 @@ use jt_codec::{Message, read_body, write_body};
 use jt_value::{CodecError, Edition, Refusal, Why};
 use std::alloc::Global;
 
-// Whether this body is read under its id, as opaque octets or not, fits its edition, and is written back.
-fn is_kept(
+// What a test asks of a body.
+#[derive(Clone, Copy)]
+enum Asked {
+    // It is read under its id, fits its edition and is written back, and is no opaque octets.
+    Kept,
+    // The same, as opaque octets.
+    KeptOpaque,
+    // It is refused so.
+    Refused(Refusal),
+    // It is a request of the terminal that begins with packet 10 and names the packets 1 and 2, with a count of two octets
+    // or not.
+    ForTwo(bool),
+    // It is a message that fits the edition of 2019, and not that of 2013.
+    OnlyOf2019,
+    // It is an authentication with no code and a tail of zeros.
+    AuthOfZeros,
+}
+
+// Whether the message fits the edition, and is written as this body.
+fn is_written(alloc: Global, edition: Edition, message: &Message, body: &[u8]) -> bool {
+    if !message.fits(edition) {
+        return false;
+    }
+    match &write_body(alloc, edition, message) {
+        Ok(octets) => octets.as_slice() == body,
+        Err(_) => false,
+    }
+}
+
+fn is_opaque(message: &Message) -> bool {
+    matches!(message, Message::Opaque { .. })
+}
+
+fn is_request_for_two(message: &Message, has_wide_count: bool) -> bool {
+    match message {
+        Message::TerminalResend(resend) => {
+            resend.first == 10
+                && resend.wide == has_wide_count
+                && resend.numbers.as_slice() == [1, 2].as_slice()
+        }
+        _ => false,
+    }
+}
+
+fn is_auth_of_zeros(message: &Message) -> bool {
+    match message {
+        Message::Auth(auth) => match &auth.tail {
+            Some(tail) => {
+                auth.code.as_slice().is_empty()
+                    && tail.imei.as_slice() == [0; 15].as_slice()
+                    && tail.software.as_slice() == [0; 20].as_slice()
+            }
+            None => false,
+        },
+        _ => false,
+    }
+}
+
+// Whether the message of this body is what is asked.
+fn is_message_so(
+    alloc: Global,
+    edition: Edition,
+    body: &[u8],
+    message: &Message,
+    asked: Asked,
+) -> bool {
+    match asked {
+        Asked::Kept => !is_opaque(message) && is_written(alloc, edition, message, body),
+        Asked::KeptOpaque => is_opaque(message) && is_written(alloc, edition, message, body),
+        Asked::Refused(_) => false,
+        Asked::ForTwo(has_wide_count) => is_request_for_two(message, has_wide_count),
+        Asked::OnlyOf2019 => message.fits(Edition::E2019) && !message.fits(Edition::E2013),
+        Asked::AuthOfZeros => is_auth_of_zeros(message),
+    }
+}
+
+fn is_refused_so(refusal: &Refusal, asked: Asked) -> bool {
+    match asked {
+        Asked::Refused(wanted) => *refusal == wanted,
+        _ => false,
+    }
+}
+
+fn is_read_so(
     alloc: Global,
     edition: Edition,
     id: u16,
     body: &[u8],
-    opaque: bool,
-) -> Result<bool, CodecError> {
-    let message = read_body(alloc, edition, id, body)?;
-    if message.id() != Some(id) || !message.fits(edition) {
-        return Ok(false);
+    read: &Result<Message, CodecError>,
+    asked: Asked,
+) -> bool {
+    match read {
+        Ok(message) => {
+            message.id() == Some(id) && is_message_so(alloc, edition, body, message, asked)
+        }
+        Err(CodecError::Refused(refusal)) => is_refused_so(refusal, asked),
+        Err(CodecError::Memory) => false,
     }
-    let octets = write_body(alloc, edition, &message)?;
-    Ok(octets.as_slice() == body && matches!(&message, Message::Opaque { .. }) == opaque)
+}
+
+// Whether the body is what is asked. Only here a message is owned: each step of a function that owns one takes long to prove.
+fn is_so(alloc: Global, edition: Edition, id: u16, body: &[u8], asked: Asked) -> bool {
+    let read = read_body(alloc, edition, id, body);
+    is_read_so(alloc, edition, id, body, &read, asked)
 }
 
 #[test]
 fn each_row_in_each_edition_that_has_it(rt: HostRuntime) {
-    let rows: [(Edition, u16, &[u8]); 53] = [
+    let rows: &[(Edition, u16, &[u8])] = &[
         (Edition::E2013, 0x0001, b"\x00\x07\x81\x03\x02"),
         (Edition::E2013, 0x8001, b"\xff\xff\x00\x02\xff"),
         (Edition::E2013, 0x0002, b""),
@@ -151,18 +241,14 @@ fn each_row_in_each_edition_that_has_it(rt: HostRuntime) {
         ),
         (Edition::E2019, 0x8300, b"\x01\x02\x41"),
     ];
-    for (edition, id, body) in rows {
-        assert_eq!(rt;
-            is_kept(rt.alloc(), edition, id, body, false),
-            Ok(true),
-            "{id}"
-        );
+    for &(edition, id, body) in rows {
+        assert!(rt; is_so(rt.alloc(), edition, id, body, Asked::Kept), "{id}");
     }
 }
 
 #[test]
 fn ids_without_a_row_in_an_edition(rt: HostRuntime) {
-    let rows: [(Edition, u16); 7] = [
+    let rows: &[(Edition, u16)] = &[
         (Edition::E2013, 0x0005),
         (Edition::E2019, 0x8600),
         (Edition::E2019, 0x8602),
@@ -171,26 +257,17 @@ fn ids_without_a_row_in_an_edition(rt: HostRuntime) {
         (Edition::E2013, 0x0FFF),
         (Edition::E2019, 0x0FFF),
     ];
-    for (edition, id) in rows {
-        assert_eq!(rt;
-            is_kept(rt.alloc(), edition, id, b"\x01\x00", true),
-            Ok(true),
+    for &(edition, id) in rows {
+        assert!(rt;
+            is_so(rt.alloc(), edition, id, b"\x01\x00", Asked::KeptOpaque),
             "{id}"
         );
     }
 }
 
-// Why this body is refused.
-fn refusal_of(alloc: Global, edition: Edition, id: u16, body: &[u8]) -> Option<Refusal> {
-    match read_body(alloc, edition, id, body) {
-        Err(CodecError::Refused(refusal)) => Some(refusal),
-        Err(CodecError::Memory) | Ok(_) => None,
-    }
-}
-
 #[test]
 fn refusals_of_bodies(rt: HostRuntime) {
-    let rows: [(Edition, u16, &[u8], u64, Why); 20] = [
+    let rows: &[(Edition, u16, &[u8], u64, Why)] = &[
         (
             Edition::E2019,
             0x0005,
@@ -284,70 +361,36 @@ fn refusals_of_bodies(rt: HostRuntime) {
             Why::Truncated,
         ),
     ];
-    for (edition, id, body, inside, why) in rows {
+    for &(edition, id, body, inside, why) in rows {
         let refusal = Refusal { at: 0, inside, why };
-        assert_eq!(rt;
-            refusal_of(rt.alloc(), edition, id, body),
-            Some(refusal),
+        assert!(rt;
+            is_so(rt.alloc(), edition, id, body, Asked::Refused(refusal)),
             "{id}"
         );
     }
 }
 
-// Whether the body is a request of the terminal that begins with packet 10 and names the packets 1 and 2.
-fn asks_for_two(alloc: Global, body: &[u8], has_wide_count: bool) -> bool {
-    match read_body(alloc, Edition::E2019, 0x0005, body) {
-        Ok(Message::TerminalResend(resend)) => {
-            resend.first == 10
-                && resend.wide == has_wide_count
-                && resend.numbers.as_slice() == [1, 2].as_slice()
-        }
-        _ => false,
-    }
-}
-
 #[test]
 fn a_count_of_one_octet_and_one_of_two(rt: HostRuntime) {
-    assert!(rt; asks_for_two(rt.alloc(), b"\x00\x0A\x02\x00\x01\x00\x02", false));
-    assert!(rt; asks_for_two(rt.alloc(), b"\x00\x0A\x00\x02\x00\x01\x00\x02", true));
-}
-
-// Whether a request with a count of two octets fits the edition.
-fn wide_request_fits(alloc: Global, edition: Edition) -> bool {
-    match read_body(alloc, Edition::E2019, 0x8003, b"\x00\x0A\x00\x00") {
-        Ok(request) => request.fits(edition),
-        Err(_) => false,
+    let rows: &[(&[u8], bool)] = &[
+        (b"\x00\x0A\x02\x00\x01\x00\x02", false),
+        (b"\x00\x0A\x00\x02\x00\x01\x00\x02", true),
+    ];
+    for &(body, has_wide_count) in rows {
+        let asked = Asked::ForTwo(has_wide_count);
+        assert!(rt; is_so(rt.alloc(), Edition::E2019, 0x0005, body, asked));
     }
 }
 
-// Whether an authentication of 2019 whose octets are all zero has no code and a tail of zeros, and fits 2019 alone.
-fn has_zero_tail(alloc: Global) -> bool {
-    match read_body(alloc, Edition::E2019, 0x0102, [0; 36].as_slice()) {
-        Ok(message) => {
-            let fits = message.fits(Edition::E2019) && !message.fits(Edition::E2013);
-            fits && is_auth_of_zeros(&message)
-        }
-        Err(_) => false,
-    }
-}
-
-fn is_auth_of_zeros(message: &Message) -> bool {
-    match message {
-        Message::Auth(auth) => match &auth.tail {
-            Some(tail) => {
-                auth.code.as_slice().is_empty()
-                    && tail.imei.as_slice() == [0; 15].as_slice()
-                    && tail.software.as_slice() == [0; 20].as_slice()
-            }
-            None => false,
-        },
-        _ => false,
-    }
-}
-
+// A request with a count of two octets, and an authentication whose octets are all zero.
 #[test]
 fn what_an_edition_has_not_does_not_fit_it(rt: HostRuntime) {
-    assert!(rt; wide_request_fits(rt.alloc(), Edition::E2019));
-    assert!(rt; !wide_request_fits(rt.alloc(), Edition::E2013));
-    assert!(rt; has_zero_tail(rt.alloc()));
+    let rows: &[(u16, &[u8], Asked)] = &[
+        (0x8003, b"\x00\x0A\x00\x00", Asked::OnlyOf2019),
+        (0x0102, &[0; 36], Asked::OnlyOf2019),
+        (0x0102, &[0; 36], Asked::AuthOfZeros),
+    ];
+    for &(id, body, asked) in rows {
+        assert!(rt; is_so(rt.alloc(), Edition::E2019, id, body, asked));
+    }
 }

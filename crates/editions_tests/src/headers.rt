@@ -1,7 +1,9 @@
 ghost use Rattle.std.specs.Prelude.{◌<◌, ◌≤◌, ◌^◌, length};
+ghost use Rattle.jt_header.specs.Content.{IsHeader};
+ghost use Rattle.jt_codec.specs.Frames.{FrameAnswers};
 
 use arrayvec::ArrayVec;
-use jt_codec::{frame_into, parse_frame, write_body};
+use jt_codec::{Message, frame_into, parse_frame, write_body};
 use jt_header::{Header, Packet, read_header, write_header};
 use jt_value::{CodecError, Edition, Phone, Refusal, Why};
 use std::alloc::Global;
@@ -11,16 +13,25 @@ const PHONE: Phone = Phone {
     digits: [0, 0, 0, 0, 0x01, 0x39, 0x12, 0x34, 0x56, 0x78],
 };
 
-// Whether the content has this header, and a body of so many octets, and the header is written back.
+// Whether the content has this header, and a body of so many octets.
 fn has_header(content: &[u8], wanted: Header, len: usize) -> bool
+    requires { length content.now ≤ 1045 }
+{
+    match read_header(content) {
+        Ok((header, body)) => header == wanted && body.len() == len,
+        Err(_) => false,
+    }
+}
+
+// Whether the content has a header, and begins with what is written of it.
+fn keeps_header(content: &[u8]) -> bool
     requires { length content.now ≤ 1045 }
 {
     match read_header(content) {
         Ok((header, body)) => {
             let mut octets = ArrayVec::new();
             write_header(&header, body.len() as u16, &mut octets);
-            let start = octets.as_slice().len();
-            header == wanted && body.len() == len && octets.as_slice() == &content[..start]
+            content.starts_with(octets.as_slice())
         }
         Err(_) => false,
     }
@@ -38,26 +49,36 @@ fn header(bit15: bool, version: u8, serial: u16, packet: Option<Packet>) -> Head
     }
 }
 
+const PLAIN: &[u8; 18] =
+    b"\x01\x04\x40\x00\x01\x00\x00\x00\x00\x01\x39\x12\x34\x56\x78\x00\x00\x74";
+
+const WITH_BIT15: &[u8; 20] =
+    b"\x01\x04\xc0\x02\xff\x00\x00\x00\x00\x01\x39\x12\x34\x56\x78\x00\x0a\x00\x07\x05";
+
+const OF_A_PACKET: &[u8; 24] =
+    b"\x01\x04\x60\x02\x00\x00\x00\x00\x00\x01\x39\x12\x34\x56\x78\x00\x0a\x00\x03\x00\x01\x00\x07\x58";
+
 #[test]
 fn headers_of_2019(rt: HostRuntime) {
     let packet = Some(Packet {
         total: 3,
         number: 1,
     });
-    let content =
-        b"\x01\x04\x40\x00\x01\x00\x00\x00\x00\x01\x39\x12\x34\x56\x78\x00\x00\x74".as_slice();
-    assert!(rt; has_header(content, header(false, 1, 0, None), 0));
-    let content =
-        b"\x01\x04\xc0\x02\xff\x00\x00\x00\x00\x01\x39\x12\x34\x56\x78\x00\x0a\x00\x07\x05".as_slice();
-    assert!(rt; has_header(content, header(true, 255, 10, None), 2));
-    let content =
-        b"\x01\x04\x60\x02\x00\x00\x00\x00\x00\x01\x39\x12\x34\x56\x78\x00\x0a\x00\x03\x00\x01\x00\x07\x58".as_slice();
-    assert!(rt; has_header(content, header(false, 0, 10, packet), 2));
+    assert!(rt; has_header(PLAIN, header(false, 1, 0, None), 0));
+    assert!(rt; has_header(WITH_BIT15, header(true, 255, 10, None), 2));
+    assert!(rt; has_header(OF_A_PACKET, header(false, 0, 10, packet), 2));
+}
+
+#[test]
+fn headers_of_2019_written_back(rt: HostRuntime) {
+    assert!(rt; keeps_header(PLAIN));
+    assert!(rt; keeps_header(WITH_BIT15));
+    assert!(rt; keeps_header(OF_A_PACKET));
 }
 
 #[test]
 fn refusals_of_headers_of_2019(rt: HostRuntime) {
-    let rows: [(&[u8], u64, Why); 7] = [
+    let rows: &[(&[u8], u64, Why)] = &[
         (
             b"\x01\x04\x40\x00\x01\x00\x00\x00\x00\x01\x39\x12\x34\x56\x78\x00\x74",
             17,
@@ -94,36 +115,64 @@ fn refusals_of_headers_of_2019(rt: HostRuntime) {
             Why::BadPacketNumber,
         ),
     ];
-    for (content, inside, why) in rows {
+    for &(content, inside, why) in rows {
         assert!(rt; content.len() <= 1045);
-        assert_eq!(rt;
-            read_header(content).err(),
-            Some(Refusal { at: 0, inside, why })
-        );
+        let refusal = Refusal { at: 0, inside, why };
+        assert!(rt; read_header(content) == Err(refusal));
+    }
+}
+
+// Whether this is the frame of the header and the body.
+fn is_frame_of(header: &Header, body: &[u8], frame: &[u8]) -> bool
+    requires { IsHeader header.now }
+{
+    if body.len() > 1023 {
+        return false;
+    }
+    let mut octets = ArrayVec::new();
+    frame_into(header, body, &mut octets);
+    octets.as_slice() == frame
+}
+
+// Whether the message fits the header's edition, and this is its frame.
+fn is_framed(alloc: Global, header: &Header, message: &Message, frame: &[u8]) -> bool
+    requires { IsHeader header.now }
+{
+    if !message.fits(header.edition) {
+        return false;
+    }
+    match &write_body(alloc, header.edition, message) {
+        Ok(body) => is_frame_of(header, body.as_slice(), frame),
+        Err(_) => false,
+    }
+}
+
+// Whether the content was parsed, and this is the frame of what it is.
+fn is_parsed_so(
+    alloc: Global,
+    _content: &[u8],
+    parsed: &Result<(Header, Message), CodecError>,
+    frame: &[u8],
+) -> bool
+    requires { FrameAnswers _content.now parsed.now }
+{
+    match parsed {
+        Ok((header, message)) => is_framed(alloc, header, message, frame),
+        Err(_) => false,
     }
 }
 
 // Whether the content is read, and its frame written back.
-fn is_written_back(alloc: Global, content: &[u8], frame: &[u8]) -> Result<bool, CodecError>
+fn is_written_back(alloc: Global, content: &[u8], frame: &[u8]) -> bool
     requires { length content.now ≤ 1045 }
 {
-    let (header, message) = parse_frame(alloc, content)?;
-    if !message.fits(header.edition) {
-        return Ok(false);
-    }
-    let body = write_body(alloc, header.edition, &message)?;
-    let body = body.as_slice();
-    if body.len() > 1023 {
-        return Ok(false);
-    }
-    let mut octets = ArrayVec::new();
-    frame_into(&header, body, &mut octets);
-    Ok(octets.as_slice() == frame)
+    let parsed = parse_frame(alloc, content);
+    is_parsed_so(alloc, content, &parsed, frame)
 }
 
 #[test]
 fn frames_written_back(rt: HostRuntime) {
-    let rows: [(&[u8], &[u8]); 6] = [
+    let rows: &[(&[u8], &[u8])] = &[
         (
             b"\x00\x02\x40\x00\x01\x00\x00\x00\x00\x01\x39\x12\x34\x56\x78\x00\x00\x73",
             b"\x7e\x00\x02\x40\x00\x01\x00\x00\x00\x00\x01\x39\x12\x34\x56\x78\x00\x00\x73\x7e",
@@ -149,8 +198,8 @@ fn frames_written_back(rt: HostRuntime) {
             b"\x7e\x80\x03\x80\x07\x01\x39\x12\x34\x56\x78\x00\x00\x00\x0a\x02\x00\x01\x00\x02\x3f\x7e",
         ),
     ];
-    for (content, frame) in rows {
+    for &(content, frame) in rows {
         assert!(rt; content.len() <= 1045);
-        assert_eq!(rt; is_written_back(rt.alloc(), content, frame), Ok(true));
+        assert!(rt; is_written_back(rt.alloc(), content, frame));
     }
 }

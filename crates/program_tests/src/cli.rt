@@ -1,10 +1,12 @@
+ghost use Rattle.std.specs.Prelude.{◌<◌, ◌^◌, length};
+
 use jt_cli::{
-    Command, Encoding, Outside, Report, Status, Task, refusal_line, run_alone, view_line,
+    Command, Encoding, Ended, Outside, Report, Status, Task, refusal_line, run_alone, view_line,
 };
-use jt_codec::read_message;
-use jt_header::read_header;
+use jt_codec::{Message, read_message};
+use jt_header::{Header, read_header};
 use jt_io::{MemSink, MemSource};
-use jt_value::{Memory, Octets, Refusal, Seq, Why};
+use jt_value::{CodecError, Memory, Octets, Refusal, Seq, Why};
 use std::alloc::{AllocError, Global};
 use std::process::Abort;
 
@@ -41,6 +43,31 @@ pub(crate) fn outside(
     })
 }
 
+// Whether the run ended so, and wrote this.
+fn is_ended_so(
+    ended: &Ended<MemSource, MemSink, (), (), (), (), ()>,
+    status: Status,
+    written: &[u8],
+) -> bool {
+    ended.status == status && ended.outside.sink.octets() == written
+}
+
+// Whether a run of the words over these octets ends so, and writes this.
+fn is_run_so(
+    rt: &impl Abort,
+    alloc: Global,
+    words: &[&str],
+    octets: &[u8],
+    failing: (u64, u64),
+    status: Status,
+    written: &[u8],
+) -> bool {
+    let words = words_of(alloc, words).expect(rt, "words");
+    let outside = outside(alloc, octets, failing).expect(rt, "a source and a sink");
+    let ended = run_alone(&(), alloc, &words, outside);
+    is_ended_so(&ended, status, written)
+}
+
 // Runs the words over these octets, and compares the status and what was written.
 fn expect(
     rt: &impl Abort,
@@ -51,21 +78,22 @@ fn expect(
     status: Status,
     written: &str,
 ) {
-    let words = words_of(alloc, words).expect(rt, "words");
-    let outside = outside(alloc, octets, failing).expect(rt, "a source and a sink");
-    let ended = run_alone(&(), alloc, &words, outside);
-    assert_eq!(rt; ended.status, status, "{octets:?}");
-    assert_eq!(rt;
-        ended.outside.sink.octets(),
+    let is_so = is_run_so(
+        rt,
+        alloc,
+        words,
+        octets,
+        failing,
+        status,
         written.as_bytes(),
-        "{octets:?}"
     );
+    assert!(rt; is_so, "{octets:?}");
 }
 
 #[test]
 fn views(rt: HostRuntime) {
     let alloc = rt.alloc();
-    let rows: [(&[u8], Status, &str); 22] = [
+    let rows: &[(&[u8], Status, &str)] = &[
         (
             b"\x7e\x00\x02\x00\x00\x01\x39\x12\x34\x56\x78\x00\x00\x32\x7e",
             Status::Done,
@@ -173,7 +201,7 @@ fn views(rt: HostRuntime) {
             "0+12 refused Trailing\n16 2013 0x0002 heartbeat phone=013912345678 serial=0 body=0\nframes=1 refused=1\n",
         ),
     ];
-    for (octets, status, written) in rows {
+    for &(octets, status, written) in rows {
         expect(&rt, alloc, &["view"], octets, (0, 0), status, written);
     }
 }
@@ -181,7 +209,7 @@ fn views(rt: HostRuntime) {
 #[test]
 fn views_of_bodies(rt: HostRuntime) {
     let alloc = rt.alloc();
-    let rows: [(&[u8], Status, &str); 7] = [
+    let rows: &[(&[u8], Status, &str)] = &[
         (
             b"\x7e\x02\x00\x00\x21\x01\x39\x12\x34\x56\x78\x00\x05\x00\x00\x00\x00\x00\x00\x00\x03\x01\x31\x2d\x00\x06\xbc\x3e\x40\x00\x00\x00\x00\x00\x00\x00\x00\x00\x00\x00\x00\x01\x03\x00\x00\x0a\xc4\x7e",
             Status::Done,
@@ -218,18 +246,24 @@ fn views_of_bodies(rt: HostRuntime) {
             "0 2013 0x0002 heartbeat phone=013912345678 serial=0 body=0\n15+15 refused Trailing\n34 2013 0x0102 auth phone=013912345678 serial=2 body=2 code=3132\nframes=2 refused=1\n",
         ),
     ];
-    for (octets, status, written) in rows {
+    for &(octets, status, written) in rows {
         expect(&rt, alloc, &["view"], octets, (0, 0), status, written);
     }
 }
 
-// A flag, so many octets 00 and a heartbeat.
-fn zeros(alloc: Global, count: u16) -> Result<Vec<u8>, AllocError> {
-    let mut octets = b"\x7e".to_vec(alloc)?;
+// The front, so many times the part, and the end.
+pub(crate) fn repeated(
+    alloc: Global,
+    front: &[u8],
+    part: &[u8],
+    count: u32,
+    end: &[u8],
+) -> Result<Vec<u8>, AllocError> {
+    let mut octets = front.to_vec(alloc)?;
     for _ in 0..count {
-        octets.push(0)?;
+        octets.extend_from_slice(part)?;
     }
-    octets.extend_from_slice(HEARTBEAT)?;
+    octets.extend_from_slice(end)?;
     Ok(octets)
 }
 
@@ -237,7 +271,7 @@ fn zeros(alloc: Global, count: u16) -> Result<Vec<u8>, AllocError> {
 // run, and its last flag opens a frame that does not end.
 #[test]
 fn views_of_a_content_too_long(rt: HostRuntime) {
-    let octets = zeros(rt.alloc(), 1046).expect(&rt, "octets");
+    let octets = repeated(rt.alloc(), b"\x7e", &[0], 1046, HEARTBEAT).expect(&rt, "octets");
     let written =
         "1046+0 refused TooLong\n1048+0 refused Stray\n1062+0 refused Truncated\nframes=0 refused=3\n";
     expect(
@@ -253,58 +287,56 @@ fn views_of_a_content_too_long(rt: HostRuntime) {
 
 // The frame of a body of 1,023 flags, under an id without a row.
 fn frame_of_flags(alloc: Global) -> Result<Vec<u8>, AllocError> {
-    let mut octets = b"\x7e\x0f\xff\x03\xff\x01\x39\x12\x34\x56\x78\x00\x00".to_vec(alloc)?;
-    for _ in 0..1023 {
-        octets.extend_from_slice(b"\x7d\x02")?;
-    }
-    octets.extend_from_slice(b"\x42\x7e")?;
-    Ok(octets)
+    let front = b"\x7e\x0f\xff\x03\xff\x01\x39\x12\x34\x56\x78\x00\x00";
+    repeated(alloc, front, b"\x7d\x02", 1023, b"\x42\x7e")
 }
 
-fn line_of_flags(alloc: Global) -> Result<String, AllocError> {
-    let mut line = String::new(alloc);
-    line.push_str("0 2013 0x0fff opaque phone=013912345678 serial=0 body=1023 body-octets=")?;
-    for _ in 0..1023 {
-        line.push_str("7e")?;
-    }
-    line.push_str("\nframes=1 refused=0\n")?;
-    Ok(line)
+fn line_of_flags(alloc: Global) -> Result<Vec<u8>, AllocError> {
+    let front = b"0 2013 0x0fff opaque phone=013912345678 serial=0 body=1023 body-octets=";
+    repeated(alloc, front, b"7e", 1023, b"\nframes=1 refused=0\n")
 }
 
 #[test]
 fn views_of_an_opaque_body(rt: HostRuntime) {
-    let octets = frame_of_flags(rt.alloc()).expect(&rt, "a frame");
-    let written = line_of_flags(rt.alloc()).expect(&rt, "a line");
-    expect(
-        &rt,
-        rt.alloc(),
-        &["view"],
-        octets.as_slice(),
-        (0, 0),
-        Status::Done,
-        written.as_str(),
+    let alloc = rt.alloc();
+    let octets = frame_of_flags(alloc).expect(&rt, "a frame");
+    let line = line_of_flags(alloc).expect(&rt, "a line");
+    let octets = octets.as_slice();
+    assert!(rt;
+        is_run_so(
+            &rt,
+            alloc,
+            &["view"],
+            octets,
+            (0, 0),
+            Status::Done,
+            line.as_slice()
+        )
     );
 }
+
+const TWICE: &[u8] =
+    b"\x7e\x00\x02\x00\x00\x01\x39\x12\x34\x56\x78\x00\x00\x32\x7e\x7e\x00\x02\x00\x00\x01\x39\x12\x34\x56\x78\x00\x00\x32\x7e";
+
+const MISMATCH: &[u8] =
+    b"\x7e\x00\x02\x00\x00\x01\x39\x12\x34\x56\x78\x00\x00\x33\x7e\x7e\x00\x02\x00\x00\x01\x39\x12\x34\x56\x78\x00\x00\x32\x7e";
+
+const SHORT_POSITION: &[u8] =
+    b"7e 0200001b 013912345678 0005 000000000000000000000000000000000000000000000000000000 2c 7e";
 
 #[test]
 fn hexadecimal_inputs_and_checks(rt: HostRuntime) {
     let alloc = rt.alloc();
-    let twice =
-        b"\x7e\x00\x02\x00\x00\x01\x39\x12\x34\x56\x78\x00\x00\x32\x7e\x7e\x00\x02\x00\x00\x01\x39\x12\x34\x56\x78\x00\x00\x32\x7e".as_slice();
-    let mismatch =
-        b"\x7e\x00\x02\x00\x00\x01\x39\x12\x34\x56\x78\x00\x00\x33\x7e\x7e\x00\x02\x00\x00\x01\x39\x12\x34\x56\x78\x00\x00\x32\x7e".as_slice();
-    let short_position =
-        b"7e 0200001b 013912345678 0005 000000000000000000000000000000000000000000000000000000 2c 7e".as_slice();
-    let rows: [(&[&str], &[u8], Status, &str); 12] = [
+    let rows: &[(&[&str], &[u8], Status, &str)] = &[
         (
             &["view", "--hex"],
-            short_position,
+            SHORT_POSITION,
             Status::Refused,
             "0+34 refused Truncated\nframes=0 refused=1\n",
         ),
         (
             &["check", "--hex"],
-            short_position,
+            SHORT_POSITION,
             Status::Refused,
             "0+34 refused Truncated\n",
         ),
@@ -332,10 +364,10 @@ fn hexadecimal_inputs_and_checks(rt: HostRuntime) {
             Status::Done,
             "0 2013 0x0002 heartbeat phone=013912345678 serial=0 body=0\nframes=1 refused=0\n",
         ),
-        (&["check"], twice, Status::Done, "ok frames=2\n"),
+        (&["check"], TWICE, Status::Done, "ok frames=2\n"),
         (
             &["check"],
-            mismatch,
+            MISMATCH,
             Status::Refused,
             "0+12 refused CheckMismatch computed=32 found=33\n",
         ),
@@ -364,22 +396,24 @@ fn hexadecimal_inputs_and_checks(rt: HostRuntime) {
             "hex refused at 0\n",
         ),
     ];
-    for (words, octets, status, written) in rows {
+    for &(words, octets, status, written) in rows {
         expect(&rt, alloc, words, octets, (0, 0), status, written);
     }
 }
 
-// An authentication, and a reply to a registration with an octet too many.
+const AUTHENTICATION: &[u8] = b"\x7e\x01\x02\0\x02\x01\x39\x12\x34\x56\x78\0\0\x41\x42\x32\x7e";
+
+// A reply to a registration with an octet too many.
+const LONG_REPLY: &[u8] = b"\x7e\x81\0\0\x04\x01\x39\x12\x34\x56\x78\0\0\0\x05\x03\x41\xf2\x7e";
+
 #[test]
 fn checks_of_other_bodies(rt: HostRuntime) {
     let alloc = rt.alloc();
-    let authentication = b"\x7e\x01\x02\0\x02\x01\x39\x12\x34\x56\x78\0\0\x41\x42\x32\x7e";
-    let reply = b"\x7e\x81\0\0\x04\x01\x39\x12\x34\x56\x78\0\0\0\x05\x03\x41\xf2\x7e";
-    let rows: [(&[u8], Status, &str); 2] = [
-        (authentication.as_slice(), Status::Done, "ok frames=1\n"),
-        (reply.as_slice(), Status::Refused, "0+15 refused Trailing\n"),
+    let rows: &[(&[u8], Status, &str)] = &[
+        (AUTHENTICATION, Status::Done, "ok frames=1\n"),
+        (LONG_REPLY, Status::Refused, "0+15 refused Trailing\n"),
     ];
-    for (octets, status, written) in rows {
+    for &(octets, status, written) in rows {
         expect(&rt, alloc, &["check"], octets, (0, 0), status, written);
     }
 }
@@ -392,44 +426,99 @@ fn expect_usage(rt: &impl Abort, alloc: Global, words: &[&str]) {
 #[test]
 fn words_that_are_no_command(rt: HostRuntime) {
     let alloc = rt.alloc();
-    expect_usage(&rt, alloc, &[]);
-    expect_usage(&rt, alloc, &["views"]);
-    expect_usage(&rt, alloc, &["view", "--hex", "--hex"]);
-    expect_usage(&rt, alloc, &["view", "--help"]);
-    expect_usage(&rt, alloc, &["rehearse", "--hex"]);
-    expect_usage(&rt, alloc, &["make"])
+    let rows: &[&[&str]] = &[
+        &[],
+        &["views"],
+        &["view", "--hex", "--hex"],
+        &["view", "--help"],
+        &["rehearse", "--hex"],
+        &["make"],
+    ];
+    for &words in rows {
+        expect_usage(&rt, alloc, words);
+    }
 }
+
+const HEARTBEAT_LINE: &str = "0 2013 0x0002 heartbeat phone=013912345678 serial=0 body=0\n";
 
 // A check whose first piece has a refusal does not read again: in the last row the second read would fail.
 #[test]
 fn faults_of_the_outside(rt: HostRuntime) {
     let alloc = rt.alloc();
-    let line = "0 2013 0x0002 heartbeat phone=013912345678 serial=0 body=0\n";
-    let stray = "0+0 refused Stray\n";
-    let rows: [(&str, &[u8], (u64, u64), Status, &str); 8] = [
+    let rows: &[(&str, &[u8], (u64, u64), Status, &str)] = &[
         ("view", HEARTBEAT, (1, 0), Status::ReadFault, ""),
-        ("view", HEARTBEAT, (2, 0), Status::ReadFault, line),
+        ("view", HEARTBEAT, (2, 0), Status::ReadFault, HEARTBEAT_LINE),
         ("check", HEARTBEAT, (2, 0), Status::ReadFault, ""),
         ("view", HEARTBEAT, (0, 1), Status::WriteFault, ""),
-        ("view", HEARTBEAT, (0, 2), Status::WriteFault, line),
+        (
+            "view",
+            HEARTBEAT,
+            (0, 2),
+            Status::WriteFault,
+            HEARTBEAT_LINE,
+        ),
         ("check", HEARTBEAT, (0, 1), Status::WriteFault, ""),
         ("views", HEARTBEAT, (0, 1), Status::WriteFault, ""),
-        ("check", b"\x00", (2, 0), Status::Refused, stray),
+        (
+            "check",
+            b"\x00",
+            (2, 0),
+            Status::Refused,
+            "0+0 refused Stray\n",
+        ),
     ];
-    for (word, octets, failing, status, written) in rows {
+    for &(word, octets, failing, status, written) in rows {
         expect(&rt, alloc, &[word], octets, failing, status, written);
+    }
+}
+
+// Whether there is a message, and this is its line, where its frame stands at octet 7.
+fn is_line(
+    alloc: Global,
+    header: &Header,
+    message: &Result<Message, CodecError>,
+    line: &[u8],
+) -> bool {
+    match message {
+        Ok(message) => is_line_of(alloc, header, message, line),
+        Err(_) => false,
+    }
+}
+
+fn is_line_of(alloc: Global, header: &Header, message: &Message, line: &[u8]) -> bool {
+    match &view_line(alloc, 7, header, message, 0) {
+        Ok(octets) => octets.as_slice() == line,
+        Err(_) => false,
+    }
+}
+
+fn is_line_of_body(alloc: Global, header: &Header, body: &[u8], line: &[u8]) -> bool
+    requires { length body.now < 2 ^ 10 }
+{
+    let message = read_message(alloc, header, body);
+    is_line(alloc, header, &message, line)
+}
+
+// Whether this is the line of the heartbeat, as a message of its own.
+fn is_line_of_heartbeat(alloc: Global, line: &[u8]) -> bool {
+    match read_header(&HEARTBEAT[1..14]) {
+        Ok((header, body)) => is_line_of_body(alloc, &header, body, line),
+        Err(_) => false,
+    }
+}
+
+// Whether this is the line of the refusal.
+fn is_line_of_refusal(alloc: Global, refusal: &Refusal, line: &[u8]) -> bool {
+    match &refusal_line(alloc, refusal) {
+        Ok(octets) => octets.as_slice() == line,
+        Err(_) => false,
     }
 }
 
 #[test]
 fn lines_of_their_own(rt: HostRuntime) {
-    let (header, body) = read_header(&HEARTBEAT[1..14]).expect(&rt, "a content");
-    let message = read_message(rt.alloc(), &header, body).expect(&rt, "a message");
-    let line = view_line(rt.alloc(), 7, &header, &message, 0).expect(&rt, "a line");
-    assert_eq!(rt;
-        line.as_slice(),
-        b"7 2013 0x0002 heartbeat phone=013912345678 serial=0 body=0\n".as_slice()
-    );
+    let line = b"7 2013 0x0002 heartbeat phone=013912345678 serial=0 body=0\n";
+    assert!(rt; is_line_of_heartbeat(rt.alloc(), line));
     let refusal = Refusal {
         at: 3,
         inside: 2,
@@ -438,17 +527,14 @@ fn lines_of_their_own(rt: HostRuntime) {
             actual: 0,
         },
     };
-    let line = refusal_line(rt.alloc(), &refusal).expect(&rt, "a line");
-    assert_eq!(rt;
-        line.as_slice(),
-        b"3+2 refused LengthMismatch declared=1 actual=0\n".as_slice()
-    );
+    let line = b"3+2 refused LengthMismatch declared=1 actual=0\n";
+    assert!(rt; is_line_of_refusal(rt.alloc(), &refusal, line));
 }
 
 #[test]
 fn scripts(rt: HostRuntime) {
     let alloc = rt.alloc();
-    let rows: [(&str, Status, &str); 17] = [
+    let rows: &[(&str, Status, &str)] = &[
         (
             "fix 0\ntick 0\nup 1 30\nfix 1\ntick 0\nup 1 all\ndown all\n",
             Status::Done,
@@ -495,7 +581,7 @@ fn scripts(rt: HostRuntime) {
         ("up 2 all\n", Status::Refused, "line 1 refused\n"),
         ("tick 0\ntick 1\n", Status::Refused, "line 2 refused\n"),
     ];
-    for (script, status, written) in rows {
+    for &(script, status, written) in rows {
         expect(
             &rt,
             alloc,
@@ -532,80 +618,41 @@ fn long_lines_of_scripts(rt: HostRuntime) {
     );
 }
 
-// A script of so many fixes.
-fn fixes(alloc: Global, count: u32) -> Result<Vec<u8>, AllocError> {
-    let mut script = Vec::new(alloc);
-    for _ in 0..count {
-        script.extend_from_slice(b"fix 0\n")?;
-    }
-    Ok(script)
+// Runs a script of so many fixes.
+fn expect_of_fixes(rt: &impl Abort, alloc: Global, count: u32, status: Status, written: &str) {
+    let script = repeated(alloc, b"", b"fix 0\n", count, b"").expect(rt, "a script");
+    expect(
+        rt,
+        alloc,
+        &["rehearse"],
+        script.as_slice(),
+        (0, 0),
+        status,
+        written,
+    );
 }
 
 #[test]
 fn many_fixes(rt: HostRuntime) {
-    let rows = [
-        (
-            32_766,
-            Status::Done,
-            "recorded=32766 accepted=0 rows=0 stored=0\n",
-        ),
-        (32_767, Status::Refused, "line 32767 refused\n"),
-    ];
-    for (count, status, written) in rows {
-        let script = fixes(rt.alloc(), count).expect(&rt, "a script");
-        expect(
-            &rt,
-            rt.alloc(),
-            &["rehearse"],
-            script.as_slice(),
-            (0, 0),
-            status,
-            written,
-        );
-    }
+    let counts = "recorded=32766 accepted=0 rows=0 stored=0\n";
+    expect_of_fixes(&rt, rt.alloc(), 32_766, Status::Done, counts);
+    let refused = "line 32767 refused\n";
+    expect_of_fixes(&rt, rt.alloc(), 32_767, Status::Refused, refused);
 }
 
 #[test]
 fn faults_of_scripts(rt: HostRuntime) {
     let alloc = rt.alloc();
     let script = b"fix 0\ntick 0\nup 1 all\n";
-    let stored = "1 unit 0 stored 0\n";
-    expect(
-        &rt,
-        alloc,
-        &["rehearse"],
-        script,
-        (1, 0),
-        Status::ReadFault,
-        "",
-    );
-    expect(
-        &rt,
-        alloc,
-        &["rehearse"],
-        script,
-        (2, 0),
-        Status::ReadFault,
-        stored,
-    );
-    expect(
-        &rt,
-        alloc,
-        &["rehearse"],
-        script,
-        (0, 1),
-        Status::WriteFault,
-        "",
-    );
-    expect(
-        &rt,
-        alloc,
-        &["rehearse"],
-        script,
-        (0, 2),
-        Status::WriteFault,
-        stored,
-    );
+    let rows: &[((u64, u64), Status, &str)] = &[
+        ((1, 0), Status::ReadFault, ""),
+        ((2, 0), Status::ReadFault, "1 unit 0 stored 0\n"),
+        ((0, 1), Status::WriteFault, ""),
+        ((0, 2), Status::WriteFault, "1 unit 0 stored 0\n"),
+    ];
+    for &(failing, status, written) in rows {
+        expect(&rt, alloc, &["rehearse"], script, failing, status, written);
+    }
 }
 
 const VIEW: Option<Task> = Some(Task::Tell(Command {
@@ -628,9 +675,15 @@ const CHECK_HEX: Option<Task> = Some(Task::Tell(Command {
     encoding: Encoding::Hex,
 }));
 
+// Whether the words tell the program to do this.
+fn are_words_of(rt: &impl Abort, alloc: Global, words: &[&str], wanted: Option<Task>) -> bool {
+    let words = words_of(alloc, words).expect(rt, "words");
+    Task::from_words(&words) == wanted
+}
+
 #[test]
 fn words_of_tasks(rt: HostRuntime) {
-    let rows: [(&[&str], Option<Task>); 22] = [
+    let rows: &[(&[&str], Option<Task>)] = &[
         (&["view"], VIEW),
         (&["view", "--hex"], VIEW_HEX),
         (&["check"], CHECK),
@@ -654,8 +707,7 @@ fn words_of_tasks(rt: HostRuntime) {
         (&["platform"], None),
         (&["make"], None),
     ];
-    for (words, wanted) in rows {
-        let words = words_of(rt.alloc(), words).expect(&rt, "words");
-        assert_eq!(rt; Task::from_words(&words), wanted);
+    for &(words, wanted) in rows {
+        assert!(rt; are_words_of(&rt, rt.alloc(), words, wanted));
     }
 }

@@ -2,33 +2,39 @@
 
 ghost use Rattle.std.specs.Prelude.{None};
 
-use crate::cli::{outside, words_of};
+use crate::cli::{outside, repeated, words_of};
 use jt_cli::{Outside, Status, run_alone};
-use jt_io::{Got, Put, Sink, Source};
+use jt_io::{Got, MemSource, Put, Sink, Source};
 use std::alloc::{AllocError, Global};
 use std::cell::Cell;
+use std::process::Abort;
 
 // A script whose first piece prints a line, and which has 24,022 octets.
 fn long_script(alloc: Global) -> Result<Vec<u8>, AllocError> {
-    let mut script = Vec::new(alloc);
-    script.extend_from_slice(b"fix 0\ntick 0\nup 1 all\n")?;
-    for _ in 0..3000 {
-        script.extend_from_slice(b"#234567\n")?;
-    }
-    Ok(script)
+    repeated(alloc, b"fix 0\ntick 0\nup 1 all\n", b"#234567\n", 3000, b"")
 }
 
+// How many octets a read of up to 16,384 takes.
+fn takes(source: &mut MemSource) -> Got {
+    let mut octets = [0; 16_384];
+    source.read(&mut octets)
+}
+
+// How a rehearsal ends whose first write fails, and what one more read takes then.
+fn failed_write(rt: &impl Abort, alloc: Global, script: &[u8]) -> (Status, Got) {
+    let words = words_of(alloc, &["rehearse"]).expect(rt, "words");
+    let outside = outside(alloc, script, (0, 1)).expect(rt, "a source and a sink");
+    let mut ended = run_alone(&(), alloc, &words, outside);
+    (ended.status, takes(&mut ended.outside.source))
+}
+
+// One piece of 16,384 octets was read, and no more.
 #[test]
 fn a_failed_write_ends_the_run(rt: HostRuntime) {
-    let alloc = rt.alloc();
-    let script = long_script(alloc).expect(&rt, "a script");
-    let words = words_of(alloc, &["rehearse"]).expect(&rt, "words");
-    let outside = outside(alloc, script.as_slice(), (0, 1)).expect(&rt, "a source and a sink");
-    let mut ended = run_alone(&(), alloc, &words, outside);
-    assert_eq!(&rt; ended.status, Status::WriteFault);
-    // One piece of 16,384 octets was read, and no more.
-    let mut rest = [0; 16_384];
-    assert_eq!(&rt; ended.outside.source.read(&mut rest), Got::Bytes(7638));
+    let script = long_script(rt.alloc()).expect(&rt, "a script");
+    let (status, got) = failed_write(&rt, rt.alloc(), script.as_slice());
+    assert!(rt; status == Status::WriteFault);
+    assert!(rt; got == Got::Bytes(7638));
 }
 
 // A sink that sets a flag with each write.
@@ -74,8 +80,9 @@ impl<'a> Source for FlagSource<'a> {
     }
 }
 
-// Whether what the words print of the octets of the first read is written before the second.
-fn is_written_first(alloc: Global, words: &Vec<String>, octets: &[u8]) -> bool {
+// Whether what the word prints of the octets of the first read is written before the second.
+fn is_written_first(rt: &impl Abort, alloc: Global, word: &str, octets: &[u8]) -> bool {
+    let words = words_of(alloc, &[word]).expect(rt, "words");
     let flag = Cell::new(false);
     let outside = Outside {
         source: FlagSource {
@@ -91,22 +98,17 @@ fn is_written_first(alloc: Global, words: &Vec<String>, octets: &[u8]) -> bool {
         keeper: (),
         vault: (),
     };
-    run_alone(&(), alloc, words, outside).outside.source.was_set
+    let ended = run_alone(&(), alloc, &words, outside);
+    ended.outside.source.was_set
 }
 
+const HEARTBEAT: &[u8] = b"\x7e\x00\x02\x00\x00\x01\x39\x12\x34\x56\x78\x00\x00\x32\x7e";
+
+// Nothing is printed of a comment, and so nothing is written.
 #[test]
 fn lines_go_out_before_the_next_read(rt: HostRuntime) {
     let alloc = rt.alloc();
-    let rehearse = words_of(alloc, &["rehearse"]).expect(&rt, "words");
-    let view = words_of(alloc, &["view"]).expect(&rt, "words");
-    assert!(&rt; is_written_first(alloc, &rehearse, b"fix 0\ntick 0\nup 1 all\n"));
-    assert!(&rt;
-        is_written_first(
-            alloc,
-            &view,
-            b"\x7e\x00\x02\x00\x00\x01\x39\x12\x34\x56\x78\x00\x00\x32\x7e"
-        )
-    );
-    // Nothing is printed of a comment, and so nothing is written.
-    assert!(&rt; !is_written_first(alloc, &rehearse, b"# fix 0\n"));
+    assert!(rt; is_written_first(&rt, alloc, "rehearse", b"fix 0\ntick 0\nup 1 all\n"));
+    assert!(rt; is_written_first(&rt, alloc, "view", HEARTBEAT));
+    assert!(rt; !is_written_first(&rt, alloc, "rehearse", b"# fix 0\n"));
 }

@@ -1,8 +1,11 @@
-use jt_io::{MemSink, MemSource, StdSource};
+ghost use Rattle.std.specs.Prelude.{◌≤◌, ◌^◌, length};
+
+use jt_io::{MemSink, MemSource, Source, StdSource};
 use jt_value::{Memory, Octets, Seq};
 use jt_view::{Command, Encoding, Report, Status, report};
 use std::alloc::Global;
 use std::io::Read;
+use std::process::Abort;
 
 const HEX: &[u8] = b"7e000200000139123456780000327e";
 
@@ -31,9 +34,30 @@ fn source(alloc: Global, octets: &[u8]) -> Result<MemSource, Memory> {
     Ok(MemSource::new(octets, Seq::new(alloc)))
 }
 
+fn sink(alloc: Global) -> Result<MemSink, Memory> {
+    MemSink::new(alloc, 200, Seq::new(alloc))
+}
+
+// Whether the source is reported so, with this written.
+fn is_reported<S: Source>(
+    rt: &impl Abort,
+    alloc: Global,
+    source: &mut S,
+    command: Command,
+    most: u64,
+    status: Status,
+    written: &str,
+) -> bool
+    requires { most ≤ 2 ^ 40 }
+{
+    let mut sink = sink(alloc).expect(rt, "a sink");
+    let ended = report(alloc, source, &mut sink, command, most);
+    ended == status && sink.octets() == written.as_bytes()
+}
+
 #[test]
 fn inputs_that_are_too_long(rt: HostRuntime) {
-    let rows: [(Command, &[u8], u64, Status, &str); 9] = [
+    let rows: &[(Command, &[u8], u64, Status, &str)] = &[
         (VIEW, HEARTBEAT, 15, Status::Done, LINE),
         (VIEW, HEARTBEAT, 14, Status::Refused, "input too long\n"),
         (VIEW, b"", 0, Status::Done, "frames=0 refused=0\n"),
@@ -44,34 +68,49 @@ fn inputs_that_are_too_long(rt: HostRuntime) {
         (VIEW_HEX, b"7ex", 2, Status::Refused, "input too long\n"),
         (VIEW_HEX, b"7ex7", 3, Status::Refused, "hex refused at 2\n"),
     ];
-    for (command, octets, most, status, written) in rows {
+    for &(command, octets, most, status, written) in rows {
+        assert!(rt; most <= 1 << 40);
         let mut source = source(rt.alloc(), octets).expect(&rt, "a source");
-        let mut sink = MemSink::new(rt.alloc(), 200, Seq::new(rt.alloc())).expect(&rt, "a sink");
-        let ended = report(rt.alloc(), &mut source, &mut sink, command, most);
-        assert_eq!(rt; ended, status, "{written}");
-        assert_eq!(rt; sink.octets(), written.as_bytes(), "{written}");
+        let is_so = is_reported(&rt, rt.alloc(), &mut source, command, most, status, written);
+        assert!(rt; is_so, "{written}");
     }
 }
 
 #[test]
 fn numbers_of_statuses(rt: HostRuntime) {
-    for (status, number) in [
+    let rows: &[(Status, u8)] = &[
         (Status::Done, 0),
         (Status::Refused, 1),
         (Status::Usage, 2),
         (Status::ReadFault, 3),
         (Status::WriteFault, 4),
         (Status::Memory, 8),
-    ] {
-        assert_eq!(rt; status.number(), number);
+    ];
+    for &(status, number) in rows {
+        assert!(rt; status.number() == number);
     }
+}
+
+// Whether a view of these digits, read in two pieces, ends so, with this written.
+fn is_viewed(
+    rt: &impl Abort,
+    alloc: Global,
+    text: &[u8],
+    cut: usize,
+    status: Status,
+    written: &str,
+) -> bool
+    requires { cut ≤ length text.now }
+{
+    let mut source = StdSource::new(text[..cut].chain(&text[cut..]));
+    is_reported(rt, alloc, &mut source, VIEW_HEX, 1 << 40, status, written)
 }
 
 // An octet is two digits in either case, and blanks stand anywhere. Wrong octets, and a digit left at the end, are refused
 // at their place. The rows with more than one octet are the body of a frame under an id without a row.
 #[test]
 fn hexadecimal_input(rt: HostRuntime) {
-    let rows: [(&[u8], Status, &str); 14] = [
+    let rows: &[(&[u8], Status, &str)] = &[
         (b"", Status::Done, "frames=0 refused=0\n"),
         (b"7e 7", Status::Refused, "hex refused at 4\n"),
         (b"7e0", Status::Refused, "hex refused at 3\n"),
@@ -115,15 +154,12 @@ fn hexadecimal_input(rt: HostRuntime) {
         (b" \n", Status::Done, "frames=0 refused=0\n"),
         (b"f", Status::Refused, "hex refused at 1\n"),
     ];
-    for (text, status, written) in rows {
+    for &(text, status, written) in rows {
         for cut in 0..=text.len() {
-            let mut source = StdSource::new(text[..cut].chain(&text[cut..]));
-            let mut sink = MemSink::new(rt.alloc(), 200, Seq::new(rt.alloc())).expect(
-                &rt, "a sink",
+            assert!(rt;
+                is_viewed(&rt, rt.alloc(), text, cut, status, written),
+                "{written}"
             );
-            let ended = report(rt.alloc(), &mut source, &mut sink, VIEW_HEX, 1 << 40);
-            assert_eq!(rt; ended, status, "{written}");
-            assert_eq!(rt; sink.octets(), written.as_bytes(), "{written}");
         }
     }
 }

@@ -1,3 +1,5 @@
+ghost use Rattle.std.specs.Prelude.{◌<◌, ◌^◌, length};
+
 use jt_codec::{Message, MessageView, read_body, view_message};
 use jt_header::{Header, Packet};
 use jt_position::{view_batch, view_position};
@@ -41,6 +43,10 @@ fn expect(rt: &impl Abort, alloc: Global, id: u16, body: &[u8], written: &str) {
     );
 }
 
+fn octets(rt: &impl Abort, alloc: Global, octets: &[u8]) -> Octets {
+    Octets::from_vec(Vec::from_slice(alloc, octets).expect(rt, "octets"))
+}
+
 // Compares the line of a message.
 fn expect_line(
     rt: &impl Abort,
@@ -52,12 +58,12 @@ fn expect_line(
     written: &str,
 ) {
     let line = view_line(alloc, place, header, message, size).expect(rt, "a line");
-    assert_eq!(rt; line.as_slice(), written.as_bytes());
+    assert!(rt; line.as_slice() == written.as_bytes());
 }
 
 #[test]
 fn responses_and_registrations(rt: HostRuntime) {
-    let rows: [(u16, &[u8], &str); 7] = [
+    let rows: &[(u16, &[u8], &str)] = &[
         (
             0x0001,
             b"\0\x07\x81\x03\x03",
@@ -94,14 +100,14 @@ fn responses_and_registrations(rt: HostRuntime) {
             "7 2013 0x0102 auth phone=013912345678 serial=3 body=0 code=-\n",
         ),
     ];
-    for (id, body, written) in rows {
+    for &(id, body, written) in rows {
         expect(&rt, rt.alloc(), id, body, written);
     }
 }
 
 #[test]
 fn positions_and_batches(rt: HostRuntime) {
-    let rows: [(u16, &[u8], &str); 4] = [
+    let rows: &[(u16, &[u8], &str)] = &[
         (
             0x0200,
             b"\0\0\0\x01\0\x0c\0\x03\x01\x31\x2d\0\x06\xbc\x3e\x40\0\x64\x02\x58\0\x5a\x24\x02\x29\x23\x59\x59\x01\x04\0\0\0\x0a\x02\x02\0\x05\x03\x02\x01\0\x04\x02\0\x01\x11\x01\x01\x11\x05\x02\0\0\0\x07\x12\x06\x01\0\0\0\x08\x01\x13\x07\0\0\0\x09\0\x3c\x01\x25\x04\0\0\0\x80\x2a\x02\0\x03\x2b\x04\0\x01\0\x02\x30\x01\x1f\x31\x01\x0c\x14\x04\0\0\0\x01\xe0\0",
@@ -123,14 +129,14 @@ fn positions_and_batches(rt: HostRuntime) {
             "7 2013 0x0704 batch phone=013912345678 serial=3 body=67 count=2 kind=0 length=28 alarm=0x00000001 status=0x000c0003 lat=20000000 lon=113000000 altitude=100 speed=600 direction=90 time=2024-02-29T23:59:59+08:00 length=32 alarm=0x00000000 status=0x00000000 lat=0 lon=0 altitude=0 speed=0 direction=0 time=- item=0x02:5\n",
         ),
     ];
-    for (id, body, written) in rows {
+    for &(id, body, written) in rows {
         expect(&rt, rt.alloc(), id, body, written);
     }
 }
 
 #[test]
 fn parameters(rt: HostRuntime) {
-    let rows: [(u16, &[u8], &str); 4] = [
+    let rows: &[(u16, &[u8], &str)] = &[
         (
             0x8103,
             b"\x04\0\0\0\x81\x02\0\x2c\0\0\0\x84\x01\x02\0\0\0\x01\x02\0\x3c\0\0\0\x83\0",
@@ -152,14 +158,14 @@ fn parameters(rt: HostRuntime) {
             "7 2013 0x0104 params phone=013912345678 serial=3 body=20 reply=7 count=2 param=0x00000001:60 param=0x00000013:616263\n",
         ),
     ];
-    for (id, body, written) in rows {
+    for &(id, body, written) in rows {
         expect(&rt, rt.alloc(), id, body, written);
     }
 }
 
 #[test]
 fn tracks_texts_and_orders(rt: HostRuntime) {
-    let rows: [(u16, &[u8], &str); 4] = [
+    let rows: &[(u16, &[u8], &str)] = &[
         (
             0x8202,
             b"\0\0",
@@ -181,9 +187,13 @@ fn tracks_texts_and_orders(rt: HostRuntime) {
             "7 2013 0x8105 control phone=013912345678 serial=3 body=1 command=3 text=-\n",
         ),
     ];
-    for (id, body, written) in rows {
+    for &(id, body, written) in rows {
         expect(&rt, rt.alloc(), id, body, written);
     }
+}
+
+#[test]
+fn a_text_of_a_kind(rt: HostRuntime) {
     let text = Message::Text {
         flag: 1,
         kind: Some(2),
@@ -195,7 +205,7 @@ fn tracks_texts_and_orders(rt: HostRuntime) {
 
 #[test]
 fn regions_and_their_deletion(rt: HostRuntime) {
-    let rows: [(u16, &[u8], &str); 7] = [
+    let rows: &[(u16, &[u8], &str)] = &[
         (
             0x8600,
             b"\x01\x01\0\0\0\x09\0\0\x01\x31\x2d\0\x06\xbc\x3e\x40\0\0\0\x64",
@@ -232,21 +242,19 @@ fn regions_and_their_deletion(rt: HostRuntime) {
             "7 2013 0x8607 delete-routes phone=013912345678 serial=3 body=9 count=2 id=9 id=256\n",
         ),
     ];
-    for (id, body, written) in rows {
+    for &(id, body, written) in rows {
         expect(&rt, rt.alloc(), id, body, written);
     }
 }
 
 #[test]
 fn an_authentication_with_a_tail(rt: HostRuntime) {
-    let code = Vec::from_slice(rt.alloc(), b"12").expect(&rt, "a code");
-    let auth = Auth {
-        code: Octets::from_vec(code),
-        tail: Some(AuthTail {
-            imei: [b'3'; 15],
-            software: [0; 20],
-        }),
-    };
+    let code = octets(&rt, rt.alloc(), b"12");
+    let tail = Some(AuthTail {
+        imei: [b'3'; 15],
+        software: [0; 20],
+    });
+    let auth = Message::Auth(Auth { code, tail });
     let written =
         "0 2013 0x0102 auth phone=013912345678 serial=3 body=38 length=2 code=3132 imei=333333333333333333333333333333 software=0000000000000000000000000000000000000000\n";
     expect_line(
@@ -254,34 +262,33 @@ fn an_authentication_with_a_tail(rt: HostRuntime) {
         rt.alloc(),
         0,
         &header(0x0102, None),
-        &Message::Auth(auth),
+        &auth,
         38,
         written,
     );
 }
 
-// A packet has the name of its id, and prints its octets. Digits of 257 octets do not fit into a line's room.
+// Digits of 257 octets do not fit into a line's room.
+const LONG: &[u8] =
+    b"AAAAAAAAAAAAAAAAAAAAAAAAAAAAAAAAAAAAAAAAAAAAAAAAAAAAAAAAAAAAAAAAAAAAAAAAAAAAAAAAAAAAAAAAAAAAAAAAAAAAAAAAAAAAAAAAAAAAAAAAAAAAAAAAAAAAAAAAAAAAAAAAAAAAAAAAAAAAAAAAAAAAAAAAAAAAAAAAAAAAAAAAAAAAAAAAAAAAAAAAAAAAAAAAAAAAAAAAAAAAAAAAAAAAAAAAAAAAAAAAAAAAAAAAAAAAAAAAB";
+
+const PART: &str =
+    "5 2013 0x8606 route phone=013912345678 serial=3 packet=1/3 body=257 part=4141414141414141414141414141414141414141414141414141414141414141414141414141414141414141414141414141414141414141414141414141414141414141414141414141414141414141414141414141414141414141414141414141414141414141414141414141414141414141414141414141414141414141414141414141414141414141414141414141414141414141414141414141414141414141414141414141414141414141414141414141414141414141414141414141414141414141414141414141414141414141414141414141414141414141414141414141414141414141414141414141414141414141414141414141414142\n";
+
+// A packet has the name of its id, and prints its octets.
 #[test]
-fn parts_and_opaque_bodies(rt: HostRuntime) {
+fn a_part(rt: HostRuntime) {
     let packet = Some(Packet {
         total: 3,
         number: 1,
     });
-    let octets =
-        b"AAAAAAAAAAAAAAAAAAAAAAAAAAAAAAAAAAAAAAAAAAAAAAAAAAAAAAAAAAAAAAAAAAAAAAAAAAAAAAAAAAAAAAAAAAAAAAAAAAAAAAAAAAAAAAAAAAAAAAAAAAAAAAAAAAAAAAAAAAAAAAAAAAAAAAAAAAAAAAAAAAAAAAAAAAAAAAAAAAAAAAAAAAAAAAAAAAAAAAAAAAAAAAAAAAAAAAAAAAAAAAAAAAAAAAAAAAAAAAAAAAAAAAAAAAAAAAAAB".as_slice();
-    let octets = Vec::from_slice(rt.alloc(), octets).expect(&rt, "octets");
-    let part = Message::Part(Octets::from_vec(octets));
-    let written =
-        "5 2013 0x8606 route phone=013912345678 serial=3 packet=1/3 body=257 part=4141414141414141414141414141414141414141414141414141414141414141414141414141414141414141414141414141414141414141414141414141414141414141414141414141414141414141414141414141414141414141414141414141414141414141414141414141414141414141414141414141414141414141414141414141414141414141414141414141414141414141414141414141414141414141414141414141414141414141414141414141414141414141414141414141414141414141414141414141414141414141414141414141414141414141414141414141414141414141414141414141414141414141414141414141414142\n";
-    expect_line(
-        &rt,
-        rt.alloc(),
-        5,
-        &header(0x8606, packet),
-        &part,
-        257,
-        written,
-    );
+    let header = header(0x8606, packet);
+    let part = Message::Part(octets(&rt, rt.alloc(), LONG));
+    expect_line(&rt, rt.alloc(), 5, &header, &part, 257, PART);
+}
+
+#[test]
+fn an_opaque_body(rt: HostRuntime) {
     let opaque = Message::Opaque {
         id: 0x8003,
         body: Octets::new(rt.alloc()),
@@ -298,9 +305,20 @@ fn parts_and_opaque_bodies(rt: HostRuntime) {
     );
 }
 
+// Compares the line of a refusal at place 4.
+fn expect_refusal(rt: &impl Abort, alloc: Global, why: Why, written: &str) {
+    let refusal = Refusal {
+        at: 4,
+        inside: 12,
+        why,
+    };
+    let line = refusal_line(alloc, &refusal).expect(rt, "a line");
+    assert!(rt; line.as_slice() == written.as_bytes());
+}
+
 #[test]
 fn refusals(rt: HostRuntime) {
-    let rows: [(Why, &str); 3] = [
+    let rows: &[(Why, &str)] = &[
         (Why::BadEscape, "4+12 refused BadEscape\n"),
         (
             Why::CheckMismatch {
@@ -317,33 +335,53 @@ fn refusals(rt: HostRuntime) {
             "4+12 refused LengthMismatch declared=1 actual=1023\n",
         ),
     ];
-    for (why, written) in rows {
-        let refusal = Refusal {
-            at: 4,
-            inside: 12,
-            why,
-        };
-        let line = refusal_line(rt.alloc(), &refusal).expect(&rt, "a line");
-        assert_eq!(rt; line.as_slice(), written.as_bytes());
+    for &(why, written) in rows {
+        expect_refusal(&rt, rt.alloc(), why, written);
     }
+}
+
+// A body that is read in place.
+fn view_of<'a>(rt: &impl Abort, header: &Header, body: &'a [u8]) -> MessageView<'a>
+    requires { length body.now < 2 ^ 10 }
+{
+    view_message(header, body)
+        .expect(rt, "a view")
+        .expect(rt, "a message")
+}
+
+// Puts a line at the end of a text.
+fn push_view(
+    rt: &impl Abort,
+    text: &mut String,
+    line: &mut Line,
+    place: u64,
+    header: &Header,
+    view: MessageView<'_>,
+    size: u16,
+) {
+    push_message_view_line(text, line, place, header, view, size).expect(rt, "room");
 }
 
 // Reads a body in place, and compares its line.
 fn expect_in_place(rt: &impl Abort, alloc: Global, header: &Header, body: &[u8], written: &str) {
     assert!(rt; body.len() < 1024);
-    let mut line = Line::new();
+    let view = view_of(rt, header, body);
     let mut text = String::new(alloc);
-    let answer = view_message(header, body).expect(rt, "a view");
-    let view = answer.expect(rt, "a message");
-    push_message_view_line(&mut text, &mut line, 7, header, view, body.len() as u16).expect(
-        rt, "room",
+    push_view(
+        rt,
+        &mut text,
+        &mut Line::new(),
+        7,
+        header,
+        view,
+        body.len() as u16,
     );
-    assert_eq!(rt; text.as_str(), written);
+    assert!(rt; text.as_str() == written);
 }
 
 #[test]
 fn orders_in_place(rt: HostRuntime) {
-    let rows: [(u16, &[u8], &str); 7] = [
+    let rows: &[(u16, &[u8], &str)] = &[
         (
             0x0003,
             b"",
@@ -380,7 +418,7 @@ fn orders_in_place(rt: HostRuntime) {
             "7 2013 0x8105 control phone=013912345678 serial=3 body=3 command=3 text=d600\n",
         ),
     ];
-    for (id, body, written) in rows {
+    for &(id, body, written) in rows {
         expect_in_place(&rt, rt.alloc(), &header(id, None), body, written);
     }
 }
@@ -410,103 +448,118 @@ fn a_text_of_2019_in_place(rt: HostRuntime) {
     );
 }
 
-// A batch of two positions, of 33 and 28 octets, and a refusal.
-#[test]
-fn a_batch_in_place(rt: HostRuntime) {
-    let mut line = Line::new();
-    let mut text = String::new(rt.alloc());
-    let body =
-        b"\0\x02\x01\0\x21\0\0\0\0\0\0\0\x03\x01\x31\x2d\0\x06\xbc\x3e\x40\0\0\0\0\0\0\0\0\0\0\0\0\x01\x03\0\0\x0a\0\x1c\0\0\0\0\0\0\0\x03\x01\x31\x2d\0\x06\xbc\x3e\x40\0\x0a\0\0\0\0\x24\x03\x05\x12\x34\x56";
-    let view = view_batch(body).expect(&rt, "a batch");
-    let view = MessageView::Batch(view);
-    push_message_view_line(&mut text, &mut line, 7, &header(0x0704, None), view, 68).expect(
-        &rt, "room",
-    );
+// Two positions, of 33 and 28 octets.
+const BATCH: &[u8] =
+    b"\0\x02\x01\0\x21\0\0\0\0\0\0\0\x03\x01\x31\x2d\0\x06\xbc\x3e\x40\0\0\0\0\0\0\0\0\0\0\0\0\x01\x03\0\0\x0a\0\x1c\0\0\0\0\0\0\0\x03\x01\x31\x2d\0\x06\xbc\x3e\x40\0\x0a\0\0\0\0\x24\x03\x05\x12\x34\x56";
+
+const BATCH_AND_REFUSAL: &str =
+    "7 2013 0x0704 batch phone=013912345678 serial=3 body=68 count=2 kind=1 length=33 alarm=0x00000000 status=0x00000003 lat=20000000 lon=113000000 altitude=0 speed=0 direction=0 time=- item=0x01:00000a length=28 alarm=0x00000000 status=0x00000003 lat=20000000 lon=113000000 altitude=10 speed=0 direction=0 time=2024-03-05T12:34:56+08:00\n90+0 refused Stray\n";
+
+fn push_batch(rt: &impl Abort, text: &mut String, line: &mut Line) {
+    let view = view_batch(BATCH).expect(rt, "a batch");
+    let header = header(0x0704, None);
+    push_view(rt, text, line, 7, &header, MessageView::Batch(view), 68);
+}
+
+fn push_stray(rt: &impl Abort, text: &mut String, line: &mut Line) {
     let refusal = Refusal {
         at: 90,
         inside: 0,
         why: Why::Stray,
     };
-    push_refusal_line_with(&mut text, &mut line, &refusal).expect(&rt, "room");
-    assert_eq!(rt;
-        text.as_str(),
-        "7 2013 0x0704 batch phone=013912345678 serial=3 body=68 count=2 kind=1 length=33 alarm=0x00000000 status=0x00000003 lat=20000000 lon=113000000 altitude=0 speed=0 direction=0 time=- item=0x01:00000a length=28 alarm=0x00000000 status=0x00000003 lat=20000000 lon=113000000 altitude=10 speed=0 direction=0 time=2024-03-05T12:34:56+08:00\n90+0 refused Stray\n"
-    );
+    push_refusal_line_with(text, line, &refusal).expect(rt, "room");
+}
+
+// A batch and a refusal.
+#[test]
+fn a_batch_in_place(rt: HostRuntime) {
+    let mut line = Line::new();
+    let mut text = String::new(rt.alloc());
+    push_batch(&rt, &mut text, &mut line);
+    push_stray(&rt, &mut text, &mut line);
+    assert!(rt; text.as_str() == BATCH_AND_REFUSAL);
+}
+
+const UNREAD: &[u8] = b"\x41\0\x7f\xff\x10\x11\x12\x13\x14\x15\x16\x17\x18\x19\x1a\x1b\x1c\x1d";
+
+const RESPONSES_AND_UNREAD: &str =
+    "0 2013 0x0001 terminal-ack phone=013912345678 serial=3 body=5 reply=65535 id=0x8103 result=3\n20 2013 0x8001 platform-ack phone=013912345678 serial=3 body=5 reply=9 id=0x0200 result=0\n40 2013 0x0900 opaque phone=013912345678 serial=3 body=18 body-octets=41007fff101112131415161718191a1b1c1d\n73 2013 0x0104 params phone=013912345678 serial=3 packet=2/3 body=3 part=c00d7e\n";
+
+fn push_terminal_ack(rt: &impl Abort, text: &mut String, line: &mut Line) {
+    let response = MessageView::TerminalAck {
+        reply: 65_535,
+        id: 0x8103,
+        result: 3,
+    };
+    push_view(rt, text, line, 0, &header(0x0001, None), response, 5);
+}
+
+fn push_platform_ack(rt: &impl Abort, text: &mut String, line: &mut Line) {
+    let response = MessageView::PlatformAck {
+        reply: 9,
+        id: 0x0200,
+        result: 0,
+    };
+    push_view(rt, text, line, 20, &header(0x8001, None), response, 5);
+}
+
+fn push_unread(rt: &impl Abort, text: &mut String, line: &mut Line) {
+    let opaque = MessageView::Opaque {
+        id: 0x0900,
+        body: UNREAD,
+    };
+    push_view(rt, text, line, 40, &header(0x0900, None), opaque, 18);
+}
+
+fn push_part(rt: &impl Abort, text: &mut String, line: &mut Line) {
+    let packet = Some(Packet {
+        total: 3,
+        number: 2,
+    });
+    let part = MessageView::Part(b"\xc0\x0d\x7e");
+    push_view(rt, text, line, 73, &header(0x0104, packet), part, 3);
 }
 
 #[test]
 fn lines_of_responses_and_unread_octets(rt: HostRuntime) {
     let mut line = Line::new();
     let mut text = String::new(rt.alloc());
-    let response = MessageView::TerminalAck {
-        reply: 65_535,
-        id: 0x8103,
-        result: 3,
-    };
-    push_message_view_line(&mut text, &mut line, 0, &header(0x0001, None), response, 5).expect(
-        &rt, "room",
-    );
-    let response = MessageView::PlatformAck {
-        reply: 9,
-        id: 0x0200,
-        result: 0,
-    };
-    push_message_view_line(&mut text, &mut line, 20, &header(0x8001, None), response, 5).expect(
-        &rt, "room",
-    );
-    let body = b"\x41\0\x7f\xff\x10\x11\x12\x13\x14\x15\x16\x17\x18\x19\x1a\x1b\x1c\x1d";
-    let opaque = MessageView::Opaque { id: 0x0900, body };
-    push_message_view_line(&mut text, &mut line, 40, &header(0x0900, None), opaque, 18).expect(
-        &rt, "room",
-    );
-    let packet = Some(Packet {
-        total: 3,
-        number: 2,
-    });
-    let part = MessageView::Part(b"\xc0\x0d\x7e");
-    push_message_view_line(&mut text, &mut line, 73, &header(0x0104, packet), part, 3).expect(
-        &rt, "room",
-    );
-    assert_eq!(rt;
-        text.as_str(),
-        "0 2013 0x0001 terminal-ack phone=013912345678 serial=3 body=5 reply=65535 id=0x8103 result=3\n20 2013 0x8001 platform-ack phone=013912345678 serial=3 body=5 reply=9 id=0x0200 result=0\n40 2013 0x0900 opaque phone=013912345678 serial=3 body=18 body-octets=41007fff101112131415161718191a1b1c1d\n73 2013 0x0104 params phone=013912345678 serial=3 packet=2/3 body=3 part=c00d7e\n"
-    );
+    push_terminal_ack(&rt, &mut text, &mut line);
+    push_platform_ack(&rt, &mut text, &mut line);
+    push_unread(&rt, &mut text, &mut line);
+    push_part(&rt, &mut text, &mut line);
+    assert!(rt; text.as_str() == RESPONSES_AND_UNREAD);
 }
 
-// A position read in place and a message without fields, one after the other in one room.
+const POSITION: &[u8] =
+    b"\0\0\0\0\0\0\0\x03\x01\x31\x2d\0\x06\xbc\x3e\x40\0\0\0\0\0\0\x24\x03\x05\x12\x34\x56\x01\x04\0\0\0\x0a\x30\x01\x19\x01\x03\0\0\x0a";
+
+const POSITION_AND_EMPTY: &str =
+    "0 2013 0x0200 position phone=013912345678 serial=3 body=42 alarm=0x00000000 status=0x00000003 lat=20000000 lon=113000000 altitude=0 speed=0 direction=0 time=2024-03-05T12:34:56+08:00 item=0x01:10 item=0x30:25 item=0x01:00000a\n57 2013 0x0002 heartbeat phone=013912345678 serial=3 body=0\n72 2013 0x0003 deregister phone=013912345678 serial=3 body=0\n";
+
+fn push_position(rt: &impl Abort, text: &mut String, line: &mut Line) {
+    let view = view_position(POSITION).expect(rt, "a position");
+    let header = header(0x0200, None);
+    push_view(rt, text, line, 0, &header, MessageView::Position(view), 42);
+}
+
+fn push_heartbeat(rt: &impl Abort, text: &mut String, line: &mut Line) {
+    let header = header(0x0002, None);
+    push_view(rt, text, line, 57, &header, MessageView::Heartbeat, 0);
+}
+
+fn push_deregister(rt: &impl Abort, text: &mut String, line: &mut Line) {
+    let deregister = Message::Deregister;
+    push_message_line(text, line, 72, &header(0x0003, None), &deregister, 0).expect(rt, "room");
+}
+
+// A position read in place and two messages without fields, one after the other in one room.
 #[test]
 fn lines_in_one_room(rt: HostRuntime) {
     let mut line = Line::new();
     let mut text = String::new(rt.alloc());
-    let body =
-        b"\0\0\0\0\0\0\0\x03\x01\x31\x2d\0\x06\xbc\x3e\x40\0\0\0\0\0\0\x24\x03\x05\x12\x34\x56\x01\x04\0\0\0\x0a\x30\x01\x19\x01\x03\0\0\x0a";
-    let view = view_position(body).expect(&rt, "a position");
-    let view = MessageView::Position(view);
-    push_message_view_line(&mut text, &mut line, 0, &header(0x0200, None), view, 42).expect(
-        &rt, "room",
-    );
-    let heartbeat = MessageView::Heartbeat;
-    push_message_view_line(
-        &mut text,
-        &mut line,
-        57,
-        &header(0x0002, None),
-        heartbeat,
-        0,
-    )
-    .expect(&rt, "room");
-    let deregister = Message::Deregister;
-    push_message_line(
-        &mut text,
-        &mut line,
-        72,
-        &header(0x0003, None),
-        &deregister,
-        0,
-    )
-    .expect(&rt, "room");
-    assert_eq!(rt;
-        text.as_str(),
-        "0 2013 0x0200 position phone=013912345678 serial=3 body=42 alarm=0x00000000 status=0x00000003 lat=20000000 lon=113000000 altitude=0 speed=0 direction=0 time=2024-03-05T12:34:56+08:00 item=0x01:10 item=0x30:25 item=0x01:00000a\n57 2013 0x0002 heartbeat phone=013912345678 serial=3 body=0\n72 2013 0x0003 deregister phone=013912345678 serial=3 body=0\n"
-    );
+    push_position(&rt, &mut text, &mut line);
+    push_heartbeat(&rt, &mut text, &mut line);
+    push_deregister(&rt, &mut text, &mut line);
+    assert!(rt; text.as_str() == POSITION_AND_EMPTY);
 }
