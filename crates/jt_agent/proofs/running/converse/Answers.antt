@@ -1,0 +1,21 @@
+use Rattle.std.proofs.Common.{refl, arith}
+use Rattle.std.proofs.lemmas.Grind.{common_steps}
+use Rattle.jt_agent.proofs.Going.{StepLaws, goes_begin, goes_open, goes_read, goes_wait, goes_tick, ends_begin, ends_open, ends_read, ends_tick, ends_end, ends_link, ends_idle, ends_spent, quiet_more, quiet_from, quiet_kept, goes_count, late_still, vault_then, vault_else}
+use Rattle.jt_agent.proofs.running.converse.Goals as goal
+
+pub returns-in-Some-clause-ends : goal.returns-in-Some-clause-ends
+returns-in-Some-clause-ends g c =
+    ends_begin record { sends_law = c.law_steps.ensures.sends; holds_law = c.law_steps.ensures.holds } _ _ _ _ _ _ _ c.in-Some.ensures.ticks
+    record { inbound = c.in-Some.ensures.inbound; faults = c.in-Some.ensures.count; vault = c.in-Some.ensures.vault.later; settings = c.in-Some.ensures.settings }
+
+pub returns-in-End-clause-ends : goal.returns-in-End-clause-ends
+returns-in-End-clause-ends g c =
+    ends_end _ _ _ _ _ _ _ _ _ c.loop-taken.invariant.2 c.loop-taken.invariant.0 c.in-End.ensures.octets.1
+    record { written = c.in-End.ensures.written; faults = c.in-End.ensures.cause.faults; quiets = c.in-End.ensures.cause.quiets; state = refl; held = refl; vault = refl }
+    c.in-End.ensures.octets.0
+
+pub returns-in-Failed-clause-ends : goal.returns-in-Failed-clause-ends
+returns-in-Failed-clause-ends g c =
+    ends_link record { sends_law = c.law_steps.ensures.sends; holds_law = c.law_steps.ensures.holds } _ _ _ _ _ _ _ _ _ c.loop-taken.invariant.2 c.loop-taken.invariant.0 c.in-Failed.ensures.octets.0
+    record { written = c.in-Failed.ensures.written; faults = c.in-Failed.ensures.cause.faults; quiets = c.in-Failed.ensures.cause.quiets; state = refl; held = refl; vault = refl }
+    (c.in-Failed.ensures.cause.failed refl)
