@@ -1,4 +1,4 @@
-use Rattle.std.proofs.Common.{refl, arith}
+use Rattle.std.proofs.Common.{refl, arith, ap, Some}
 use Rattle.std.proofs.lemmas.Grind.{common_steps}
 use Rattle.jt_agent.proofs.Going.{StepLaws, goes_begin, goes_open, goes_read, goes_wait, goes_tick, ends_begin, ends_open, ends_read, ends_tick, ends_end, ends_link, ends_idle, ends_spent, quiet_more, quiet_from, quiet_kept, goes_count, late_still, vault_then, vault_else}
 use Rattle.jt_agent.proofs.running.converse.Goals as goal
@@ -19,3 +19,29 @@ returns-in-Failed-clause-ends g c =
     ends_link record { sends_law = c.law_steps.ensures.sends; holds_law = c.law_steps.ensures.holds } _ _ _ _ _ _ _ _ _ c.loop-taken.invariant.2 c.loop-taken.invariant.0 c.in-Failed.ensures.octets.0
     record { written = c.in-Failed.ensures.written; faults = c.in-Failed.ensures.cause.faults; quiets = c.in-Failed.ensures.cause.quiets; state = refl; held = refl; vault = refl }
     (c.in-Failed.ensures.cause.failed refl)
+
+pub returns-clause-ends : goal.returns-clause-ends
+returns-clause-ends g c = ends_spent _ _ _ _ _ _ _ _ (omega (arith, c.loop-taken-test.false, c.loop-taken.invariant.2)) c.loop-taken.invariant.0
+
+pub returns-in-Some-tell-clause-ends : goal.returns-in-Some-tell-clause-ends
+returns-in-Some-tell-clause-ends g c =
+    let laws : StepLaws = record { sends_law = c.law_steps.ensures.sends; holds_law = c.law_steps.ensures.holds } in
+    ends_open laws _ _ _ _ _ _ _ _ _ _ (omega arith)
+    (goes_begin laws _ _ _ _ _ c.new-line.ensures.stands c.new-line.ensures.place c.in_default.ensures.ticks
+        record { inbound = c.in_default.ensures.inbound; faults = c.in_default.ensures.count; vault = c.in_default.ensures.vault.later; settings = c.in_default.ensures.settings } c.in_default.ensures.late)
+    c.in-Some-tell.ensures.comes
+    record { inbound = c.in-Some-tell.ensures.inbound; faults = c.in-Some-tell.ensures.count; vault = c.in-Some-tell.ensures.vault.later; settings = c.in-Some-tell.ensures.settings }
+
+pub loop-taken-init : goal.loop-taken-init
+loop-taken-init g c =
+    let laws : StepLaws = record { sends_law = c.law_steps.ensures.sends; holds_law = c.law_steps.ensures.holds } in
+    let goes =
+    goes_open laws _ _ _ _ _ _ _
+        (goes_begin laws _ _ _ _ _ c.new-line.ensures.stands c.new-line.ensures.place c.in_default.ensures.ticks
+            record { inbound = c.in_default.ensures.inbound; faults = c.in_default.ensures.count; vault = c.in_default.ensures.vault.later; settings = c.in_default.ensures.settings } c.in_default.ensures.late)
+        c.in_default-tell.ensures.comes
+        record { inbound = c.in_default-tell.ensures.inbound; faults = c.in_default-tell.ensures.count; vault = c.in_default-tell.ensures.vault.later; settings = c.in_default-tell.ensures.settings }
+        (late_still _ _ _ c.in_default-tell.ensures.time c.in_default.ensures.late) in
+    (goes, quiet_from _ _ _ _ _ _ _ goes, omega arith, c.requires.quiets.0,
+    vault_then _ _ _ _ _ _ _ _ _ _ _ _ c.in_default.ensures.vault c.in_default-tell.ensures.vault (λ z. absurd z),
+    c.in_default-tell.ensures.settings ∙ c.in_default.ensures.settings)
