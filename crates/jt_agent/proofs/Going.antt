@@ -1,5 +1,5 @@
 -- How an attempt comes on, and how it ends.
-use Rattle.std.proofs.Common.{◌≡◌, ◌⊎◌, inl, inr, ◌≤◌, ◌<◌, ◌+◌, ◌-◌, ◌*◌, ◌^◌, min, ℕ, List, [], ◌∷◌, ◌++◌, Option, Some, None, length, Bool, false, refl, sym, ap, subst, ◌∙◌, length-append, append-nil, arith}
+use Rattle.std.proofs.Common.{◌≡◌, ◌⊎◌, inl, inr, ◌≤◌, ◌<◌, ◌+◌, ◌-◌, ◌*◌, ◌^◌, min, ℕ, List, [], ◌∷◌, ◌++◌, Option, Some, None, length, Bool, false, refl, sym, ap, subst, ◌∙◌, length-append, append-nil, append_assoc, arith}
 use Rattle.std.proofs.KnownBytes.{Appends-nil, Appends-trans, Appends-kept, Consumes-nil, Consumes-trans, Consumes-kept}
 use Rattle.std.specs.Io.KnownBytes.{Appends, Consumes, IsAtEnd}
 use Rattle.std.specs.List.{flat_map}
@@ -222,7 +222,7 @@ part_written : StepLaws → (settings settings_now : Settings) (steps more : Lis
     → (front : List ℕ) × (rest : List ℕ) × (octets_of settings (steps ++ more) ≡ octets_of settings steps ++ front ++ rest) × Appends old next (octets_of settings steps ++ front)
 part_written laws settings settings_now steps more old now next same first second =
     let part = subst (λ s. AppendsPrefix now next (octets_of s more)) same second in
-    (part.0, part.1, octets_of-append laws settings steps more ∙ ap (λ l. octets_of settings steps ++ l) part.2,
+    (part.0, part.1, octets_of-append laws settings steps more ∙ ap (λ l. octets_of settings steps ++ l) part.2 ∙ sym (append_assoc (octets_of settings steps) part.0 part.1),
     Appends-trans old now next (octets_of settings steps) part.0 first part.3)
 
 exit_moved : StepLaws → (moves : List Move) (move : Move) (read : List ℕ) (octets quiets : ℕ) (old now next : Scene) (ended : Attempted)
@@ -427,7 +427,7 @@ ends_end octets quiets old now next time time_now line taken few goes none reads
 
 -- all that a course says is all before its last move, and all of that one's octets
 parts_of : StepLaws → (settings : Settings) (first more : List Step) → octets_of settings (first ++ more) ≡ octets_of settings first ++ octets_of settings more ++ []
-parts_of laws settings first more = octets_of-append laws settings first more ∙ ap (λ l. octets_of settings first ++ l) (sym (append-nil (octets_of settings more)))
+parts_of laws settings first more = octets_of-append laws settings first more ∙ sym (append-nil (octets_of settings first ++ octets_of settings more))
 
 part_all : StepLaws → (t : State) (moves : List Move) (old now : Option (List ℕ)) → Appends old now (said t moves) → WritesPart t moves old now
 part_all laws t [] old now wrote = record { front = []; rest = []; parts = refl; writes = wrote }
@@ -444,7 +444,7 @@ part_all laws t (Reads octets ∷ older) old now wrote =
     let r = made c.state c.read (Reads octets) in
     record { front = octets_of t.settings r.steps; rest = []; parts = parts_of laws t.settings c.steps r.steps; writes = subst (Appends old now) (octets_of-append laws t.settings c.steps r.steps) wrote }
 part_all laws t (Waits ∷ older) old now wrote =
-    record { front = []; rest = []; parts = sym (append-nil (said t older)); writes = subst (Appends old now) (sym (append-nil (said t older))) wrote }
+    record { front = []; rest = []; parts = sym (append-nil (said t older)) ∙ sym (append-nil (said t older ++ [])); writes = subst (Appends old now) (sym (append-nil (said t older))) wrote }
 
 pub ends_link : StepLaws → (octets quiets : ℕ) (old now next : Scene) (time time_now : Time) (line : LineValue) (taken : ℕ) → taken ≤ octets
     → GoesOn ARead old now time time_now line taken → GivesNone now.link.inbound next.link.inbound → ReadsLink now next → Rose now.link.faults next.link.faults

@@ -1,4 +1,4 @@
-use Rattle.std.proofs.Common.{refl, arith, ap, Some}
+use Rattle.std.proofs.Common.{refl, arith, ◌∙◌}
 use Rattle.std.proofs.lemmas.Grind.{common_steps}
 use Rattle.jt_agent.proofs.Going.{StepLaws, goes_begin, goes_open, goes_read, goes_wait, goes_tick, ends_begin, ends_open, ends_read, ends_tick, ends_end, ends_link, ends_idle, ends_spent, quiet_more, quiet_from, quiet_kept, goes_count, late_still, vault_then, vault_else}
 use Rattle.jt_agent.proofs.running.converse.Goals as goal
@@ -45,3 +45,64 @@ loop-taken-init g c =
     (goes, quiet_from _ _ _ _ _ _ _ goes, omega arith, c.requires.quiets.0,
     vault_then _ _ _ _ _ _ _ _ _ _ _ _ c.in_default.ensures.vault c.in_default-tell.ensures.vault (λ z. absurd z),
     c.in_default-tell.ensures.settings ∙ c.in_default.ensures.settings)
+
+pub returns-in-Some-hear-clause-ends : goal.returns-in-Some-hear-clause-ends
+returns-in-Some-hear-clause-ends g c =
+    let laws : StepLaws = record { sends_law = c.law_steps.ensures.sends; holds_law = c.law_steps.ensures.holds } in
+    ends_read laws _ _ _ _ _ _ _ _ _ _ _ _ (grind (arith, common_steps)) c.loop-taken.invariant.0 c.in-Bytes.ensures.octets.2
+    record { written = c.in-Bytes.ensures.written; faults = c.in-Bytes.ensures.cause.faults; quiets = c.in-Bytes.ensures.cause.quiets; state = refl; held = refl; vault = refl }
+    c.in-Some-hear.ensures.comes
+    record { inbound = c.in-Some-hear.ensures.inbound; faults = c.in-Some-hear.ensures.count; vault = c.in-Some-hear.ensures.vault.later; settings = c.in-Some-hear.ensures.settings }
+
+pub returns-in-Some-tick-clause-ends : goal.returns-in-Some-tick-clause-ends
+returns-in-Some-tick-clause-ends g c =
+    let laws : StepLaws = record { sends_law = c.law_steps.ensures.sends; holds_law = c.law_steps.ensures.holds } in
+    ends_tick laws _ _ _ _ _ _ _ _ _ _ _ (grind (arith, common_steps))
+    (goes_read laws _ _ _ _ _ _ _ _ _ _ c.loop-taken.invariant.0 c.in-Bytes.ensures.octets.2
+        record { written = c.in-Bytes.ensures.written; faults = c.in-Bytes.ensures.cause.faults; quiets = c.in-Bytes.ensures.cause.quiets; state = refl; held = refl; vault = refl }
+        c.in_default-hear.ensures.comes (λ seen stands. c.in_default-hear.ensures.line seen stands refl) c.in_default-hear.ensures.place
+        record { inbound = c.in_default-hear.ensures.inbound; faults = c.in_default-hear.ensures.count; vault = c.in_default-hear.ensures.vault.later; settings = c.in_default-hear.ensures.settings }
+        (late_still _ _ _ c.in_default-hear.ensures.time c.loop-taken.invariant.0.late))
+    c.in-Some-tick.ensures.ticks
+    record { inbound = c.in-Some-tick.ensures.inbound; faults = c.in-Some-tick.ensures.count; vault = c.in-Some-tick.ensures.vault.later; settings = c.in-Some-tick.ensures.settings }
+
+pub loop-taken-preserved-in_default-tick : goal.loop-taken-preserved-in_default-tick
+loop-taken-preserved-in_default-tick g c =
+    let laws : StepLaws = record { sends_law = c.law_steps.ensures.sends; holds_law = c.law_steps.ensures.holds } in
+    let ticked =
+    goes_tick laws _ _ _ _ _ _ _ _
+        (goes_read laws _ _ _ _ _ _ _ _ _ _ c.loop-taken.invariant.0 c.in-Bytes.ensures.octets.2
+            record { written = c.in-Bytes.ensures.written; faults = c.in-Bytes.ensures.cause.faults; quiets = c.in-Bytes.ensures.cause.quiets; state = refl; held = refl; vault = refl }
+            c.in_default-hear.ensures.comes (λ seen stands. c.in_default-hear.ensures.line seen stands refl) c.in_default-hear.ensures.place
+            record { inbound = c.in_default-hear.ensures.inbound; faults = c.in_default-hear.ensures.count; vault = c.in_default-hear.ensures.vault.later; settings = c.in_default-hear.ensures.settings }
+            (late_still _ _ _ c.in_default-hear.ensures.time c.loop-taken.invariant.0.late))
+        c.in_default-tick.ensures.ticks
+        record { inbound = c.in_default-tick.ensures.inbound; faults = c.in_default-tick.ensures.count; vault = c.in_default-tick.ensures.vault.later; settings = c.in_default-tick.ensures.settings }
+        c.in_default-tick.ensures.late in
+    (goes_count _ _ _ _ _ _ _ _ ticked (grind (arith, common_steps)), quiet_from _ _ _ _ _ _ _ ticked, grind (arith, common_steps), c.requires.quiets.0,
+    vault_then _ _ _ _ _ _ _ _ _ _ _ _ (vault_then _ _ _ _ _ _ _ _ _ _ _ ⊥ c.loop-taken.invariant.4 c.in_default-hear.ensures.vault (λ z. absurd z)) c.in_default-tick.ensures.vault (λ z. absurd z),
+    c.in_default-tick.ensures.settings ∙ c.in_default-hear.ensures.settings ∙ c.loop-taken.invariant.5)
+
+pub returns-in-Some-tick-2-clause-ends : goal.returns-in-Some-tick-2-clause-ends
+returns-in-Some-tick-2-clause-ends g c =
+    let laws : StepLaws = record { sends_law = c.law_steps.ensures.sends; holds_law = c.law_steps.ensures.holds } in
+    ends_tick laws _ _ _ _ _ _ _ _ _ _ _ c.loop-taken.invariant.2
+    (goes_wait _ _ _ _ _ _ _ c.loop-taken.invariant.0 c.in-Quiet.ensures.octets.0 (c.in-Quiet.ensures.cause.quiet refl)
+        record { written = c.in-Quiet.ensures.written; faults = c.in-Quiet.ensures.cause.faults; quiets = c.in-Quiet.ensures.cause.quiets; state = refl; held = refl; vault = refl })
+    c.in-Some-tick-2.ensures.ticks
+    record { inbound = c.in-Some-tick-2.ensures.inbound; faults = c.in-Some-tick-2.ensures.count; vault = c.in-Some-tick-2.ensures.vault.later; settings = c.in-Some-tick-2.ensures.settings }
+
+pub loop-taken-preserved : goal.loop-taken-preserved
+loop-taken-preserved g c =
+    let laws : StepLaws = record { sends_law = c.law_steps.ensures.sends; holds_law = c.law_steps.ensures.holds } in
+    let ticked =
+    goes_tick laws _ _ _ _ _ _ _ _
+        (goes_wait _ _ _ _ _ _ _ c.loop-taken.invariant.0 c.in-Quiet.ensures.octets.0 (c.in-Quiet.ensures.cause.quiet refl)
+            record { written = c.in-Quiet.ensures.written; faults = c.in-Quiet.ensures.cause.faults; quiets = c.in-Quiet.ensures.cause.quiets; state = refl; held = refl; vault = refl })
+        c.in_default-tick-2.ensures.ticks
+        record { inbound = c.in_default-tick-2.ensures.inbound; faults = c.in_default-tick-2.ensures.count; vault = c.in_default-tick-2.ensures.vault.later; settings = c.in_default-tick-2.ensures.settings }
+        c.in_default-tick-2.ensures.late in
+    let quiet = quiet_more _ _ _ _ (omega (arith, c.loop-taken.invariant.3, c.requires.quiets.1)) c.loop-taken.invariant.1 c.in-Quiet.ensures.octets.1 (c.in-Quiet.ensures.cause.quiet refl) in
+    (ticked, quiet_kept _ _ _ _ quiet c.in_default-tick-2.ensures.inbound, c.loop-taken.invariant.2, omega (arith, c.loop-taken.invariant.3, c.if-quiet-quiets.false),
+    vault_then _ _ _ _ _ _ _ _ _ _ _ _ c.loop-taken.invariant.4 c.in_default-tick-2.ensures.vault (λ z. absurd z),
+    c.in_default-tick-2.ensures.settings ∙ c.loop-taken.invariant.5)
