@@ -5,8 +5,8 @@ use Rattle.jt_agent.specs.Attempt.{VaultStays}
 use Rattle.jt_agent.specs.Tries.{Tries, stage}
 use Rattle.jt_agent.proofs.reporting.report_all.Given as goal
 
-abbrev pub invariant-loop-ends : goal.invariant-loop-ends
-invariant-loop-ends g l =
+abbrev pub invariant-loop-alloc : goal.invariant-loop-alloc
+invariant-loop-alloc g l =
     Tries l.ends.items
     (stage l.fn.terminal.state (g.V.Vault.holds l.fn.terminal.vault) (g.V.Vault.faults l.fn.terminal.vault) (g.C.Clock.time l.fn.clock) (g.D.Dial.pool l.fn.dial) (g.D.Dial.faults l.fn.dial))
     (stage l.terminal.state (g.V.Vault.holds l.terminal.vault) (g.V.Vault.faults l.terminal.vault) (g.C.Clock.time l.clock) (g.D.Dial.pool l.dial) (g.D.Dial.faults l.dial))
@@ -16,5 +16,5 @@ invariant-loop-ends g l =
     × (l.terminal.state.settings ≡ l.fn.terminal.state.settings)
     × VaultStays (g.V.Vault.faults l.fn.terminal.vault) (g.V.Vault.faults l.terminal.vault) (g.V.Vault.limit l.fn.terminal.vault) (g.V.Vault.limit l.terminal.vault) (g.V.Vault.may_fail l.fn.terminal.vault) (g.V.Vault.may_fail l.terminal.vault) ⊥
 
-abbrev pub decreases-loop-ends : goal.decreases-loop-ends
-decreases-loop-ends g l = l.tries - length l.ends.items
+abbrev pub decreases-loop-alloc : goal.decreases-loop-alloc
+decreases-loop-alloc g l = l.tries - length l.ends.items
