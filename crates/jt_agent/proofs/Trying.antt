@@ -1,12 +1,15 @@
 -- Attempts one after another.
-use Rattle.std.proofs.Common.{◌≡◌, ◌⊎◌, inl, inr, ◌≤◌, ◌<◌, ◌+◌, ◌-◌, ◌^◌, min, ℕ, List, [], ◌∷◌, ◌++◌, false, refl, sym, subst, arith}
+use Rattle.std.proofs.Common.{◌≡◌, ◌⊎◌, inl, inr, ◌≤◌, ◌<◌, ◌+◌, ◌-◌, ◌^◌, min, ℕ, List, [], ◌∷◌, ◌++◌, false, refl, sym, ap, subst, ◌∙◌, length, length-append, arith}
+use Rattle.std.specs.Prelude.{◌↔◌, IsTrue}
 use Rattle.jt_io.specs.Count.{Rose, RoseBy}
-use Rattle.jt_agent.specs.Tries.{Stage, OverLink, NoLink, OneTry, Tries, Breaks, Reports, dials_in, ends_told}
+use Rattle.jt_terminal_rule.specs.declared.state.State.{State}
+use Rattle.jt_terminal_steps.specs.Running.{IsDone}
+use Rattle.jt_agent.specs.Tries.{Stage, OverLink, NoLink, OneTry, Tries, Breaks, dials_in}
 use Rattle.jt_agent.specs.Course.{is_done}
 use Rattle.jt_agent.specs.declared.ending.AttemptEnd.{AttemptEnd}
 use Rattle.jt_agent.specs.declared.ending.AttemptEnd.TheVariants as how
-use Rattle.jt_agent.specs.declared.reporting.Outcome.{Outcome}
-use Rattle.jt_agent.specs.declared.reporting.Outcome.TheVariants.{Done, Unsent, StoreFault, Memory}
+use Rattle.jt_agent.specs.declared.ending.Attempted.{Attempted}
+use Rattle.jt_agent.proofs.Concluding.{done_is}
 
 -- one more try that ended
 pub tries_more : (ends : List AttemptEnd) (end : AttemptEnd) (old mid now : Stage) → Tries ends old mid → is_done mid.state ≡ false → OneTry end mid now → Tries (ends ++ end ∷ []) old now
@@ -29,9 +32,6 @@ still n before mid now rose later = omega arith
 none : (before now : ℕ) → before ≤ now → RoseBy 0 before now
 none before now later = omega arith
 
-at_least : (n before now : ℕ) → RoseBy n before now → before ≤ 2 ^ 64 - 1 → before ≤ now
-at_least n before now rose fits = omega arith
-
 -- the count rose for each dial that failed
 dials_rose : (ends : List AttemptEnd) (old now : Stage) → Tries ends old now → RoseBy (dials_in ends) old.dial now.dial
 dials_rose [] old now tries = none old.dial now.dial (subst (λ (s : Stage). old.dial ≤ s.dial) (sym tries) (omega arith))
@@ -43,11 +43,37 @@ dials_rose (how.TimedOut since moment ∷ ends) old now tries = as_many (dials_i
 dials_rose (how.Idle ∷ ends) old now tries = as_many (dials_in ends) old.dial tries.1.dial now.dial tries.2.dial.later (dials_rose ends tries.1 now tries.3)
 dials_rose (how.Spent ∷ ends) old now tries = as_many (dials_in ends) old.dial tries.1.dial now.dial tries.2.dial.later (dials_rose ends tries.1 now tries.3)
 
-pub dials_reported : (tries : ℕ) (outcome : Outcome) (old now : Stage) → old.dial ≤ now.dial → Reports tries outcome old now → RoseBy (dials_in (ends_told outcome)) old.dial now.dial
-dials_reported tries (Done ends) old now later (inl reports) = dials_rose ends old now reports.1
-dials_reported tries (Done ends) old now later (inr reports) =
-    still (dials_in ends) old.dial reports.1.mid.dial now.dial (dials_rose ends old reports.1.mid reports.1.tries) reports.1.last.dial.later
-dials_reported tries (Unsent ends) old now later reports = dials_rose ends old now reports.1
-dials_reported tries (StoreFault ends) old now later reports =
-    still (dials_in ends) old.dial reports.1.mid.dial now.dial (dials_rose ends old reports.1.mid reports.1.tries) reports.1.last.dial.later
-dials_reported tries Memory old now later reports = none old.dial now.dial later
+weaker : (n before now : ℕ) → RoseBy n before now → RoseBy 0 before now
+weaker n before now rose = omega arith
+
+-- so it did for the ends that are told
+pub dials_told : (ends told : List AttemptEnd) (old now : Stage) → told ≡ ends → Tries ends old now → RoseBy (dials_in told) old.dial now.dial
+dials_told ends told old now same tries = subst (λ l. RoseBy (dials_in l) old.dial now.dial) (sym same) (dials_rose ends old now tries)
+
+pub dials_broken : (ends told : List AttemptEnd) (old mid now : Stage) (end : Attempted) → told ≡ ends → Tries ends old mid → OverLink mid now end → RoseBy (dials_in told) old.dial now.dial
+dials_broken ends told old mid now end same tries last =
+    still (dials_in told) old.dial mid.dial now.dial (dials_told ends told old mid same tries) last.dial.later
+
+pub dials_none : (ends : List AttemptEnd) (old now : Stage) → Tries ends old now → RoseBy 0 old.dial now.dial
+dials_none ends old now tries = weaker (dials_in ends) old.dial now.dial (dials_rose ends old now tries)
+
+pub dials_none_broken : (ends : List AttemptEnd) (old mid now : Stage) (end : Attempted) → Tries ends old mid → OverLink mid now end → RoseBy 0 old.dial now.dial
+dials_none_broken ends old mid now end tries last = still 0 old.dial mid.dial now.dial (dials_none ends old mid tries) last.dial.later
+
+-- ---- the last attempt
+
+pub not_done : (s : State) → (IsTrue false ↔ IsDone s) → is_done s ≡ false
+not_done s iff = sym (done_is false s iff)
+
+pub breaks_of : (ends told : List AttemptEnd) (old mid now : Stage) (end : Attempted) → told ≡ ends → Tries ends old mid → is_done mid.state ≡ false → OverLink mid now end
+    → Breaks told old now end
+breaks_of ends told old mid now end same tries left last =
+    subst (λ l. Breaks l old now end) (sym same) (record { mid = mid; tries = tries; left = left; last = last })
+
+pub as_short : (ends told : List AttemptEnd) (tries : ℕ) → told ≡ ends → length ends < tries → length told < tries
+as_short ends told tries same less = subst (λ (l : List AttemptEnd). length l < tries) (sym same) less
+
+pub one_longer : (ends more : List AttemptEnd) (end : AttemptEnd) (tries : ℕ) → more ≡ ends ++ end ∷ [] → length ends < tries → length more ≤ tries
+one_longer ends more end tries is less =
+    let size = ap (λ (l : List AttemptEnd). length l) is ∙ length-append ends (end ∷ []) in
+    omega (arith, size)
