@@ -80,7 +80,16 @@ fn the_vault_fails(rt: HostRuntime) -> Result<(), Fail> {
     let rows: &[(u64, &[u8])] = &[(3, b"R"), (4, b"R"), (5, b"R")];
     for (failing, written) in rows {
         let mut link = link(rt.alloc(), b"rau", 0)?;
-        assert!(rt; answers(rt.alloc(), true, *failing, &mut link, b"store fault", written)?);
+        assert!(rt;
+            answers(
+                rt.alloc(),
+                true,
+                *failing,
+                &mut link,
+                b"store fault",
+                written
+            )?
+        );
     }
     Ok(())
 }
@@ -99,7 +108,17 @@ fn a_quiet_link(rt: HostRuntime) -> Result<(), Fail> {
     let mut standing = ScriptLink::quiet(rt.alloc(), 65_536)?;
     assert!(rt; answers_within(rt.alloc(), &mut standing, 1, 5, &[], b"idle ", b"R")?);
     let mut late = ScriptLink::quiet(rt.alloc(), 65_536)?;
-    assert!(rt; answers_within(rt.alloc(), &mut late, 1, 5, &[0, 10_000, 30_000, 90_000, 330_000], b"timed out \x00\x00\x00\x00\x00\x00\x00\x00\x00\x00\x00\x00\x00\x05\x09\x10", b"RRRR")?);
+    assert!(rt;
+        answers_within(
+            rt.alloc(),
+            &mut late,
+            1,
+            5,
+            &[0, 10_000, 30_000, 90_000, 330_000],
+            b"timed out \x00\x00\x00\x00\x00\x00\x00\x00\x00\x00\x00\x00\x00\x05\x09\x10",
+            b"RRRR"
+        )?
+    );
     Ok(())
 }
 

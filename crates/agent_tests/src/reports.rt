@@ -66,7 +66,15 @@ fn come_to(
         return Ok(false);
     };
     let mut clock = ScriptClock::new(Seq::new(alloc));
-    let reported = report_all(alloc, dial, &mut clock, &mut terminal, "localhost", 9000, tries);
+    let reported = report_all(
+        alloc,
+        dial,
+        &mut clock,
+        &mut terminal,
+        "localhost",
+        9000,
+        tries,
+    );
     let said = told_all(alloc, &reported)?;
     Ok(said.as_slice() == outcome)
 }
@@ -82,7 +90,16 @@ fn attempts_one_after_another(rt: HostRuntime) -> Result<(), Fail> {
         (2, 0, 0, b"", b"sbv", b"end done", b"R", b"SBV"),
         (3, 1, 0, b"rau", b"", b"dial done", b"RAU", b"-"),
         (3, 2, 0, b"", b"sbv", b"end dial done", b"R", b"SBV"),
-        (3, 0, 0, b"x", b"", b"denied \x00\x00\x01end dial unsent", b"R", b"S"),
+        (
+            3,
+            0,
+            0,
+            b"x",
+            b"",
+            b"denied \x00\x00\x01end dial unsent",
+            b"R",
+            b"S",
+        ),
         (3, 0, 3, b"rau", b"sbv", b"link done", b"R", b"-"),
         (3, 0, 1, b"rau", b"sbv", b"link done", b"", b"SBV"),
     ];
