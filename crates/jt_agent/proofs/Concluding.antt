@@ -1,5 +1,5 @@
 -- What comes of one move.
-use Rattle.std.proofs.Common.{◌≡◌, ◌⊎◌, inl, inr, ◌≤◌, ◌<◌, ◌+◌, ℕ, List, [], ◌∷◌, ◌++◌, Option, Some, None, length, take, drop, get_or, Bool, true, false, refl, sym, ap, subst, ◌∙◌, append-nil, take-append-drop, arith}
+use Rattle.std.proofs.Common.{◌≡◌, inl, ◌<◌, ◌+◌, ℕ, List, [], ◌∷◌, ◌++◌, Option, Some, None, length, take, drop, get_or, Bool, true, false, refl, sym, ap, subst, ◌∙◌, append-nil, take-append-drop}
 use Rattle.std.specs.Prelude.{◌↔◌, ◌&&◌, IsTrue}
 use Rattle.std.specs.Io.KnownBytes.{Appends}
 use Rattle.std.specs.List.{flat_map}
@@ -8,19 +8,18 @@ use Rattle.std.proofs.lemmas.List.{take_more}
 use Rattle.jt_io.specs.Sink.{AppendsPrefix}
 use Rattle.jt_io.proofs.Prefixes.{AppendsPrefix-more, AppendsPrefix-after}
 use Rattle.jt_link.specs.Link.{Wire}
-use Rattle.jt_store.specs.Vaults.{Held}
 use Rattle.jt_store.specs.declared.unit.Unit.{Unit as OneUnit}
 use Rattle.jt_terminal_rule.specs.declared.state.State.{State}
 use Rattle.jt_terminal_rule.specs.declared.state.GiveUp.{GiveUp}
 use Rattle.jt_terminal_rule.specs.declared.state.GiveUp.TheVariants as give_up
 use Rattle.jt_terminal_rule.specs.Rule.{Ruled, sends}
 use Rattle.jt_terminal_steps.specs.Running.{IsDone, holds_after}
-use Rattle.jt_agent.specs.Course.{Stop, Finished, GaveUp, stop_of, is_done, has_none, octets_of}
+use Rattle.jt_agent.specs.Course.{GaveUp, stop_of, is_done, has_none, octets_of}
 use Rattle.jt_agent.specs.Attempt.{Scene}
 use Rattle.jt_agent.specs.Moving.{DidRule, Concludes, Comes}
 use Rattle.jt_agent.specs.declared.ending.AttemptEnd.TheVariants as how
 use Rattle.jt_agent.specs.declared.ending.Attempted.{Attempted}
-use Rattle.jt_agent.specs.declared.ending.Attempted.TheVariants.{Done, Ended, StoreFault, Memory}
+use Rattle.jt_agent.specs.declared.ending.Attempted.TheVariants.{Ended}
 
 -- frames up to one, of which a part was written
 pub frames_part : (frames : List (List ℕ)) (i : ℕ) (frame : List ℕ) (old mid now : Option (List ℕ)) → i < length frames → frame ≡ get_or frames i frame

@@ -1,10 +1,10 @@
 -- Attempts one after another.
-use Rattle.std.proofs.Common.{◌≡◌, ◌⊎◌, inl, inr, ◌≤◌, ◌<◌, ◌+◌, ◌-◌, ◌^◌, min, ℕ, List, [], ◌∷◌, ◌++◌, false, refl, sym, ap, subst, ◌∙◌, length, length-append, arith}
+use Rattle.std.proofs.Common.{◌≡◌, ◌≤◌, ◌<◌, ◌+◌, ℕ, List, [], ◌∷◌, ◌++◌, false, refl, sym, ap, subst, ◌∙◌, length, length-append, arith}
 use Rattle.std.specs.Prelude.{◌↔◌, IsTrue}
 use Rattle.jt_io.specs.Count.{Rose, RoseBy}
 use Rattle.jt_terminal_rule.specs.declared.state.State.{State}
 use Rattle.jt_terminal_steps.specs.Running.{IsDone}
-use Rattle.jt_agent.specs.Tries.{Stage, OverLink, NoLink, OneTry, Tries, Breaks, dials_in}
+use Rattle.jt_agent.specs.Tries.{Stage, OverLink, OneTry, Tries, Breaks, dials_in}
 use Rattle.jt_agent.specs.Course.{is_done}
 use Rattle.jt_agent.specs.declared.ending.AttemptEnd.{AttemptEnd}
 use Rattle.jt_agent.specs.declared.ending.AttemptEnd.TheVariants as how

@@ -1,6 +1,6 @@
 -- One attempt of a terminal over a link (this project's own). To be believed.
 use Rattle.std.specs.Prelude.{◌≡◌, ℕ, ◌≤◌, List, [], ◌∷◌, ◌++◌, length, Option, None, Some, Bool, false}
-use Rattle.std.specs.Io.KnownBytes.{Appends, Consumes, IsAtEnd}
+use Rattle.std.specs.Io.KnownBytes.{Appends, IsAtEnd}
 use Rattle.jt_io.specs.Count.{Rose, RoseBy, Counts}
 use Rattle.jt_io.specs.Inbound.{Inbound}
 use Rattle.jt_link.specs.Link.{Wire, Gives}
@@ -12,8 +12,7 @@ use Rattle.jt_terminal_rule.specs.declared.state.GiveUp.TheVariants as give_up
 use Rattle.jt_terminal_rule.specs.Rule.{rule}
 use Rattle.jt_terminal_steps.specs.AfterError.{CutLists, lists_of}
 use Rattle.jt_terminal_steps.specs.Running.{holds_after, CutShort, IsDown}
-use Rattle.jt_agent.specs.Course.{Move, Course, course, made, Fits, moments_of, waits_of, said, before_last, Stop, Finished, GaveUp}
-use Rattle.jt_agent.specs.declared.ending.AttemptEnd.{AttemptEnd}
+use Rattle.jt_agent.specs.Course.{Move, Course, course, made, Fits, moments_of, waits_of, said, before_last, Finished, GaveUp}
 use Rattle.jt_agent.specs.declared.ending.AttemptEnd.TheVariants as how
 use Rattle.jt_agent.specs.declared.ending.Attempted.{Attempted}
 use Rattle.jt_agent.specs.declared.ending.Attempted.TheVariants.{Done, Ended, StoreFault, Memory}

@@ -1,13 +1,12 @@
 -- How an attempt comes on, move by move. For the proofs.
-use Rattle.std.specs.Prelude.{◌≡◌, ℕ, ◌≤◌, ◌⊎◌, List, [], ◌∷◌, length, Option, None, Some, Bool}
-use Rattle.std.specs.Io.KnownBytes.{Appends, IsAtEnd}
+use Rattle.std.specs.Prelude.{◌≡◌, ℕ, ◌≤◌, ◌⊎◌, List, ◌∷◌, length, Option, None, Some, Bool}
+use Rattle.std.specs.Io.KnownBytes.{Appends}
 use Rattle.jt_io.specs.Count.{Rose, RoseBy, Counts}
 use Rattle.jt_io.specs.Inbound.{Inbound}
 use Rattle.jt_io.specs.Sink.{AppendsPrefix}
 use Rattle.jt_link.specs.Link.{Wire, Gives, GivesNone}
 use Rattle.jt_link.specs.Time.{Time, Tells}
 use Rattle.jt_store.specs.Vaults.{Held}
-use Rattle.jt_terminal_rule.specs.declared.settings.Settings.{Settings}
 use Rattle.jt_terminal_rule.specs.declared.state.State.{State}
 use Rattle.jt_terminal_rule.specs.declared.state.Event.TheVariants.{Tick}
 use Rattle.jt_terminal_rule.specs.declared.state.GiveUp.{GiveUp}

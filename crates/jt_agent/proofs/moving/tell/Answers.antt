@@ -1,6 +1,3 @@
-use Rattle.jt_link.specs.Link.{wire_of}
-use Rattle.jt_terminal_rule.specs.Rule.{rule}
-use Rattle.jt_agent.specs.Attempt.{scene}
 use Rattle.jt_agent.proofs.Concluding.{came}
 use Rattle.jt_agent.proofs.moving.tell.Goals as goal
 

@@ -1,4 +1,4 @@
-use Rattle.std.proofs.Common.{rules, ◌≡◌, ◌<◌, ◌++◌, ◌∷◌, [], length, inr, ap, sym, subst, refl, ◌∙◌, arith}
+use Rattle.std.proofs.Common.{rules, ◌≡◌, ◌<◌, ◌++◌, ◌∷◌, [], length, inr, ap, sym, subst, refl, ◌∙◌}
 use Rattle.jt_agent.specs.Tries.{Tries, stage}
 use Rattle.jt_agent.specs.declared.ending.Attempted.TheVariants as attempted
 use Rattle.jt_agent.proofs.Going.{vault_then}

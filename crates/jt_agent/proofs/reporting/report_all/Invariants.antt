@@ -1,5 +1,4 @@
 use Rattle.std.proofs.Common.{◌≡◌, ◌≤◌, ◌-◌, length}
-use Rattle.std.specs.Prelude.{vec_len}
 use Rattle.jt_terminal_steps.specs.Running.{IsDown}
 use Rattle.jt_agent.specs.Attempt.{VaultStays}
 use Rattle.jt_agent.specs.Tries.{Tries, stage}

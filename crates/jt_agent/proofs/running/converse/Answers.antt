@@ -1,6 +1,6 @@
 use Rattle.std.proofs.Common.{refl, arith, ◌∙◌}
 use Rattle.std.proofs.lemmas.Grind.{common_steps}
-use Rattle.jt_agent.proofs.Going.{StepLaws, goes_begin, goes_open, goes_read, goes_wait, goes_tick, ends_begin, ends_open, ends_read, ends_tick, ends_end, ends_link, ends_idle, ends_spent, quiet_more, quiet_from, quiet_kept, goes_count, late_still, vault_then, vault_else}
+use Rattle.jt_agent.proofs.Going.{StepLaws, goes_begin, goes_open, goes_read, goes_wait, goes_tick, ends_begin, ends_open, ends_read, ends_tick, ends_end, ends_link, ends_spent, quiet_more, quiet_from, quiet_kept, goes_count, late_still, vault_then}
 use Rattle.jt_agent.proofs.running.converse.Goals as goal
 
 pub returns-in-Some-clause-ends : goal.returns-in-Some-clause-ends
