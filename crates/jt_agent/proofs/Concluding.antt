@@ -55,16 +55,16 @@ done_is done s iff = by_lists done s.units s.waiting iff
     by_lists false (unit ∷ units) waiting iff = refl
 
 -- a rule was run, its frames were written, and its end was looked at
-comes_by : (result : Option Attempted) (r : Ruled) (old now : Scene) → DidRule r now.state old.held now.held
-    → Concludes result r.end (is_done r.state) (octets_of old.state.settings r.steps) old.link now.link → Comes result r old now
-comes_by None r old now did concludes = (did, concludes)
-comes_by (Some ended) r old now did concludes = inl (did, concludes)
+comes_by : (result : Option Attempted) (r : Ruled) (Left : State → Type 0) (old now : Scene) → DidRule r now.state old.held now.held
+    → Concludes result r.end (is_done r.state) (octets_of old.state.settings r.steps) old.link now.link → Comes result r Left old now
+comes_by None r Left old now did concludes = (did, concludes)
+comes_by (Some ended) r Left old now did concludes = inl (did, concludes)
 
-pub came : (result : Option Attempted) (r : Ruled) (old now : Scene) (frames : List (List ℕ)) (end : Option GiveUp) (done : Bool)
+pub came : (result : Option Attempted) (r : Ruled) (Left : State → Type 0) (old now : Scene) (frames : List (List ℕ)) (end : Option GiveUp) (done : Bool)
     → now.state ≡ r.state → now.held ≡ holds_after r.steps old.held → frames ≡ sends old.state.settings r.steps → end ≡ r.end
-    → (IsTrue done ↔ IsDone now.state) → Concludes result end done (flat_map (λ frame. frame) frames) old.link now.link → Comes result r old now
-came result r old now frames end done is_state held is_frames is_end iff concludes =
+    → (IsTrue done ↔ IsDone now.state) → Concludes result end done (flat_map (λ frame. frame) frames) old.link now.link → Comes result r Left old now
+came result r Left old now frames end done is_state held is_frames is_end iff concludes =
     let by_end = subst (λ e. Concludes result e done (flat_map (λ frame. frame) frames) old.link now.link) is_end concludes in
     let by_done = subst (λ d. Concludes result r.end d (flat_map (λ frame. frame) frames) old.link now.link) (done_is done now.state iff ∙ ap is_done is_state) by_end in
     let by_frames = subst (λ f. Concludes result r.end (is_done r.state) (flat_map (λ frame. frame) f) old.link now.link) is_frames by_done in
-    comes_by result r old now (record { is_state = is_state; held = held }) by_frames
+    comes_by result r Left old now (record { is_state = is_state; held = held }) by_frames

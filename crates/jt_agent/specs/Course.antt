@@ -1,5 +1,5 @@
 -- What a terminal is told in an attempt, and what it then does (this project's own). To be believed.
-use Rattle.std.specs.Prelude.{◌≡◌, ℕ, ◌+◌, List, [], ◌∷◌, ◌++◌, Option, None, Some, Bool, true, false, ◌&&◌}
+use Rattle.std.specs.Prelude.{◌≡◌, ℕ, ◌+◌, ◌≤◌, ◌<◌, List, [], ◌∷◌, ◌++◌, length, Option, None, Some, Bool, true, false, ◌&&◌}
 use Rattle.std.specs.List.{flat_map}
 use Rattle.jt_terminal_rule.specs.declared.settings.Settings.{Settings}
 use Rattle.jt_terminal_rule.specs.declared.state.State.{State}
@@ -86,10 +86,33 @@ kind Opens = AnOpening
 kind (Reads octets) = ARead
 kind Waits = ARead
 
+-- what one read gave: from 1 to 4,096 octets
+pub record IsPiece (octets : List ℕ) : Type 0 where
+  pub some : 0 < length octets
+  pub short : length octets ≤ 4096
+
+abbrev pub IsMove : Move → Type 0
+IsMove (Ticks moment) = Unit {0}
+IsMove Opens = Unit {0}
+IsMove (Reads octets) = IsPiece octets
+IsMove Waits = Unit {0}
+
 -- these moves make an attempt so far: each comes in its turn, and none behind the one at which the terminal ended it
 abbrev pub Fits : State → List Move → Type 0
 Fits t [] = Unit {0}
-Fits t (move ∷ older) = ((course t older).stop ≡ None) × (kind move ≡ due older) × Fits t older
+Fits t (move ∷ older) = ((course t older).stop ≡ None) × (kind move ≡ due older) × IsMove move × Fits t older
+
+-- a read comes next: the first moment, the open line and the moment of each turn so far were told, and the terminal did not end the attempt
+pub record IsAtRead (t : State) (moves : List Move) : Type 0 where
+  pub on : (course t moves).stop ≡ None
+  pub next : due moves ≡ ARead
+
+-- the terminal is told of it
+abbrev pub IsTold : Move → Type 0
+IsTold (Ticks moment) = Unit {0}
+IsTold Opens = Unit {0}
+IsTold (Reads octets) = Unit {0}
+IsTold Waits = ⊥
 
 -- the clock's moments, oldest first
 abbrev pub moments_of : List Move → List ℕ

@@ -3,20 +3,22 @@ use Rattle.std.specs.Prelude.{◌≡◌, ℕ, ◌≤◌, ◌⊎◌, List, ◌∷
 use Rattle.std.specs.Io.KnownBytes.{Appends}
 use Rattle.jt_io.specs.Count.{Rose, RoseBy, Counts}
 use Rattle.jt_io.specs.Inbound.{Inbound}
+use Rattle.jt_value.specs.Octets.{AreOctets}
 use Rattle.jt_io.specs.Sink.{AppendsPrefix}
 use Rattle.jt_link.specs.Link.{Wire, Gives, GivesNone}
 use Rattle.jt_link.specs.Time.{Time, Tells}
 use Rattle.jt_store.specs.Vaults.{Held}
 use Rattle.jt_terminal_rule.specs.declared.state.State.{State}
+use Rattle.jt_terminal_rule.specs.declared.state.Event.{Event}
 use Rattle.jt_terminal_rule.specs.declared.state.Event.TheVariants.{Tick}
 use Rattle.jt_terminal_rule.specs.declared.state.GiveUp.{GiveUp}
 use Rattle.jt_terminal_rule.specs.declared.state.GiveUp.TheVariants as give_up
 use Rattle.jt_terminal_rule.specs.Rule.{Ruled, rule}
-use Rattle.jt_terminal_steps.specs.AfterError.{CutLists, lists_of}
-use Rattle.jt_terminal_steps.specs.Running.{holds_after, CutShort, IsDown}
+use Rattle.jt_terminal_steps.specs.AfterError.{AllTablesOrNone, CutLists, lists_of}
+use Rattle.jt_terminal_steps.specs.Running.{holds_after, time_after, CutShort, IsDown}
 use Rattle.jt_terminal.specs.Line.{LineValue, StandsForLine}
-use Rattle.jt_agent.specs.Course.{Move, Ticks, Opens, Reads, Waits, Course, course, due, Due, ARead, Stop, Finished, GaveUp, stop_of, is_done, octets_of}
-use Rattle.jt_agent.specs.Attempt.{Scene, Given, Writes, CutLast, HasCause, LinkCounts}
+use Rattle.jt_agent.specs.Course.{Move, Ticks, Opens, Reads, Waits, Course, course, due, Due, ARead, IsPiece, Stop, Finished, GaveUp, stop_of, is_done, octets_of}
+use Rattle.jt_agent.specs.Attempt.{Scene, Given, Writes, CutLast, HasCause, Leaves, LinkCounts}
 use Rattle.jt_agent.specs.declared.ending.AttemptEnd.TheVariants as how
 use Rattle.jt_agent.specs.declared.ending.Attempted.{Attempted}
 use Rattle.jt_agent.specs.declared.ending.Attempted.TheVariants.{Done, Ended, StoreFault, Memory}
@@ -39,10 +41,15 @@ pub record DidRule (r : Ruled) (state : State) (old now : Option Held) : Type 0 
   pub is_state : state ≡ r.state
   pub held : now ≡ holds_after r.steps old
 
--- a rule was cut short, and nothing was written
-pub record CutRule (r : Ruled) (old now : Scene) : Type 0 where
+-- an event that was cut short left time, last fix and tables so
+abbrev pub LeavesEvent : State → Event → State → Type 0
+LeavesEvent s event after = Leaves s (time_after s event) (AllTablesOrNone s (rule s event).state) after
+
+-- a rule was cut short, the state is one of these, and nothing was written
+pub record CutRule (r : Ruled) (Left : State → Type 0) (old now : Scene) : Type 0 where
   pub vault : CutShort r.steps old.held now.held
   pub lists : CutLists r.steps (lists_of old.state) (lists_of now.state)
+  pub left : Left now.state
   pub down : IsDown now.state
   pub written : now.link.written ≡ old.link.written
 
@@ -54,18 +61,18 @@ Concludes (Some ended) end done octets link now =
     ⊎ (AppendsPrefix link.written now.written octets × (ended ≡ Ended how.Link) × Rose link.faults now.faults)
 
 -- a move was done, and this came of it; or it was cut short
-abbrev pub Comes : Option Attempted → Ruled → Scene → Scene → Type 0
-Comes None r old now =
+abbrev pub Comes : Option Attempted → Ruled → (State → Type 0) → Scene → Scene → Type 0
+Comes None r Left old now =
     DidRule r now.state old.held now.held × Concludes None r.end (is_done r.state) (octets_of old.state.settings r.steps) old.link now.link
-Comes (Some ended) r old now =
+Comes (Some ended) r Left old now =
     (DidRule r now.state old.held now.held × Concludes (Some ended) r.end (is_done r.state) (octets_of old.state.settings r.steps) old.link now.link)
-    ⊎ (CutRule r old now × IsTrouble ended old.faults now.faults)
+    ⊎ (CutRule r Left old now × IsTrouble ended old.faults now.faults)
 
 -- a moment was told
 pub record TicksOnce (result : Option Attempted) (old now : Scene) (time time_now : Time) : Type 0 where
   pub moment : ℕ
   pub tells : Tells time time_now moment
-  pub comes : Comes result (rule old.state (Tick moment)) old now
+  pub comes : Comes result (rule old.state (Tick moment)) (LeavesEvent old.state (Tick moment)) old now
 
 -- the reading side and the settings stay, and the counts never fall
 pub record Later (old now : Scene) : Type 0 where
@@ -87,7 +94,7 @@ pub record ReadsLink (old now : Scene) : Type 0 where
 abbrev pub Takes : Move → Inbound → Inbound → Time → Time → Type 0
 Takes (Ticks moment) old now time time_now = (now ≡ old) × Tells time time_now moment
 Takes Opens old now time time_now = (now ≡ old) × (time_now ≡ time)
-Takes (Reads octets) old now time time_now = Gives old now octets × (old.quiets ≤ now.quiets) × (time_now ≡ time)
+Takes (Reads octets) old now time time_now = Gives old now octets × (old.quiets ≤ now.quiets) × (time_now ≡ time) × AreOctets octets × IsPiece octets
 Takes Waits old now time time_now = GivesNone old now × Rose old.quiets now.quiets × (time_now ≡ time)
 
 -- how far the terminal, the vault and the link's writing side have come
@@ -123,8 +130,9 @@ Did Memory t moves old now state = CutLast t moves old now state
 pub record Exit (moves : List Move) (octets quiets : ℕ) (old now : Scene) (ended : Attempted) : Type 0 where
   pub writes : Writes ended old.state moves old.link.written now.link.written
   pub did : Did ended old.state moves old.held now.held now.state
-  pub cause : HasCause ended octets quiets (course old.state moves) old now
+  pub cause : HasCause ended octets quiets moves old now
   pub counts : LinkCounts old.link now.link
+  pub faults : old.faults ≤ now.faults
 
 -- an attempt that ended, before the terminal loses its line
 pub record Ends (octets quiets : ℕ) (old now : Scene) (time time_now : Time) (ended : Attempted) : Type 0 where

@@ -11,7 +11,8 @@ pub enum AttemptEnd {
     Link,
     /// The link said that no octet is left.
     End,
-    /// The platform refused a registration, an authentication or a unit: the body of its answer.
+    /// The platform refused a registration, an authentication or a unit, or its code has more than 255 octets: the body of its
+    /// answer.
     Denied(Octets),
     /// No answer came: when the first wait began and when the terminal gave up, in milliseconds.
     TimedOut { since: u64, now: u64 },

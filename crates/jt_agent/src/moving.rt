@@ -8,8 +8,10 @@ ghost use Rattle.jt_link.specs.Link.{wire_of};
 ghost use Rattle.jt_terminal_rule.specs.Rule.{rule};
 ghost use Rattle.jt_terminal_steps.specs.Running.{IsEvent, time_after};
 ghost use Rattle.jt_terminal.specs.Line.{StandsForLine, fed};
-ghost use Rattle.jt_agent.specs.Attempt.{VaultStays, scene};
-ghost use Rattle.jt_agent.specs.Moving.{Comes, Concludes, TicksOnce};
+ghost use Rattle.jt_value.specs.Octets.{AreOctets};
+ghost use Rattle.jt_agent.specs.Attempt.{LeavesAt, VaultStays, scene};
+ghost use Rattle.jt_agent.specs.Course.{Reads};
+ghost use Rattle.jt_agent.specs.Moving.{Comes, Concludes, LeavesEvent, TicksOnce};
 ghost use Rattle.jt_agent.specs.declared.ending.Attempted.TheVariants.{StoreFault};
 
 use crate::ending::{AttemptEnd, Attempted};
@@ -56,13 +58,7 @@ fn conclude<K: Link>(link: &mut K, actions: Actions, done: bool) -> Option<Attem
         Some(GiveUp::TimedOut { since, now }) => {
             Some(Attempted::Ended(AttemptEnd::TimedOut { since, now }))
         }
-        None => {
-            if done {
-                Some(Attempted::Done)
-            } else {
-                None
-            }
-        }
+        None => { if done { Some(Attempted::Done) } else { None } }
     }
 }
 
@@ -74,7 +70,7 @@ pub(crate) fn tell<K: Link, V: Vault>(
     event: Event,
 ) -> Option<Attempted>
     requires { IsEvent terminal.old.state event }
-    ensures comes { Comes result (rule terminal.old.state event)
+    ensures comes { Comes result (rule terminal.old.state event) (LeavesEvent terminal.old.state event)
         (scene terminal.old.state (V.holds terminal.old.vault) (V.faults terminal.old.vault) (wire_of K.inbound K.written K.faults link.old))
         (scene terminal.new.state (V.holds terminal.new.vault) (V.faults terminal.new.vault) (wire_of K.inbound K.written K.faults link.new)) }
     ensures time { terminal.new.state.time ≡ time_after terminal.old.state event }
@@ -102,11 +98,12 @@ pub(crate) fn hear<K: Link, V: Vault>(
     octets: &[u8],
 ) -> Option<Attempted>
     requires { line.old.stream.place + length octets.now < 2 ^ 63 }
-    ensures comes { (seen : List ℕ) → StandsForLine line.old seen → Comes result (fed terminal.old.state seen octets.now)
+    ensures comes { (seen : List ℕ) → StandsForLine line.old seen → Comes result (fed terminal.old.state seen octets.now) (LeavesAt terminal.old.state seen (Reads octets.now))
         (scene terminal.old.state (V.holds terminal.old.vault) (V.faults terminal.old.vault) (wire_of K.inbound K.written K.faults link.old))
         (scene terminal.new.state (V.holds terminal.new.vault) (V.faults terminal.new.vault) (wire_of K.inbound K.written K.faults link.new)) }
     ensures line { (seen : List ℕ) → StandsForLine line.old seen → result ≡ None → StandsForLine line.new (seen ++ octets.now) }
     ensures place { line.new.stream.place ≤ line.old.stream.place + length octets.now }
+    ensures fit { AreOctets octets.now }
     ensures time { terminal.new.state.time ≡ terminal.old.state.time }
     ensures settings { terminal.new.state.settings ≡ terminal.old.state.settings }
     ensures inbound { K.inbound link.new ≡ K.inbound link.old }

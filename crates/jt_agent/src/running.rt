@@ -3,6 +3,7 @@
 ghost use Rattle.std.specs.Prelude.{◌≡◌, ◌≤◌, ◌^◌};
 ghost use Rattle.jt_link.specs.Link.{wire_of};
 ghost use Rattle.jt_terminal_rule.specs.declared.state.Event.TheVariants.{Lost};
+ghost use Rattle.jt_terminal_rule.specs.declared.state.Phase.TheVariants.{Down};
 ghost use Rattle.jt_terminal_rule.specs.Rule.{rule};
 ghost use Rattle.jt_terminal_steps.specs.Running.{IsDown};
 ghost use Rattle.jt_agent.specs.Attempt.{Attempts, VaultStays, scene};
@@ -102,11 +103,14 @@ fn lose<V: Vault>(alloc: Global, terminal: &mut Terminal<V>)
 
 /// One attempt of a terminal without a line over a link that was lent: the terminal is told the clock's moment and that a line is
 /// open, and then in turns what a read of the link gave and the clock's moment. The frames of each are written before it is looked
-/// at whether the terminal gave up, whether all is accepted, and what the link gives next. In the end the terminal loses its line.
+/// at whether the terminal gave up and whether all is accepted. In the end the terminal loses its line.
 ///
-/// At most `octets` octets are taken, from 1 to 2^40, and at most `quiets` reads in a row are quiet, from 1 to 1,000,000. The
-/// clock's last answer, at first 0, is not below the terminal's time. The answer is never Ended with Dial. Memory is taken by
-/// `alloc` alone, so the call needs no runtime.
+/// At most `octets` octets are taken, from 1 to 2^40. Spent comes only once as many were taken, and Idle only once `quiets` reads
+/// in a row were quiet, from 1 to 1,000,000. The answer is never Ended with Dial. At StoreFault and Memory the vault holds what
+/// some first changes of the last event make of it, and no frame of that event is written.
+///
+/// The clock's last answer, at first 0, is not below the terminal's time. Memory is taken by `alloc` alone, so the call needs no
+/// runtime.
 pub fn attempt_within<K: Link, C: Clock, V: Vault>(
     alloc: Global,
     link: &mut K,
@@ -115,7 +119,7 @@ pub fn attempt_within<K: Link, C: Clock, V: Vault>(
     octets: u64,
     quiets: u32,
 ) -> Attempted
-    requires down { IsDown terminal.old.state }
+    requires down { terminal.old.state.phase ≡ Down }
     requires time { terminal.old.state.time ≤ (C.time clock.old).last }
     requires octets { (1 ≤ octets) × (octets ≤ 2 ^ 40) }
     requires quiets { (1 ≤ quiets) × (quiets ≤ 1000000) }
@@ -135,14 +139,14 @@ pub fn attempt_within<K: Link, C: Clock, V: Vault>(
     ended
 }
 
-/// One attempt as `attempt_within` makes it, with at most 2^40 octets taken and 1,000,000 quiet reads in a row.
+/// One attempt as `attempt_within` makes it, with 2^40 octets and 1,000,000 quiet reads in a row.
 pub fn attempt<K: Link, C: Clock, V: Vault>(
     alloc: Global,
     link: &mut K,
     clock: &mut C,
     terminal: &mut Terminal<V>,
 ) -> Attempted
-    requires down { IsDown terminal.old.state }
+    requires down { terminal.old.state.phase ≡ Down }
     requires time { terminal.old.state.time ≤ (C.time clock.old).last }
     ensures attempt { Attempts (2 ^ 40) 1000000
         (scene terminal.old.state (V.holds terminal.old.vault) (V.faults terminal.old.vault) (wire_of K.inbound K.written K.faults link.old))
