@@ -1,4 +1,4 @@
-ghost use Rattle.std.specs.Prelude.{◌≤◌, ◌×◌, ◌^◌};
+ghost use Rattle.std.specs.Prelude.{◌≤◌, ◌^◌};
 ghost use Rattle.jt_link.specs.ScriptClock.{RiseFrom};
 
 use crate::setting::{frames, link, ready, told};

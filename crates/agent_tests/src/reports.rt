@@ -1,5 +1,3 @@
-ghost use Rattle.std.specs.Prelude.{◌≡◌};
-
 use crate::setting::{frames, link, ready, told_all};
 use jt_agent::report_all;
 use jt_link::{ScriptClock, ScriptDial};
