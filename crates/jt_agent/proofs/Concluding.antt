@@ -15,7 +15,7 @@ use Rattle.jt_terminal_rule.specs.declared.state.GiveUp.TheVariants as give_up
 use Rattle.jt_terminal_rule.specs.Rule.{Ruled, sends}
 use Rattle.jt_terminal_steps.specs.Running.{IsDone, holds_after}
 use Rattle.jt_agent.specs.Course.{GaveUp, stop_of, is_done, has_none, octets_of}
-use Rattle.jt_agent.specs.Attempt.{Scene}
+use Rattle.jt_agent.specs.Attempt.{AtLink}
 use Rattle.jt_agent.specs.Moving.{DidRule, Concludes, Comes}
 use Rattle.jt_agent.specs.declared.ending.AttemptEnd.TheVariants as how
 use Rattle.jt_agent.specs.declared.ending.Attempted.{Attempted}
@@ -55,12 +55,12 @@ done_is done s iff = by_lists done s.units s.waiting iff
     by_lists false (unit ∷ units) waiting iff = refl
 
 -- a rule was run, its frames were written, and its end was looked at
-comes_by : (result : Option Attempted) (r : Ruled) (Left : State → Type 0) (old now : Scene) → DidRule r now.state old.held now.held
+comes_by : (result : Option Attempted) (r : Ruled) (Left : State → Type 0) (old now : AtLink) → DidRule r now.state old.held now.held
     → Concludes result r.end (is_done r.state) (octets_of old.state.settings r.steps) old.link now.link → Comes result r Left old now
 comes_by None r Left old now did concludes = (did, concludes)
 comes_by (Some ended) r Left old now did concludes = inl (did, concludes)
 
-pub came : (result : Option Attempted) (r : Ruled) (Left : State → Type 0) (old now : Scene) (frames : List (List ℕ)) (end : Option GiveUp) (done : Bool)
+pub came : (result : Option Attempted) (r : Ruled) (Left : State → Type 0) (old now : AtLink) (frames : List (List ℕ)) (end : Option GiveUp) (done : Bool)
     → now.state ≡ r.state → now.held ≡ holds_after r.steps old.held → frames ≡ sends old.state.settings r.steps → end ≡ r.end
     → (IsTrue done ↔ IsDone now.state) → Concludes result end done (flat_map (λ frame. frame) frames) old.link now.link → Comes result r Left old now
 came result r Left old now frames end done is_state held is_frames is_end iff concludes =

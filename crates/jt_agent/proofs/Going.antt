@@ -21,7 +21,7 @@ use Rattle.jt_terminal_steps.specs.AfterError.{AreSameTables, AllTablesOrNone, C
 use Rattle.jt_terminal_steps.specs.Running.{holds_after, CutShort, IsDown}
 use Rattle.jt_terminal.specs.Line.{LineValue, StandsForLine, TablesOfFirst, fed}
 use Rattle.jt_agent.specs.Course.{Move, Ticks, Opens, Reads, Waits, Course, course, made, goes_on, due, kind, Due, ATick, AnOpening, ARead, IsPiece, IsAtRead, IsTold, moments_of, waits_of, octets_of, said, Stop, Finished, GaveUp}
-use Rattle.jt_agent.specs.Attempt.{Scene, scene, Given, LinkCounts, Leaves, LeavesAt, WasCut, CutLast, Does, HasCause, Attempts, VaultStays}
+use Rattle.jt_agent.specs.Attempt.{AtLink, at_link, Given, LinkCounts, Leaves, LeavesAt, WasCut, CutLast, Does, HasCause, Attempt, VaultStays}
 use Rattle.jt_agent.specs.Moving.{ended_by, IsTrouble, DidRule, LeavesEvent, CutRule, Comes, TicksOnce, Later, ReadsLink, Takes, Stands, GoesOn, Did, Exit, Ends, IsQuiet}
 use Rattle.jt_agent.specs.declared.ending.AttemptEnd.TheVariants as how
 use Rattle.jt_agent.specs.declared.ending.Attempted.{Attempted}
@@ -45,7 +45,7 @@ more_rise times before mid now rose once = omega arith
 still_rose : (times before mid now : ℕ) → RoseBy times before mid → mid ≤ now → RoseBy times before now
 still_rose times before mid now rose later = omega arith
 
-rose_later : (before mid now : ℕ) → before ≤ mid → Rose mid now → Rose before now
+pub rose_later : (before mid now : ℕ) → before ≤ mid → Rose mid now → Rose before now
 rose_later before mid now later rose = omega arith
 
 rose_none : (count : ℕ) → RoseBy 0 count count
@@ -67,7 +67,7 @@ link_counts_trans old mid now first second = record {
   quiets = counts_trans old.inbound.quiets mid.inbound.quiets now.inbound.quiets first.quiets second.quiets;
 }
 
-counts_later : (old now : Scene) → Later old now → LinkCounts old.link now.link
+counts_later : (old now : AtLink) → Later old now → LinkCounts old.link now.link
 counts_later old now later =
     record { faults = later.faults; quiets = counts_same old.link.inbound.quiets now.link.inbound.quiets (ap (λ (i : Inbound). i.quiets) later.inbound) }
 
@@ -140,7 +140,7 @@ given_kept t moves old now next time time_now given none later = record {
 
 -- ---- what is done
 
-stands_first : (old : Scene) → Stands (course old.state []) old old
+stands_first : (old : AtLink) → Stands (course old.state []) old old
 stands_first old = record {
   on = refl;
   is_state = refl;
@@ -152,7 +152,7 @@ stands_first old = record {
 }
 
 -- the link was read
-stands_read : (c : Course) (old now next : Scene) → Stands c old now → ReadsLink now next → Stands c old next
+stands_read : (c : Course) (old now next : AtLink) → Stands c old now → ReadsLink now next → Stands c old next
 stands_read c old now next stands reads = record {
   on = stands.on;
   is_state = reads.state ∙ stands.is_state;
@@ -173,7 +173,7 @@ wrote_more laws settings settings_now steps more old now next same first second 
 held_more : StepLaws → (steps more : List Step) (old now next : Option Held) → now ≡ holds_after steps old → next ≡ holds_after more now → next ≡ holds_after (steps ++ more) old
 held_more laws steps more old now next first second = second ∙ ap (holds_after more) first ∙ sym (laws.holds_law steps more old)
 
-stands_more : StepLaws → (c : Course) (read : List ℕ) (r : Ruled) (Left : State → Type 0) (old now next : Scene) → Stands c old now → Comes None r Left now next → Later now next → Stands (goes_on c read r) old next
+stands_more : StepLaws → (c : Course) (read : List ℕ) (r : Ruled) (Left : State → Type 0) (old now next : AtLink) → Stands c old now → Comes None r Left now next → Later now next → Stands (goes_on c read r) old next
 stands_more laws c read r Left old now next stands comes later = record {
   on = comes.1.1;
   is_state = comes.0.is_state;
@@ -187,14 +187,14 @@ stands_more laws c read r Left old now next stands comes later = record {
 -- ---- how a move ends an attempt
 
 -- what is written and done at the end of a course
-record Written (c : Course) (old now : Scene) : Type 0 where
+record Written (c : Course) (old now : AtLink) : Type 0 where
   wrote : Appends old.link.written now.link.written (octets_of old.state.settings c.steps)
   held : now.held ≡ holds_after c.steps old.held
   is_state : now.state ≡ c.state
   counts : LinkCounts old.link now.link
   faults : old.faults ≤ now.faults
 
-exit_stopped : (moves : List Move) (octets quiets : ℕ) (old now : Scene) (stop : Stop) → (course old.state moves).stop ≡ Some stop → Written (course old.state moves) old now
+exit_stopped : (moves : List Move) (octets quiets : ℕ) (old now : AtLink) (stop : Stop) → (course old.state moves).stop ≡ Some stop → Written (course old.state moves) old now
     → Exit moves octets quiets old now (ended_by stop)
 exit_stopped moves octets quiets old now Finished is w =
     record { writes = w.wrote; did = (w.held, w.is_state); cause = is; counts = w.counts; faults = w.faults }
@@ -203,7 +203,7 @@ exit_stopped moves octets quiets old now (GaveUp (give_up.Denied reply)) is w =
 exit_stopped moves octets quiets old now (GaveUp (give_up.TimedOut since moment)) is w =
     record { writes = w.wrote; did = (w.held, w.is_state); cause = is; counts = w.counts; faults = w.faults }
 
-exit_failed : (moves : List Move) (move : Move) (octets quiets : ℕ) (old now : Scene) (ended : Attempted)
+exit_failed : (moves : List Move) (move : Move) (octets quiets : ℕ) (old now : AtLink) (ended : Attempted)
     → Appends old.link.written now.link.written (said old.state moves) → WasCut old.state move moves old.held now.held now.state → LinkCounts old.link now.link → old.faults ≤ now.faults
     → IsTrouble ended old.faults now.faults → Exit (move ∷ moves) octets quiets old now ended
 exit_failed moves move octets quiets old now Done wrote cut counts later trouble = absurd trouble
@@ -220,7 +220,7 @@ trouble_later StoreFault before mid faults later trouble = rose_later before mid
 trouble_later Memory before mid faults later trouble = trouble
 
 -- the move was cut short
-was_cut : (moves : List Move) (move : Move) (old now next : Scene) → Stands (course old.state moves) old now
+was_cut : (moves : List Move) (move : Move) (old now next : AtLink) → Stands (course old.state moves) old now
     → CutRule (made (course old.state moves).state (course old.state moves).read move) (LeavesAt (course old.state moves).state (course old.state moves).read move) now next → WasCut old.state move moves old.held next.held next.state
 was_cut moves move old now next stands cut =
     let c = course old.state moves in
@@ -243,7 +243,7 @@ part_written laws settings settings_now steps more old now next same first secon
       Appends-trans old now next (octets_of settings steps) part.0 first part.3,
     )
 
-exit_moved : StepLaws → (moves : List Move) (move : Move) (read : List ℕ) (octets quiets : ℕ) (old now next : Scene) (ended : Attempted) → IsTold move
+exit_moved : StepLaws → (moves : List Move) (move : Move) (read : List ℕ) (octets quiets : ℕ) (old now next : AtLink) (ended : Attempted) → IsTold move
     → course old.state (move ∷ moves) ≡ goes_on (course old.state moves) read (made (course old.state moves).state (course old.state moves).read move)
     → Stands (course old.state moves) old now → Later now next
     → Comes (Some ended) (made (course old.state moves).state (course old.state moves).read move) (LeavesAt (course old.state moves).state (course old.state moves).read move) now next
@@ -283,7 +283,7 @@ exit_moved laws moves move read octets quiets old now next ended told is stands 
 -- ---- the attempt, step by step
 
 -- the first tick
-pub goes_begin : StepLaws → (old now : Scene) (time time_now : Time) (line : LineValue) → StandsForLine line [] → line.stream.place ≡ 0 → TicksOnce None old now time time_now → Later old now
+pub goes_begin : StepLaws → (old now : AtLink) (time time_now : Time) (line : LineValue) → StandsForLine line [] → line.stream.place ≡ 0 → TicksOnce None old now time time_now → Later old now
     → now.state.time ≤ time_now.last → GoesOn AnOpening old now time time_now line 0
 goes_begin laws old now time time_now line fresh place ticks later late =
     let c = course old.state [] in
@@ -300,7 +300,7 @@ goes_begin laws old now time time_now line fresh place ticks later late =
       late = late;
     }
 
-pub ends_begin : StepLaws → (octets quiets : ℕ) (old now : Scene) (time time_now : Time) (ended : Attempted) → TicksOnce (Some ended) old now time time_now → Later old now
+pub ends_begin : StepLaws → (octets quiets : ℕ) (old now : AtLink) (time time_now : Time) (ended : Attempted) → TicksOnce (Some ended) old now time time_now → Later old now
     → Ends octets quiets old now time time_now ended
 ends_begin laws octets quiets old now time time_now ended ticks later = record {
   moves = Ticks ticks.moment ∷ [];
@@ -311,7 +311,7 @@ ends_begin laws octets quiets old now time time_now ended ticks later = record {
 }
 
 -- the line opens
-pub goes_open : StepLaws → (old now next : Scene) (time time_now : Time) (line : LineValue) (taken : ℕ) → GoesOn AnOpening old now time time_now line taken
+pub goes_open : StepLaws → (old now next : AtLink) (time time_now : Time) (line : LineValue) (taken : ℕ) → GoesOn AnOpening old now time time_now line taken
     → Comes None (rule now.state Opened) (LeavesEvent now.state Opened) now next → Later now next → next.state.time ≤ time_now.last → GoesOn ARead old next time time_now line taken
 goes_open laws old now next time time_now line taken goes comes later late =
     let c = course old.state goes.moves in
@@ -328,7 +328,7 @@ goes_open laws old now next time time_now line taken goes comes later late =
       late = late;
     }
 
-pub ends_open : StepLaws → (octets quiets : ℕ) (old now next : Scene) (time time_now : Time) (line : LineValue) (taken : ℕ) (ended : Attempted) → taken ≤ octets
+pub ends_open : StepLaws → (octets quiets : ℕ) (old now next : AtLink) (time time_now : Time) (line : LineValue) (taken : ℕ) (ended : Attempted) → taken ≤ octets
     → GoesOn AnOpening old now time time_now line taken → Comes (Some ended) (rule now.state Opened) (LeavesEvent now.state Opened) now next → Later now next → Ends octets quiets old next time time_now ended
 ends_open laws octets quiets old now next time time_now line taken ended few goes comes later =
     let c = course old.state goes.moves in
@@ -341,7 +341,7 @@ ends_open laws octets quiets old now next time time_now line taken ended few goe
     }
 
 -- octets came; what is heard of them is told by the line
-pub goes_read : StepLaws → (old now mid next : Scene) (time time_now : Time) (line line_next : LineValue) (taken : ℕ) (octets : List ℕ)
+pub goes_read : StepLaws → (old now mid next : AtLink) (time time_now : Time) (line line_next : LineValue) (taken : ℕ) (octets : List ℕ)
     → GoesOn ARead old now time time_now line taken → Gives now.link.inbound mid.link.inbound octets → ReadsLink now mid → AreOctets octets → IsPiece octets
     → ((seen : List ℕ) → StandsForLine line seen → Comes None (fed mid.state seen octets) (LeavesAt mid.state seen (Reads octets)) mid next)
     → ((seen : List ℕ) → StandsForLine line seen → StandsForLine line_next (seen ++ octets)) → line_next.stream.place ≤ line.stream.place + length octets
@@ -365,7 +365,7 @@ goes_read laws old now mid next time time_now line line_next taken octets goes g
       late = late;
     }
 
-pub ends_read : StepLaws → (most quiets : ℕ) (old now mid next : Scene) (time time_now : Time) (line : LineValue) (taken : ℕ) (octets : List ℕ) (ended : Attempted)
+pub ends_read : StepLaws → (most quiets : ℕ) (old now mid next : AtLink) (time time_now : Time) (line : LineValue) (taken : ℕ) (octets : List ℕ) (ended : Attempted)
     → taken + length octets ≤ most → GoesOn ARead old now time time_now line taken → Gives now.link.inbound mid.link.inbound octets → ReadsLink now mid
     → AreOctets octets → IsPiece octets → ((seen : List ℕ) → StandsForLine line seen → Comes (Some ended) (fed mid.state seen octets) (LeavesAt mid.state seen (Reads octets)) mid next) → Later mid next
     → Ends most quiets old next time time_now ended
@@ -383,7 +383,7 @@ ends_read laws most quiets old now mid next time time_now line taken octets ende
     }
 
 -- nothing came
-pub goes_wait : (old now next : Scene) (time time_now : Time) (line : LineValue) (taken : ℕ) → GoesOn ARead old now time time_now line taken
+pub goes_wait : (old now next : AtLink) (time time_now : Time) (line : LineValue) (taken : ℕ) → GoesOn ARead old now time time_now line taken
     → GivesNone now.link.inbound next.link.inbound → Rose now.link.inbound.quiets next.link.inbound.quiets → ReadsLink now next → GoesOn ATick old next time time_now line taken
 goes_wait old now next time time_now line taken goes none rose reads = record {
   moves = Waits ∷ goes.moves;
@@ -398,7 +398,7 @@ goes_wait old now next time time_now line taken goes none rose reads = record {
 }
 
 -- the tick of a turn
-pub goes_tick : StepLaws → (old now next : Scene) (time time_now time_next : Time) (line : LineValue) (taken : ℕ) → GoesOn ATick old now time time_now line taken
+pub goes_tick : StepLaws → (old now next : AtLink) (time time_now time_next : Time) (line : LineValue) (taken : ℕ) → GoesOn ATick old now time time_now line taken
     → TicksOnce None now next time_now time_next → Later now next → next.state.time ≤ time_next.last → GoesOn ARead old next time time_next line taken
 goes_tick laws old now next time time_now time_next line taken goes ticks later late =
     let c = course old.state goes.moves in
@@ -415,7 +415,7 @@ goes_tick laws old now next time time_now time_next line taken goes ticks later 
       late = late;
     }
 
-pub ends_tick : StepLaws → (octets quiets : ℕ) (old now next : Scene) (time time_now time_next : Time) (line : LineValue) (taken : ℕ) (ended : Attempted) → taken ≤ octets
+pub ends_tick : StepLaws → (octets quiets : ℕ) (old now next : AtLink) (time time_now time_next : Time) (line : LineValue) (taken : ℕ) (ended : Attempted) → taken ≤ octets
     → GoesOn ATick old now time time_now line taken → TicksOnce (Some ended) now next time_now time_next → Later now next → Ends octets quiets old next time time_next ended
 ends_tick laws octets quiets old now next time time_now time_next line taken ended few goes ticks later =
     let c = course old.state goes.moves in
@@ -429,15 +429,15 @@ ends_tick laws octets quiets old now next time time_now time_next line taken end
 
 -- ---- ends by the link, and for budgets
 
-written_still : (c : Course) (old now next : Scene) → Stands c old now → ReadsLink now next → Written c old next
+written_still : (c : Course) (old now next : AtLink) → Stands c old now → ReadsLink now next → Written c old next
 written_still c old now next stands reads =
     let next_stands = stands_read c old now next stands reads in
     record { wrote = next_stands.writes; held = next_stands.held; is_state = next_stands.is_state; counts = next_stands.counts; faults = next_stands.vault }
 
-at_read : (old now : Scene) (time time_now : Time) (line : LineValue) (taken : ℕ) → (goes : GoesOn ARead old now time time_now line taken) → IsAtRead old.state goes.moves
+at_read : (old now : AtLink) (time time_now : Time) (line : LineValue) (taken : ℕ) → (goes : GoesOn ARead old now time time_now line taken) → IsAtRead old.state goes.moves
 at_read old now time time_now line taken goes = record { on = goes.stands.on; next = goes.is_due }
 
-pub ends_end : (octets quiets : ℕ) (old now next : Scene) (time time_now : Time) (line : LineValue) (taken : ℕ) → taken ≤ octets
+pub ends_end : (octets quiets : ℕ) (old now next : AtLink) (time time_now : Time) (line : LineValue) (taken : ℕ) → taken ≤ octets
     → GoesOn ARead old now time time_now line taken → GivesNone now.link.inbound next.link.inbound → ReadsLink now next → IsAtEnd next.link.inbound.left
     → Ends octets quiets old next time time_now (Ended how.End)
 ends_end octets quiets old now next time time_now line taken few goes none reads at_end =
@@ -449,7 +449,7 @@ ends_end octets quiets old now next time time_now line taken few goes none reads
       exit = record { writes = w.wrote; did = (w.held, w.is_state); cause = (at_read old now time time_now line taken goes, at_end); counts = w.counts; faults = w.faults };
     }
 
-pub ends_link : (octets quiets : ℕ) (old now next : Scene) (time time_now : Time) (line : LineValue) (taken : ℕ) → taken ≤ octets
+pub ends_link : (octets quiets : ℕ) (old now next : AtLink) (time time_now : Time) (line : LineValue) (taken : ℕ) → taken ≤ octets
     → GoesOn ARead old now time time_now line taken → GivesNone now.link.inbound next.link.inbound → ReadsLink now next → Rose now.link.faults next.link.faults
     → Ends octets quiets old next time time_now (Ended how.Link)
 ends_link octets quiets old now next time time_now line taken few goes none reads rose =
@@ -467,7 +467,7 @@ ends_link octets quiets old now next time time_now line taken few goes none read
       };
     }
 
-pub ends_idle : (octets quiets : ℕ) (old now next : Scene) (time time_now : Time) (line : LineValue) (taken : ℕ) → taken ≤ octets
+pub ends_idle : (octets quiets : ℕ) (old now next : AtLink) (time time_now : Time) (line : LineValue) (taken : ℕ) → taken ≤ octets
     → GoesOn ARead old now time time_now line taken → GivesNone now.link.inbound next.link.inbound → ReadsLink now next → IsQuiet quiets old.link.inbound next.link.inbound
     → Ends octets quiets old next time time_now (Ended how.Idle)
 ends_idle octets quiets old now next time time_now line taken few goes none reads quiet =
@@ -479,7 +479,7 @@ ends_idle octets quiets old now next time time_now line taken few goes none read
       exit = record { writes = w.wrote; did = (w.held, w.is_state); cause = (at_read old now time time_now line taken goes, quiet.rose, quiet.run); counts = w.counts; faults = w.faults };
     }
 
-pub ends_spent : (octets quiets : ℕ) (old now : Scene) (time time_now : Time) (line : LineValue) (taken : ℕ) → taken ≡ octets
+pub ends_spent : (octets quiets : ℕ) (old now : AtLink) (time time_now : Time) (line : LineValue) (taken : ℕ) → taken ≡ octets
     → GoesOn ARead old now time time_now line taken → Ends octets quiets old now time time_now (Ended how.Spent)
 ends_spent octets quiets old now time time_now line taken all goes = record {
   moves = goes.moves;
@@ -499,7 +499,7 @@ quiet_more quiet old now next few is run rose =
 weaker_rise : (times before now : ℕ) → RoseBy times before now → RoseBy 0 before now
 weaker_rise times before now rose = omega arith
 
-pub quiet_from : (next : Due) (old now : Scene) (time time_now : Time) (line : LineValue) (taken : ℕ) → GoesOn next old now time time_now line taken → IsQuiet 0 old.link.inbound now.link.inbound
+pub quiet_from : (next : Due) (old now : AtLink) (time time_now : Time) (line : LineValue) (taken : ℕ) → GoesOn next old now time time_now line taken → IsQuiet 0 old.link.inbound now.link.inbound
 quiet_from next old now time time_now line taken goes = record {
   run = omega arith;
   rose = weaker_rise (waits_of goes.moves) old.link.inbound.quiets now.link.inbound.quiets goes.given.waits;
@@ -508,7 +508,7 @@ quiet_from next old now time time_now line taken goes = record {
 pub quiet_kept : (quiet : ℕ) (old mid next : Inbound) → IsQuiet quiet old mid → next ≡ mid → IsQuiet quiet old next
 quiet_kept quiet old mid next is same = subst (IsQuiet quiet old) (sym same) is
 
-pub goes_count : (next : Due) (old now : Scene) (time time_now : Time) (line : LineValue) (n m : ℕ) → GoesOn next old now time time_now line n → n ≡ m → GoesOn next old now time time_now line m
+pub goes_count : (next : Due) (old now : AtLink) (time time_now : Time) (line : LineValue) (n m : ℕ) → GoesOn next old now time time_now line n → n ≡ m → GoesOn next old now time time_now line m
 goes_count next old now time time_now line n m goes same = subst (GoesOn next old now time time_now line) same goes
 
 pub late_still : (before after last : ℕ) → after ≡ before → before ≤ last → after ≤ last
@@ -536,8 +536,8 @@ vault_else faults faults_now most most_now may may_now one two stays none = reco
 
 -- ---- the end, when the line is lost
 
-cause_after : (octets quiets : ℕ) (moves : List Move) (old now : Scene) (state : State) (held : Option Held) (faults : ℕ) (ended : Attempted) → now.faults ≤ faults
-    → HasCause ended octets quiets moves old now → HasCause ended octets quiets moves old (scene state held faults now.link)
+cause_after : (octets quiets : ℕ) (moves : List Move) (old now : AtLink) (state : State) (held : Option Held) (faults : ℕ) (ended : Attempted) → now.faults ≤ faults
+    → HasCause ended octets quiets moves old now → HasCause ended octets quiets moves old (at_link state held faults now.link)
 cause_after octets quiets moves old now state held faults Done later cause = cause
 cause_after octets quiets moves old now state held faults (Ended how.Dial) later cause = cause
 cause_after octets quiets moves old now state held faults (Ended how.Link) later cause = cause
@@ -587,10 +587,10 @@ does_after (Ended end) t moves old mid now state after did lost = (lost.held ∙
 does_after StoreFault t moves old mid now state after did lost = cut_after t moves old mid now state after did lost
 does_after Memory t moves old mid now state after did lost = cut_after t moves old mid now state after did lost
 
-pub attempts_of : (octets quiets : ℕ) (old now : Scene) (time time_now : Time) (state : State) (held : Option Held) (faults : ℕ) (ended : Attempted)
+pub attempt_of : (octets quiets : ℕ) (old now : AtLink) (time time_now : Time) (state : State) (held : Option Held) (faults : ℕ) (ended : Attempted)
     → Ends octets quiets old now time time_now ended → DidRule (rule now.state Lost) state now.held held → now.faults ≤ faults
-    → Attempts octets quiets old (scene state held faults now.link) time time_now ended
-attempts_of octets quiets old now time time_now state held faults ended ends lost later = record {
+    → Attempt octets quiets old (at_link state held faults now.link) time time_now ended
+attempt_of octets quiets old now time time_now state held faults ended ends lost later = record {
   moves = ends.moves;
   given = ends.given;
   within = ends.within;

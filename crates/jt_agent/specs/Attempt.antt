@@ -20,14 +20,14 @@ use Rattle.jt_agent.specs.declared.ending.Attempted.{Attempted}
 use Rattle.jt_agent.specs.declared.ending.Attempted.TheVariants.{Done, Ended, StoreFault, Memory}
 
 -- what an attempt changes: the terminal, what its vault holds where it tells it, the vault's count of faults, and the link
-pub record Scene : Type 0 where
+pub record AtLink : Type 0 where
   pub state : State
   pub held : Option Held
   pub faults : ℕ
   pub link : Wire
 
-abbrev pub scene : State → Option Held → ℕ → Wire → Scene
-scene state held faults link = record { state = state; held = held; faults = faults; link = link }
+abbrev pub at_link : State → Option Held → ℕ → Wire → AtLink
+at_link state held faults link = record { state = state; held = held; faults = faults; link = link }
 
 -- what the terminal was told came from the link and the clock
 pub record Given (t : State) (moves : List Move) (old now : Inbound) (time time_now : Time) : Type 0 where
@@ -111,7 +111,7 @@ Does Memory t moves old now after = CutLast t moves old now after
 -- Why an attempt ends. By the terminal: all is accepted, or it gave up, with its values. By the link: its count of faults rose; or it said, at
 -- a read, that it ended, with nothing left where that is told. Because, at a read, as many reads in a row were quiet, or as many octets were
 -- taken, as may be. By the vault, whose count of faults rose. It never ends for want of a link.
-abbrev pub HasCause : Attempted → ℕ → ℕ → List Move → Scene → Scene → Type 0
+abbrev pub HasCause : Attempted → ℕ → ℕ → List Move → AtLink → AtLink → Type 0
 HasCause Done octets quiets moves old now = (course old.state moves).stop ≡ Some Finished
 HasCause (Ended (how.Denied reply)) octets quiets moves old now = (course old.state moves).stop ≡ Some (GaveUp (give_up.Denied reply))
 HasCause (Ended (how.TimedOut since moment)) octets quiets moves old now = (course old.state moves).stop ≡ Some (GaveUp (give_up.TimedOut since moment))
@@ -126,7 +126,7 @@ HasCause Memory octets quiets moves old now = Unit {0}
 
 -- An attempt over a link, with at most so many octets taken and so many quiet reads in a row: there are moves, newest first, of which all of
 -- this holds.
-pub record Attempts (octets quiets : ℕ) (old now : Scene) (time time_now : Time) (ended : Attempted) : Type 0 where
+pub record Attempt (octets quiets : ℕ) (old now : AtLink) (time time_now : Time) (ended : Attempted) : Type 0 where
   pub moves : List Move
   pub given : Given old.state moves old.link.inbound now.link.inbound time time_now
   pub within : length (course old.state moves).read ≤ octets

@@ -18,7 +18,7 @@ use Rattle.jt_terminal_steps.specs.AfterError.{AllTablesOrNone, CutLists, lists_
 use Rattle.jt_terminal_steps.specs.Running.{holds_after, time_after, CutShort, IsDown}
 use Rattle.jt_terminal.specs.Line.{LineValue, StandsForLine}
 use Rattle.jt_agent.specs.Course.{Move, Ticks, Opens, Reads, Waits, Course, course, due, Due, ARead, IsPiece, Stop, Finished, GaveUp, stop_of, is_done, octets_of}
-use Rattle.jt_agent.specs.Attempt.{Scene, Given, Writes, CutLast, HasCause, Leaves, LinkCounts}
+use Rattle.jt_agent.specs.Attempt.{AtLink, Given, Writes, CutLast, HasCause, Leaves, LinkCounts}
 use Rattle.jt_agent.specs.declared.ending.AttemptEnd.TheVariants as how
 use Rattle.jt_agent.specs.declared.ending.Attempted.{Attempted}
 use Rattle.jt_agent.specs.declared.ending.Attempted.TheVariants.{Done, Ended, StoreFault, Memory}
@@ -46,7 +46,7 @@ abbrev pub LeavesEvent : State → Event → State → Type 0
 LeavesEvent s event after = Leaves s (time_after s event) (AllTablesOrNone s (rule s event).state) after
 
 -- a rule was cut short, the state is one of these, and nothing was written
-pub record CutRule (r : Ruled) (Left : State → Type 0) (old now : Scene) : Type 0 where
+pub record CutRule (r : Ruled) (Left : State → Type 0) (old now : AtLink) : Type 0 where
   pub vault : CutShort r.steps old.held now.held
   pub lists : CutLists r.steps (lists_of old.state) (lists_of now.state)
   pub left : Left now.state
@@ -61,7 +61,7 @@ Concludes (Some ended) end done octets link now =
     ⊎ (AppendsPrefix link.written now.written octets × (ended ≡ Ended how.Link) × Rose link.faults now.faults)
 
 -- a move was done, and this came of it; or it was cut short
-abbrev pub Comes : Option Attempted → Ruled → (State → Type 0) → Scene → Scene → Type 0
+abbrev pub Comes : Option Attempted → Ruled → (State → Type 0) → AtLink → AtLink → Type 0
 Comes None r Left old now =
     DidRule r now.state old.held now.held × Concludes None r.end (is_done r.state) (octets_of old.state.settings r.steps) old.link now.link
 Comes (Some ended) r Left old now =
@@ -69,20 +69,20 @@ Comes (Some ended) r Left old now =
     ⊎ (CutRule r Left old now × IsTrouble ended old.faults now.faults)
 
 -- a moment was told
-pub record TicksOnce (result : Option Attempted) (old now : Scene) (time time_now : Time) : Type 0 where
+pub record TicksOnce (result : Option Attempted) (old now : AtLink) (time time_now : Time) : Type 0 where
   pub moment : ℕ
   pub tells : Tells time time_now moment
   pub comes : Comes result (rule old.state (Tick moment)) (LeavesEvent old.state (Tick moment)) old now
 
 -- the reading side and the settings stay, and the counts never fall
-pub record Later (old now : Scene) : Type 0 where
+pub record Later (old now : AtLink) : Type 0 where
   pub inbound : now.link.inbound ≡ old.link.inbound
   pub faults : Counts old.link.faults now.link.faults
   pub vault : old.faults ≤ now.faults
   pub settings : now.state.settings ≡ old.state.settings
 
 -- a read of the link, of which the terminal knows nothing yet
-pub record ReadsLink (old now : Scene) : Type 0 where
+pub record ReadsLink (old now : AtLink) : Type 0 where
   pub written : now.link.written ≡ old.link.written
   pub faults : Counts old.link.faults now.link.faults
   pub quiets : Counts old.link.inbound.quiets now.link.inbound.quiets
@@ -98,7 +98,7 @@ Takes (Reads octets) old now time time_now = Gives old now octets × (old.quiets
 Takes Waits old now time time_now = GivesNone old now × Rose old.quiets now.quiets × (time_now ≡ time)
 
 -- how far the terminal, the vault and the link's writing side have come
-pub record Stands (c : Course) (old now : Scene) : Type 0 where
+pub record Stands (c : Course) (old now : AtLink) : Type 0 where
   pub on : c.stop ≡ None
   pub is_state : now.state ≡ c.state
   pub settings : now.state.settings ≡ old.state.settings
@@ -108,7 +108,7 @@ pub record Stands (c : Course) (old now : Scene) : Type 0 where
   pub vault : old.faults ≤ now.faults
 
 -- an attempt so far, which goes on
-pub record GoesOn (next : Due) (old now : Scene) (time time_now : Time) (line : LineValue) (taken : ℕ) : Type 0 where
+pub record GoesOn (next : Due) (old now : AtLink) (time time_now : Time) (line : LineValue) (taken : ℕ) : Type 0 where
   pub moves : List Move
   pub is_due : due moves ≡ next
   pub behind : (moment : ℕ) → due (Ticks moment ∷ moves) ≡ ARead
@@ -127,7 +127,7 @@ Did StoreFault t moves old now state = CutLast t moves old now state
 Did Memory t moves old now state = CutLast t moves old now state
 
 -- why the attempt ended with the last of these moves, and what was written and done by then
-pub record Exit (moves : List Move) (octets quiets : ℕ) (old now : Scene) (ended : Attempted) : Type 0 where
+pub record Exit (moves : List Move) (octets quiets : ℕ) (old now : AtLink) (ended : Attempted) : Type 0 where
   pub writes : Writes ended old.state moves old.link.written now.link.written
   pub did : Did ended old.state moves old.held now.held now.state
   pub cause : HasCause ended octets quiets moves old now
@@ -135,7 +135,7 @@ pub record Exit (moves : List Move) (octets quiets : ℕ) (old now : Scene) (end
   pub faults : old.faults ≤ now.faults
 
 -- an attempt that ended, before the terminal loses its line
-pub record Ends (octets quiets : ℕ) (old now : Scene) (time time_now : Time) (ended : Attempted) : Type 0 where
+pub record Ends (octets quiets : ℕ) (old now : AtLink) (time time_now : Time) (ended : Attempted) : Type 0 where
   pub moves : List Move
   pub given : Given old.state moves old.link.inbound now.link.inbound time time_now
   pub within : length (course old.state moves).read ≤ octets

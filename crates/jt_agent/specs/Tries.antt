@@ -7,7 +7,7 @@ use Rattle.jt_link.specs.Time.{Time}
 use Rattle.jt_store.specs.Vaults.{Held}
 use Rattle.jt_terminal_rule.specs.declared.state.State.{State}
 use Rattle.jt_agent.specs.Course.{is_done}
-use Rattle.jt_agent.specs.Attempt.{Attempts, Scene}
+use Rattle.jt_agent.specs.Attempt.{Attempt, AtLink}
 use Rattle.jt_agent.specs.declared.ending.AttemptEnd.{AttemptEnd}
 use Rattle.jt_agent.specs.declared.ending.AttemptEnd.TheVariants as how
 use Rattle.jt_agent.specs.declared.ending.Attempted.{Attempted}
@@ -16,7 +16,7 @@ use Rattle.jt_agent.specs.declared.reporting.Outcome.{Outcome}
 use Rattle.jt_agent.specs.declared.reporting.Outcome.TheVariants.{Done, Unsent, StoreFault, Memory}
 
 -- between two attempts: the terminal, what its vault holds and its count of faults, the clock, and the dial with its count of faults
-pub record Stage : Type 0 where
+pub record Between : Type 0 where
   pub state : State
   pub held : Option Held
   pub faults : ℕ
@@ -24,29 +24,29 @@ pub record Stage : Type 0 where
   pub pool : Pool
   pub dial : ℕ
 
-abbrev pub stage : State → Option Held → ℕ → Time → Pool → ℕ → Stage
-stage state held faults time pool dial = record { state = state; held = held; faults = faults; time = time; pool = pool; dial = dial }
+abbrev pub between : State → Option Held → ℕ → Time → Pool → ℕ → Between
+between state held faults time pool dial = record { state = state; held = held; faults = faults; time = time; pool = pool; dial = dial }
 
-abbrev pub scene_at : Stage → Wire → Scene
-scene_at s link = record { state = s.state; held = s.held; faults = s.faults; link = link }
+abbrev pub with_link : Between → Wire → AtLink
+with_link s link = record { state = s.state; held = s.held; faults = s.faults; link = link }
 
 -- the dial gave a link, an attempt was made over it, and it went back
-pub record OverLink (old now : Stage) (end : Attempted) : Type 0 where
+pub record OverLink (old now : Between) (end : Attempted) : Type 0 where
   pub link : Wire
   pub used : Wire
   pub lending : Pool
   pub gives : GivesLink old.pool lending (Some link)
-  pub attempt : Attempts (2 ^ 40) 1000000 (scene_at old link) (scene_at now used) old.time now.time end
+  pub attempt : Attempt (2 ^ 40) 1000000 (with_link old link) (with_link now used) old.time now.time end
   pub back : now.pool ≡ taken_back used lending
   pub dial : Counts old.dial now.dial
 
 -- the dial failed, and its count rose
-pub record NoLink (old now : Stage) : Type 0 where
+pub record NoLink (old now : Between) : Type 0 where
   pub dial : Rose old.dial now.dial
   pub same : now ≡ record old { dial = now.dial }
 
 -- an attempt that ended so
-abbrev pub OneTry : AttemptEnd → Stage → Stage → Type 0
+abbrev pub OneTry : AttemptEnd → Between → Between → Type 0
 OneTry how.Dial old now = NoLink old now
 OneTry how.Link old now = OverLink old now (attempted.Ended how.Link)
 OneTry how.End old now = OverLink old now (attempted.Ended how.End)
@@ -55,20 +55,20 @@ OneTry (how.TimedOut since moment) old now = OverLink old now (attempted.Ended (
 OneTry how.Idle old now = OverLink old now (attempted.Ended how.Idle)
 OneTry how.Spent old now = OverLink old now (attempted.Ended how.Spent)
 
-abbrev pub TriesOnce : Attempted → Stage → Stage → Type 0
+abbrev pub TriesOnce : Attempted → Between → Between → Type 0
 TriesOnce (attempted.Ended end) old now = OneTry end old now
 TriesOnce attempted.Done old now = OverLink old now attempted.Done
 TriesOnce attempted.StoreFault old now = OverLink old now attempted.StoreFault
 TriesOnce attempted.Memory old now = OverLink old now attempted.Memory
 
 -- attempts that ended so, in order, each begun with something left to report
-abbrev pub Tries : List AttemptEnd → Stage → Stage → Type 0
+abbrev pub Tries : List AttemptEnd → Between → Between → Type 0
 Tries [] old now = now ≡ old
-Tries (end ∷ ends) old now = (is_done old.state ≡ false) × (mid : Stage) × OneTry end old mid × Tries ends mid now
+Tries (end ∷ ends) old now = (is_done old.state ≡ false) × (mid : Between) × OneTry end old mid × Tries ends mid now
 
 -- such attempts, and then one more, begun with something left to report, after which none comes
-pub record Breaks (ends : List AttemptEnd) (old now : Stage) (end : Attempted) : Type 0 where
-  pub mid : Stage
+pub record Breaks (ends : List AttemptEnd) (old now : Between) (end : Attempted) : Type 0 where
+  pub mid : Between
   pub tries : Tries ends old mid
   pub left : is_done mid.state ≡ false
   pub last : OverLink mid now end
@@ -76,7 +76,7 @@ pub record Breaks (ends : List AttemptEnd) (old now : Stage) (end : Attempted) :
 -- Attempts that ended, and what came then. Done: all is accepted after them, or by one more attempt. Unsent: they are as many as may be, and
 -- something is left. StoreFault: one more attempt, in which the vault failed. Memory: one more attempt, in which memory was refused, or it
 -- was refused between two attempts. In all cases there are no more attempts than may be.
-abbrev pub Reports : ℕ → Outcome → Stage → Stage → Type 0
+abbrev pub Reports : ℕ → Outcome → Between → Between → Type 0
 Reports tries (Done ends) old now =
     ((length ends ≤ tries) × Tries ends old now × (is_done now.state ≡ true)) ⊎ ((length ends < tries) × Breaks ends old now attempted.Done)
 Reports tries (Unsent ends) old now = (length ends ≡ tries) × Tries ends old now × (is_done now.state ≡ false)

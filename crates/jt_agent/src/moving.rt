@@ -9,7 +9,7 @@ ghost use Rattle.jt_terminal_rule.specs.Rule.{rule};
 ghost use Rattle.jt_terminal_steps.specs.Running.{IsEvent, time_after};
 ghost use Rattle.jt_terminal.specs.Line.{StandsForLine, fed};
 ghost use Rattle.jt_value.specs.Octets.{AreOctets};
-ghost use Rattle.jt_agent.specs.Attempt.{LeavesAt, VaultStays, scene};
+ghost use Rattle.jt_agent.specs.Attempt.{LeavesAt, VaultStays, at_link};
 ghost use Rattle.jt_agent.specs.Course.{Reads};
 ghost use Rattle.jt_agent.specs.Moving.{Comes, Concludes, LeavesEvent, TicksOnce};
 ghost use Rattle.jt_agent.specs.declared.ending.Attempted.TheVariants.{StoreFault};
@@ -71,8 +71,8 @@ pub(crate) fn tell<K: Link, V: Vault>(
 ) -> Option<Attempted>
     requires { IsEvent terminal.old.state event }
     ensures comes { Comes result (rule terminal.old.state event) (LeavesEvent terminal.old.state event)
-        (scene terminal.old.state (V.holds terminal.old.vault) (V.faults terminal.old.vault) (wire_of K.inbound K.written K.faults link.old))
-        (scene terminal.new.state (V.holds terminal.new.vault) (V.faults terminal.new.vault) (wire_of K.inbound K.written K.faults link.new)) }
+        (at_link terminal.old.state (V.holds terminal.old.vault) (V.faults terminal.old.vault) (wire_of K.inbound K.written K.faults link.old))
+        (at_link terminal.new.state (V.holds terminal.new.vault) (V.faults terminal.new.vault) (wire_of K.inbound K.written K.faults link.new)) }
     ensures time { terminal.new.state.time ≡ time_after terminal.old.state event }
     ensures settings { terminal.new.state.settings ≡ terminal.old.state.settings }
     ensures inbound { K.inbound link.new ≡ K.inbound link.old }
@@ -99,8 +99,8 @@ pub(crate) fn hear<K: Link, V: Vault>(
 ) -> Option<Attempted>
     requires { line.old.stream.place + length octets.now < 2 ^ 63 }
     ensures comes { (seen : List ℕ) → StandsForLine line.old seen → Comes result (fed terminal.old.state seen octets.now) (LeavesAt terminal.old.state seen (Reads octets.now))
-        (scene terminal.old.state (V.holds terminal.old.vault) (V.faults terminal.old.vault) (wire_of K.inbound K.written K.faults link.old))
-        (scene terminal.new.state (V.holds terminal.new.vault) (V.faults terminal.new.vault) (wire_of K.inbound K.written K.faults link.new)) }
+        (at_link terminal.old.state (V.holds terminal.old.vault) (V.faults terminal.old.vault) (wire_of K.inbound K.written K.faults link.old))
+        (at_link terminal.new.state (V.holds terminal.new.vault) (V.faults terminal.new.vault) (wire_of K.inbound K.written K.faults link.new)) }
     ensures line { (seen : List ℕ) → StandsForLine line.old seen → result ≡ None → StandsForLine line.new (seen ++ octets.now) }
     ensures place { line.new.stream.place ≤ line.old.stream.place + length octets.now }
     ensures fit { AreOctets octets.now }
@@ -129,8 +129,8 @@ pub(crate) fn tick<K: Link, C: Clock, V: Vault>(
 ) -> Option<Attempted>
     requires { terminal.old.state.time ≤ (C.time clock.old).last }
     ensures ticks { TicksOnce result
-        (scene terminal.old.state (V.holds terminal.old.vault) (V.faults terminal.old.vault) (wire_of K.inbound K.written K.faults link.old))
-        (scene terminal.new.state (V.holds terminal.new.vault) (V.faults terminal.new.vault) (wire_of K.inbound K.written K.faults link.new))
+        (at_link terminal.old.state (V.holds terminal.old.vault) (V.faults terminal.old.vault) (wire_of K.inbound K.written K.faults link.old))
+        (at_link terminal.new.state (V.holds terminal.new.vault) (V.faults terminal.new.vault) (wire_of K.inbound K.written K.faults link.new))
         (C.time clock.old) (C.time clock.new) }
     ensures late { terminal.new.state.time ≤ (C.time clock.new).last }
     ensures settings { terminal.new.state.settings ≡ terminal.old.state.settings }

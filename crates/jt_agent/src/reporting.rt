@@ -1,11 +1,11 @@
 //! Attempts one after another.
 
 ghost use Rattle.std.specs.Prelude.{◌≡◌, ◌≤◌};
-ghost use Rattle.jt_io.specs.Count.{RoseBy};
+ghost use Rattle.jt_io.specs.Count.{Rose, RoseBy};
 ghost use Rattle.jt_link.specs.Link.{wire_of};
-ghost use Rattle.jt_terminal_steps.specs.Running.{IsDown};
+ghost use Rattle.jt_terminal_rule.specs.declared.state.Phase.TheVariants.{Down};
 ghost use Rattle.jt_agent.specs.Attempt.{VaultStays};
-ghost use Rattle.jt_agent.specs.Tries.{IsStoreFault, Reports, TriesOnce, dials_in, ends_told, stage};
+ghost use Rattle.jt_agent.specs.Tries.{IsStoreFault, Reports, TriesOnce, dials_in, ends_told, between};
 ghost use Rattle.jt_agent.specs.declared.ending.Attempted.TheVariants.{StoreFault};
 
 use crate::ending::{AttemptEnd, Attempted};
@@ -16,7 +16,7 @@ use jt_terminal::Terminal;
 use jt_value::Seq;
 use std::alloc::Global;
 
-/// What attempts one after another came to. Each has the ends of those that ended before, in order, but Memory.
+/// What attempts one after another came to. Each has the ends of those that ended before, in order; Memory has none.
 #[derive(Drop)]
 pub enum Outcome {
     /// Every recorded fix is accepted.
@@ -38,12 +38,13 @@ fn try_once<D: Dial, C: Clock, V: Vault>(
     host: &str,
     port: u16,
 ) -> Attempted
-    requires down { IsDown terminal.old.state }
+    requires down { terminal.old.state.phase ≡ Down }
     requires time { terminal.old.state.time ≤ (C.time clock.old).last }
     ensures tried { TriesOnce result
-        (stage terminal.old.state (V.holds terminal.old.vault) (V.faults terminal.old.vault) (C.time clock.old) (D.pool dial.old) (D.faults dial.old))
-        (stage terminal.new.state (V.holds terminal.new.vault) (V.faults terminal.new.vault) (C.time clock.new) (D.pool dial.new) (D.faults dial.new)) }
-    ensures down { IsDown terminal.new.state }
+        (between terminal.old.state (V.holds terminal.old.vault) (V.faults terminal.old.vault) (C.time clock.old) (D.pool dial.old) (D.faults dial.old))
+        (between terminal.new.state (V.holds terminal.new.vault) (V.faults terminal.new.vault) (C.time clock.new) (D.pool dial.new) (D.faults dial.new)) }
+    ensures down { terminal.new.state.phase ≡ Down }
+    ensures sent { terminal.old.state.sent ≡ 0 → terminal.new.state.sent ≡ 0 }
     ensures late { terminal.new.state.time ≤ (C.time clock.new).last }
     ensures settings { terminal.new.state.settings ≡ terminal.old.state.settings }
     ensures vault { VaultStays (V.faults terminal.old.vault) (V.faults terminal.new.vault) (V.limit terminal.old.vault) (V.limit terminal.new.vault) (V.may_fail terminal.old.vault) (V.may_fail terminal.new.vault) (result ≡ StoreFault) }
@@ -61,10 +62,10 @@ fn try_once<D: Dial, C: Clock, V: Vault>(
 
 /// Up to `tries` attempts of a terminal without a line, one after another, each over a link to the host and the port that the
 /// dial gives and that goes back to it. Done comes as soon as every recorded fix is accepted, before dialling where that is so at
-/// once; Unsent comes after `tries` attempts that ended.
+/// once; Unsent comes after `tries` attempts that ended, where some fix is not accepted.
 ///
 /// The clock's last answer, at first 0, is not below the terminal's time. Memory is taken by `alloc` alone, so the call needs no
-/// runtime; room for the end of an attempt is taken before the attempt.
+/// runtime.
 pub fn report_all<D: Dial, C: Clock, V: Vault>(
     alloc: Global,
     dial: &mut D,
@@ -74,16 +75,19 @@ pub fn report_all<D: Dial, C: Clock, V: Vault>(
     port: u16,
     tries: u32,
 ) -> Outcome
-    requires down { IsDown terminal.old.state }
+    requires down { terminal.old.state.phase ≡ Down }
     requires time { terminal.old.state.time ≤ (C.time clock.old).last }
     // The attempts over the links that the dial gave, with their ends, and what they came to.
     ensures reports { Reports tries result
-        (stage terminal.old.state (V.holds terminal.old.vault) (V.faults terminal.old.vault) (C.time clock.old) (D.pool dial.old) (D.faults dial.old))
-        (stage terminal.new.state (V.holds terminal.new.vault) (V.faults terminal.new.vault) (C.time clock.new) (D.pool dial.new) (D.faults dial.new)) }
+        (between terminal.old.state (V.holds terminal.old.vault) (V.faults terminal.old.vault) (C.time clock.old) (D.pool dial.old) (D.faults dial.old))
+        (between terminal.new.state (V.holds terminal.new.vault) (V.faults terminal.new.vault) (C.time clock.new) (D.pool dial.new) (D.faults dial.new)) }
     // The dial's count rose for each attempt that ended for want of a link.
     ensures dials { RoseBy (dials_in (ends_told result)) (D.faults dial.old) (D.faults dial.new) }
+    // The vault failed only where its count rose in this call.
+    ensures failed { IsStoreFault result → Rose (V.faults terminal.old.vault) (V.faults terminal.new.vault) }
     // So more attempts may follow.
-    ensures down { IsDown terminal.new.state }
+    ensures down { terminal.new.state.phase ≡ Down }
+    ensures sent { terminal.old.state.sent ≡ 0 → terminal.new.state.sent ≡ 0 }
     ensures late { terminal.new.state.time ≤ (C.time clock.new).last }
     ensures settings { terminal.new.state.settings ≡ terminal.old.state.settings }
     ensures vault { VaultStays (V.faults terminal.old.vault) (V.faults terminal.new.vault) (V.limit terminal.old.vault) (V.limit terminal.new.vault) (V.may_fail terminal.old.vault) (V.may_fail terminal.new.vault) (IsStoreFault result) }
@@ -93,6 +97,7 @@ pub fn report_all<D: Dial, C: Clock, V: Vault>(
         if terminal.done() {
             return Outcome::Done(Seq::from_vec(ends));
         }
+        // Room for the end of an attempt is taken before the attempt.
         let Ok(()) = ends.try_reserve(1) else {
             return Outcome::Memory;
         };

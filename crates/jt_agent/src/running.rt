@@ -6,7 +6,7 @@ ghost use Rattle.jt_terminal_rule.specs.declared.state.Event.TheVariants.{Lost};
 ghost use Rattle.jt_terminal_rule.specs.declared.state.Phase.TheVariants.{Down};
 ghost use Rattle.jt_terminal_rule.specs.Rule.{rule};
 ghost use Rattle.jt_terminal_steps.specs.Running.{IsDown};
-ghost use Rattle.jt_agent.specs.Attempt.{Attempts, VaultStays, scene};
+ghost use Rattle.jt_agent.specs.Attempt.{Attempt, VaultStays, at_link};
 ghost use Rattle.jt_agent.specs.Moving.{Ends, DidRule};
 ghost use Rattle.jt_agent.specs.declared.ending.Attempted.TheVariants.{StoreFault};
 
@@ -39,8 +39,8 @@ fn converse<K: Link, C: Clock, V: Vault>(
     requires octets { (1 ≤ octets) × (octets ≤ 2 ^ 40) }
     requires quiets { (1 ≤ quiets) × (quiets ≤ 1000000) }
     ensures ends { Ends octets quiets
-        (scene terminal.old.state (V.holds terminal.old.vault) (V.faults terminal.old.vault) (wire_of K.inbound K.written K.faults link.old))
-        (scene terminal.new.state (V.holds terminal.new.vault) (V.faults terminal.new.vault) (wire_of K.inbound K.written K.faults link.new))
+        (at_link terminal.old.state (V.holds terminal.old.vault) (V.faults terminal.old.vault) (wire_of K.inbound K.written K.faults link.old))
+        (at_link terminal.new.state (V.holds terminal.new.vault) (V.faults terminal.new.vault) (wire_of K.inbound K.written K.faults link.new))
         (C.time clock.old) (C.time clock.new) result }
     ensures late { terminal.new.state.time ≤ (C.time clock.new).last }
     ensures settings { terminal.new.state.settings ≡ terminal.old.state.settings }
@@ -124,9 +124,9 @@ pub fn attempt_within<K: Link, C: Clock, V: Vault>(
     requires octets { (1 ≤ octets) × (octets ≤ 2 ^ 40) }
     requires quiets { (1 ≤ quiets) × (quiets ≤ 1000000) }
     // What the terminal was told, what it did and what was written, and why the attempt ended.
-    ensures attempt { Attempts octets quiets
-        (scene terminal.old.state (V.holds terminal.old.vault) (V.faults terminal.old.vault) (wire_of K.inbound K.written K.faults link.old))
-        (scene terminal.new.state (V.holds terminal.new.vault) (V.faults terminal.new.vault) (wire_of K.inbound K.written K.faults link.new))
+    ensures attempt { Attempt octets quiets
+        (at_link terminal.old.state (V.holds terminal.old.vault) (V.faults terminal.old.vault) (wire_of K.inbound K.written K.faults link.old))
+        (at_link terminal.new.state (V.holds terminal.new.vault) (V.faults terminal.new.vault) (wire_of K.inbound K.written K.faults link.new))
         (C.time clock.old) (C.time clock.new) result }
     // So another attempt may follow.
     ensures down { IsDown terminal.new.state }
@@ -148,9 +148,9 @@ pub fn attempt<K: Link, C: Clock, V: Vault>(
 ) -> Attempted
     requires down { terminal.old.state.phase ≡ Down }
     requires time { terminal.old.state.time ≤ (C.time clock.old).last }
-    ensures attempt { Attempts (2 ^ 40) 1000000
-        (scene terminal.old.state (V.holds terminal.old.vault) (V.faults terminal.old.vault) (wire_of K.inbound K.written K.faults link.old))
-        (scene terminal.new.state (V.holds terminal.new.vault) (V.faults terminal.new.vault) (wire_of K.inbound K.written K.faults link.new))
+    ensures attempt { Attempt (2 ^ 40) 1000000
+        (at_link terminal.old.state (V.holds terminal.old.vault) (V.faults terminal.old.vault) (wire_of K.inbound K.written K.faults link.old))
+        (at_link terminal.new.state (V.holds terminal.new.vault) (V.faults terminal.new.vault) (wire_of K.inbound K.written K.faults link.new))
         (C.time clock.old) (C.time clock.new) result }
     ensures down { IsDown terminal.new.state }
     ensures late { terminal.new.state.time ≤ (C.time clock.new).last }

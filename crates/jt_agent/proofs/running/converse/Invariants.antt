@@ -1,6 +1,6 @@
 use Rattle.std.proofs.Common.{◌≡◌, ◌≤◌, ◌<◌, ◌+◌, ◌-◌, ◌*◌}
 use Rattle.jt_link.specs.Link.{wire_of}
-use Rattle.jt_agent.specs.Attempt.{VaultStays, scene}
+use Rattle.jt_agent.specs.Attempt.{VaultStays, at_link}
 use Rattle.jt_agent.specs.Course.{ARead}
 use Rattle.jt_agent.specs.Moving.{GoesOn, IsQuiet}
 use Rattle.jt_agent.proofs.running.converse.Given as goal
@@ -8,8 +8,8 @@ use Rattle.jt_agent.proofs.running.converse.Given as goal
 abbrev pub invariant-loop-taken : goal.invariant-loop-taken
 invariant-loop-taken g l =
     GoesOn ARead
-    (scene l.fn.terminal.state (g.V.Vault.holds l.fn.terminal.vault) (g.V.Vault.faults l.fn.terminal.vault) (wire_of g.K.Sink.inbound g.K.Sink.written g.K.Sink.faults l.fn.link))
-    (scene l.terminal.state (g.V.Vault.holds l.terminal.vault) (g.V.Vault.faults l.terminal.vault) (wire_of g.K.Sink.inbound g.K.Sink.written g.K.Sink.faults l.link))
+    (at_link l.fn.terminal.state (g.V.Vault.holds l.fn.terminal.vault) (g.V.Vault.faults l.fn.terminal.vault) (wire_of g.K.Sink.inbound g.K.Sink.written g.K.Sink.faults l.fn.link))
+    (at_link l.terminal.state (g.V.Vault.holds l.terminal.vault) (g.V.Vault.faults l.terminal.vault) (wire_of g.K.Sink.inbound g.K.Sink.written g.K.Sink.faults l.link))
     (g.C.Clock.time l.fn.clock) (g.C.Clock.time l.clock) l.line l.taken
     × IsQuiet l.quiet (g.K.Sink.inbound l.fn.link) (g.K.Sink.inbound l.link)
     × (l.taken ≤ l.octets)
