@@ -1,5 +1,5 @@
 -- How an attempt comes on, and how it ends.
-use Rattle.std.proofs.Common.{◌≡◌, inl, inr, ◌≤◌, ◌<◌, ◌+◌, ℕ, List, [], ◌∷◌, ◌++◌, Option, Some, None, length, Bool, refl, sym, ap, subst, ◌∙◌, length-append, append-nil, append_assoc, arith}
+use Rattle.std.proofs.Common.{◌≡◌, inl, inr, ◌≤◌, ◌<◌, ◌+◌, ℕ, List, [], ◌∷◌, ◌++◌, Option, Some, None, length, Bool, refl, sym, ap, subst, ◌∙◌, length-append, append_assoc, arith}
 use Rattle.std.proofs.KnownBytes.{Appends-nil, Appends-trans, Appends-kept, Consumes-nil, Consumes-trans, Consumes-kept}
 use Rattle.std.specs.Io.KnownBytes.{Appends, IsAtEnd}
 use Rattle.std.specs.List.{flat_map}
@@ -19,9 +19,9 @@ use Rattle.jt_terminal_rule.specs.declared.state.GiveUp.TheVariants as give_up
 use Rattle.jt_terminal_rule.specs.Rule.{Step, Ruled, rule, sends}
 use Rattle.jt_terminal_steps.specs.AfterError.{AreSameTables, AllTablesOrNone, CutLists, lists_of}
 use Rattle.jt_terminal_steps.specs.Running.{holds_after, CutShort, IsDown}
-use Rattle.jt_terminal.specs.Line.{LineValue, StandsForLine, TablesOfFirst, fed}
+use Rattle.jt_terminal.specs.Line.{LineValue, StandsForLine, fed}
 use Rattle.jt_agent.specs.Course.{Move, Ticks, Opens, Reads, Waits, Course, course, made, goes_on, due, kind, Due, ATick, AnOpening, ARead, IsPiece, IsAtRead, IsTold, moments_of, waits_of, octets_of, said, Stop, Finished, GaveUp}
-use Rattle.jt_agent.specs.Attempt.{AtLink, at_link, Given, LinkCounts, Leaves, LeavesAt, WasCut, CutLast, Does, HasCause, Attempt, VaultStays}
+use Rattle.jt_agent.specs.Attempt.{AtLink, at_link, Given, LinkCounts, LeavesAt, WasCut, CutLast, Does, HasCause, Attempt, VaultStays}
 use Rattle.jt_agent.specs.Moving.{ended_by, IsTrouble, DidRule, LeavesEvent, CutRule, Comes, TicksOnce, Later, ReadsLink, Takes, Stands, GoesOn, Did, Exit, Ends, IsQuiet}
 use Rattle.jt_agent.specs.declared.ending.AttemptEnd.TheVariants as how
 use Rattle.jt_agent.specs.declared.ending.Attempted.{Attempted}

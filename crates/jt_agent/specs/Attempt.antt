@@ -1,5 +1,5 @@
 -- One attempt of a terminal over a link (this project's own). To be believed.
-use Rattle.std.specs.Prelude.{◌≡◌, ℕ, ◌≤◌, ◌⊎◌, List, [], ◌∷◌, ◌++◌, length, Option, None, Some, Bool, false}
+use Rattle.std.specs.Prelude.{◌≡◌, ℕ, ◌≤◌, ◌⊎◌, List, [], ◌∷◌, ◌++◌, length, Option, Some, Bool, false}
 use Rattle.std.specs.Io.KnownBytes.{Appends, IsAtEnd}
 use Rattle.jt_io.specs.Count.{Rose, RoseBy, Counts}
 use Rattle.jt_io.specs.Inbound.{Inbound}
@@ -34,6 +34,7 @@ pub record Given (t : State) (moves : List Move) (old now : Inbound) (time time_
   pub fits : Fits t moves
   -- the terminal's line has read the octets that the link gave, in whatever cut
   pub gives : Gives old now (course t moves).read
+  -- which are octets also where it tells nothing
   pub octets : AreOctets (course t moves).read
   -- the moments are the clock's answers
   pub moments : TellsAll time time_now (moments_of moves)
@@ -75,7 +76,7 @@ Writes Memory t moves old now = Appends old now (said t (before_last moves))
 abbrev pub DoesAll : State → List Move → Option Held → Option Held → State → Type 0
 DoesAll t moves old now after = (now ≡ holds_after (course t moves).steps old) × (after ≡ (rule (course t moves).state Lost).state)
 
--- A move that was cut short left the time and the tables so, and the last recorded fix stays.
+-- what a move that was cut short leaves: the time is this moment, the last recorded fix stays, and the tables are these
 pub record Leaves (s : State) (moment : ℕ) (Tables : State → Type 0) (after : State) : Type 0 where
   pub time : after.time ≡ moment
   pub last : after.last ≡ s.last
