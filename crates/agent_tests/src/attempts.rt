@@ -1,0 +1,142 @@
+ghost use Rattle.std.specs.Prelude.{◌≤◌, ◌^◌};
+ghost use Rattle.jt_link.specs.ScriptClock.{RiseFrom};
+
+use crate::setting::{frames, link, ready, told};
+use jt_agent::{attempt, attempt_within};
+use jt_link::{ScriptClock, ScriptLink};
+use jt_value::{Memory, Octets, Seq};
+use std::alloc::Global;
+use std::test::Fail;
+
+// Whether an attempt over the link is answered so, with a clock that stands, and the frames of these letters are written then.
+fn answers(
+    alloc: Global,
+    has_fix: bool,
+    vault_failing: u64,
+    link: &mut ScriptLink,
+    answer: &[u8],
+    letters: &[u8],
+) -> Result<bool, Memory> {
+    let Some(mut terminal) = ready(alloc, has_fix, vault_failing) else {
+        return Ok(false);
+    };
+    let mut clock = ScriptClock::new(Seq::new(alloc));
+    let attempted = attempt(alloc, link, &mut clock, &mut terminal);
+    let said = told(alloc, &attempted)?;
+    let written = frames(alloc, letters)?;
+    Ok(said.as_slice() == answer && link.written() == written.as_slice())
+}
+
+// The same with fewer octets and quiet reads, and a clock of these moments.
+fn answers_within(
+    alloc: Global,
+    link: &mut ScriptLink,
+    octets: u64,
+    quiets: u32,
+    moments: &[u64],
+    answer: &[u8],
+    letters: &[u8],
+) -> Result<bool, Memory>
+    requires octets { (1 ≤ octets) × (octets ≤ 2 ^ 40) }
+    requires quiets { (1 ≤ quiets) × (quiets ≤ 1000000) }
+    requires moments { RiseFrom 0 moments.now }
+{
+    let Some(mut terminal) = ready(alloc, true, 0) else {
+        return Ok(false);
+    };
+    let mut clock = ScriptClock::new(Seq::from_vec(Vec::from_slice(alloc, moments)?));
+    let attempted = attempt_within(alloc, link, &mut clock, &mut terminal, octets, quiets);
+    let said = told(alloc, &attempted)?;
+    let written = frames(alloc, letters)?;
+    Ok(said.as_slice() == answer && link.written() == written.as_slice())
+}
+
+// What the link gives, the number of its call that fails, the answer, and what is written.
+#[test]
+fn an_attempt_ends(rt: HostRuntime) -> Result<(), Fail> {
+    let rows: &[(&[u8], u64, &[u8], &[u8])] = &[
+        (b"rau", 0, b"done", b"RAU"),
+        (b"ra", 0, b"end ", b"RAU"),
+        (b"r", 0, b"end ", b"RA"),
+        (b"", 0, b"end ", b"R"),
+        (b"rau", 1, b"link ", b""),
+        (b"rau", 2, b"link ", b"R"),
+        (b"rau", 3, b"link ", b"R"),
+        (b"rau", 4, b"link ", b"RA"),
+        (b"x", 0, b"denied \x00\x00\x01", b"R"),
+        (b"ry", 0, b"denied \x00\x01\x01\x02\x01", b"RA"),
+        (b"raz", 0, b"denied \x00\x02\x02\x00\x01", b"RAU"),
+    ];
+    for (given, failing, answer, written) in rows {
+        let mut link = link(rt.alloc(), given, *failing)?;
+        assert!(rt; answers(rt.alloc(), true, 0, &mut link, answer, written)?);
+    }
+    Ok(())
+}
+
+// The number of the vault's call that fails: the code is stored, a unit formed, and accepted.
+#[test]
+fn the_vault_fails(rt: HostRuntime) -> Result<(), Fail> {
+    let rows: &[(u64, &[u8])] = &[(3, b"R"), (4, b"R"), (5, b"R")];
+    for (failing, written) in rows {
+        let mut link = link(rt.alloc(), b"rau", 0)?;
+        assert!(rt;
+            answers(
+                rt.alloc(),
+                true,
+                *failing,
+                &mut link,
+                b"store fault",
+                written
+            )?
+        );
+    }
+    Ok(())
+}
+
+// Where nothing is left to report no line is opened.
+#[test]
+fn nothing_to_report(rt: HostRuntime) -> Result<(), Fail> {
+    let mut link = link(rt.alloc(), b"rau", 1)?;
+    assert!(rt; answers(rt.alloc(), false, 0, &mut link, b"done", b"")?);
+    Ok(())
+}
+
+// The clock stands; or its moments are those at which what was sent is sent again and given up.
+#[test]
+fn a_quiet_link(rt: HostRuntime) -> Result<(), Fail> {
+    let mut standing = ScriptLink::quiet(rt.alloc(), 65_536)?;
+    assert!(rt; answers_within(rt.alloc(), &mut standing, 1, 5, &[], b"idle ", b"R")?);
+    let mut late = ScriptLink::quiet(rt.alloc(), 65_536)?;
+    assert!(rt;
+        answers_within(
+            rt.alloc(),
+            &mut late,
+            1,
+            5,
+            &[0, 10_000, 30_000, 90_000, 330_000],
+            b"timed out \x00\x00\x00\x00\x00\x00\x00\x00\x00\x00\x00\x00\x00\x05\x09\x10",
+            b"RRRR"
+        )?
+    );
+    Ok(())
+}
+
+#[test]
+fn a_link_that_never_ends(rt: HostRuntime) -> Result<(), Fail> {
+    let mut link = ScriptLink::endless(rt.alloc(), 0, 65_536)?;
+    assert!(rt; answers_within(rt.alloc(), &mut link, 5000, 5, &[], b"spent ", b"R")?);
+    Ok(())
+}
+
+// Of 5,000 octets the first read takes 4,096, so a second one comes, which is the third call and fails.
+#[test]
+fn a_read_takes_at_most_a_piece(rt: HostRuntime) -> Result<(), Fail> {
+    let alloc = rt.alloc();
+    let zeros = Octets::from_vec(vec![in alloc; 0u8; 5000]?);
+    let mut calls = Seq::new(alloc);
+    calls.push(3)?;
+    let mut link = ScriptLink::new(alloc, zeros, 65_536, calls)?;
+    assert!(rt; answers_within(alloc, &mut link, 5000, 5, &[], b"link ", b"R")?);
+    Ok(())
+}
