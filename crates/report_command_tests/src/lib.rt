@@ -1,0 +1,5 @@
+//! Tests of what `report` prints.
+#![tactic(auto)]
+
+#[cfg(test)]
+mod printing;
