@@ -1,0 +1,6 @@
+pub mod Options
+pub mod Finding
+pub mod Values
+pub mod ReportWords
+pub mod Telling
+pub mod FixLines
