@@ -31,7 +31,7 @@ pub record HasPassed (name : List ℕ) (words left values : List (List ℕ)) : T
   pub on : (more : List (List ℕ × List ℕ)) → AreOptions more left → AreOptions (passed ++ more) words
   pub each : (options : List (List ℕ × List ℕ)) → AreOptions options words
       → (more : List (List ℕ × List ℕ)) × (options ≡ passed ++ more) × AreOptions more left
-  pub values : values_of name passed ≡ values
+  pub found : values_of name passed ≡ values
 
 -- there are too many values under the name
 abbrev pub HasTooMany : List ℕ → List (List ℕ) → List (List ℕ) → Type 0

@@ -47,23 +47,29 @@ fn first_option<'w>(words: &'w [String]) -> Option<First<'w>>
         × BeginsOne (first.name.now, first.value.now) (map string_bytes words.now) (map string_bytes (drop first.count words.now))) }
     ensures none { result ≡ None → BeginWithNone (map string_bytes words.now) }
 {
-    if let Some(first) = named(words, HOST) {
-        return Some(first);
+    match named(words, HOST) {
+        Some(first) => return Some(first),
+        None => {}
     }
-    if let Some(first) = named(words, PORT) {
-        return Some(first);
+    match named(words, PORT) {
+        Some(first) => return Some(first),
+        None => {}
     }
-    if let Some(first) = named(words, PHONE) {
-        return Some(first);
+    match named(words, PHONE) {
+        Some(first) => return Some(first),
+        None => {}
     }
-    if let Some(first) = named(words, PLATE) {
-        return Some(first);
+    match named(words, PLATE) {
+        Some(first) => return Some(first),
+        None => {}
     }
-    if let Some(first) = named(words, TERMINAL) {
-        return Some(first);
+    match named(words, TERMINAL) {
+        Some(first) => return Some(first),
+        None => {}
     }
-    if let Some(first) = named(words, TRIES) {
-        return Some(first);
+    match named(words, TRIES) {
+        Some(first) => return Some(first),
+        None => {}
     }
     named(words, EDITION)
 }
