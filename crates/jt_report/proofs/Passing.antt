@@ -1,5 +1,6 @@
 -- Options are passed one after the other.
-use Rattle.std.proofs.Common.{◌⊎◌, inl, inr, Bool, true, false, if◌then◌else◌, refl, codes, ◌∷◌, ◌≡◌, ◌++◌, ◌+◌, ◌<◌, ◌≤◌, ℕ, List, [], length, map, take, drop, sym, ap, subst, ◌∙◌, arith, append-nil, append_assoc, length-append}
+use Rattle.std.proofs.Common.{◌⊎◌, inl, inr, Bool, true, false, not, if◌then◌else◌, refl, codes, ◌∷◌, ◌≡◌, ◌++◌, ◌+◌, ◌-◌, ◌<◌, ◌≤◌, ℕ, List, [], length, map, take, drop, sym, ap, subst, ◌∙◌, arith, append-nil, append_assoc, length-append}
+use Rattle.std.proofs.lemmas.List.{take_all, drop_all, drop-drop, length-drop}
 use Rattle.std.specs.Str.{bytes_eq}
 use Rattle.jt_words.specs.OptionWords.{IsOption}
 use Rattle.jt_report.specs.Options.{BeginWith, AreOptions, values_of}
@@ -117,3 +118,38 @@ second_at name option words now value one is options are =
     let two : values_of name (option ∷ k.0) ≡ option.1 ∷ values_of name k.0 = rw is refl in
     let all : values_of name options ≡ option.1 ∷ values_of name k.0 = ap (λ (os : List (List ℕ × List ℕ)). values_of name os) k.1 ∙ two in
     let long = ap (λ (vs : List (List ℕ)). length ((value ∷ []) ++ vs)) all in omega (arith, long)
+
+pub two_values : (name : List ℕ) (option : List ℕ × List ℕ) (words now : List (List ℕ)) (value : List ℕ) → BeginsOne option words now → bytes_eq option.0 name ≡ true
+    → HasTooMany name words (value ∷ [])
+two_values name option words now value one is = λ options are. second_at name option words now value one is options are
+
+-- all that is left from a place on
+rest_is : {X : Type 0} (xs : List X) (from : ℕ) → take (length xs - from) (drop from xs) ≡ drop from xs
+rest_is xs from = take_all (length xs - from) (drop from xs) (omega (arith, length-drop from xs))
+
+pub goes_on_from : {X : Type 0} (f : X → List ℕ) (xs : List X) (from count : ℕ) (name : List ℕ) (values values_now : List (List ℕ))
+    → HasPassed name (map f xs) (map f (drop from xs)) values
+    → Steps name (map f (take (length xs - from) (drop from xs))) values (map f (drop count (take (length xs - from) (drop from xs)))) values_now
+    → HasPassed name (map f xs) (map f (drop (from + count) xs)) values_now
+goes_on_from {X = X} f xs from count name values values_now h s =
+    let here = subst (λ (ys : List X). Steps name (map f ys) values (map f (drop count ys)) values_now) (rest_is xs from) s in
+    let there = subst (λ (ys : List X). Steps name (map f (drop from xs)) values (map f ys) values_now) (drop-drop count from xs) here in
+    goes_on name (map f xs) (map f (drop from xs)) (map f (drop (from + count) xs)) values values_now h there
+
+pub within : {X : Type 0} (xs : List X) (from count : ℕ) → from ≤ length xs → count ≤ length (take (length xs - from) (drop from xs)) → from + count ≤ length xs
+within {X = X} xs from count inside few =
+    let here : count ≤ length (drop from xs) = subst (λ (ys : List X). count ≤ length ys) (rest_is xs from) few in omega (arith, length-drop from xs)
+
+pub too_many_from : {X : Type 0} (f : X → List ℕ) (xs : List X) (from : ℕ) (name : List ℕ) (values : List (List ℕ))
+    → HasPassed name (map f xs) (map f (drop from xs)) values → HasTooMany name (map f (take (length xs - from) (drop from xs))) values
+    → HasTooMany name (map f xs) []
+too_many_from {X = X} f xs from name values h many =
+    too_many name (map f xs) (map f (drop from xs)) values h (subst (λ (ys : List X). HasTooMany name (map f ys) values) (rest_is xs from) many)
+
+pub none_left : {X : Type 0} (f : X → List ℕ) (xs : List X) (from : ℕ) → length xs ≤ from → map f (drop from xs) ≡ []
+none_left {X = X} f xs from past = ap (λ (ys : List X). map f ys) (drop_all from xs past)
+
+-- what a failed test of difference says
+pub equal_at : (test : Bool) → false ≡ not test → test ≡ true
+equal_at true e = refl
+equal_at false e = absurd (cc e)

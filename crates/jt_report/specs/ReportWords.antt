@@ -46,10 +46,14 @@ pub record Tells (written : Written) (told : Told) : Type 0 where
   pub terminal : octets_in (terminal_most told.phone.edition) written.terminal ≡ Some told.terminal
   pub tries : (written.tries ≡ decimal told.tries) × (1 ≤ told.tries) × (told.tries ≤ 100)
 
--- `report`, and then the options
+-- `report`, and then the options with these values
+pub record AreCommand (written : Written) (words : List (List ℕ)) : Type 0 where
+  pub options : List (List ℕ)
+  pub command : words ≡ codes "report" ∷ options
+  pub values : AreWritten written options
+
+-- the words of `report` that tell this
 pub record AreWords (told : Told) (words : List (List ℕ)) : Type 0 where
-  pub rest : List (List ℕ)
-  pub command : words ≡ codes "report" ∷ rest
   pub written : Written
-  pub options : AreWritten written rest
-  pub values : Tells written told
+  pub words_are : AreCommand written words
+  pub tells : Tells written told

@@ -1,8 +1,11 @@
 -- The values of the program as those that the definitions speak of.
-use Rattle.std.specs.Prelude.{ℕ, List, string_bytes, option_copied}
+use Rattle.std.specs.Prelude.{◌≡◌, ◌≤◌, ℕ, List, Some, string_bytes, option_copied}
+use Rattle.std.specs.Fmt.{decimal}
 use Rattle.jt_report.specs.ReportWords.{Told, Written as WrittenAs}
+use Rattle.jt_report.specs.Values.{edition_in, phone_in}
 use Rattle.jt_report.specs.declared.report_words.ReportWords.{ReportWords}
 use Rattle.jt_report.specs.declared.report_words.Written.{Written}
+use Rattle.jt_report.specs.declared.report_words.Plain.{Plain}
 
 -- what the answer tells
 abbrev pub told_of : ReportWords → Told
@@ -19,3 +22,10 @@ written_of written = record {
   tries = written.tries.now;
   edition = option_copied written.edition;
 }
+
+-- what those values tell that take no memory
+pub record TellsPlain (written : WrittenAs) (plain : Plain) : Type 0 where
+  pub port : (written.port ≡ decimal plain.port) × (1 ≤ plain.port) × (plain.port ≤ 65535)
+  pub edition : edition_in written.edition ≡ Some plain.phone.edition
+  pub phone : phone_in plain.phone.edition written.phone ≡ Some plain.phone
+  pub tries : (written.tries ≡ decimal plain.tries) × (1 ≤ plain.tries) × (plain.tries ≤ 100)

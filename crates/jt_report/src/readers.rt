@@ -57,7 +57,7 @@ pub(crate) fn host(alloc: Global, text: &[u8]) -> Result<Option<String>, Memory>
 
 // The edition that a value names, and that of 2013 where there is none.
 pub(crate) fn edition(text: Option<&[u8]>) -> Option<Edition>
-    ensures { result ≡ edition_in (option_copied text) }
+    ensures { result ≡ edition_in (option_copied text.entry) }
 {
     let Some(text) = text else {
         return Some(Edition::E2013);

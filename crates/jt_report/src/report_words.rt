@@ -1,8 +1,10 @@
 //! The words of `report`.
 
 ghost use Rattle.std.specs.Prelude.{◌≡◌, ◌≤◌, ℕ, List, map, string_bytes, None, Some, IfOk, IfSome, MatchOption};
-ghost use Rattle.jt_report.specs.ReportWords.{AreWords, AreWritten, Tells, Told, Written as WrittenAs};
-ghost use Rattle.jt_report.specs.Telling.{told_of, written_of};
+ghost use Rattle.jt_report.specs.ReportWords.{AreCommand, AreWords, AreWritten, Tells, Told, Written as WrittenAs};
+ghost use Rattle.jt_report.specs.Telling.{told_of, written_of, TellsPlain};
+ghost use Rattle.jt_report.specs.Values.{terminal_most as most_of_terminal};
+ghost use Rattle.jt_report.specs.declared.report_words.Plain.{Plain as PlainValues};
 
 use crate::options::{
     EDITION, HOST, PHONE, PLATE, PORT, TERMINAL, TRIES, one_value_of, value_of,
@@ -66,7 +68,11 @@ impl<'w> Written<'w> {
 }
 
 // The values behind the word `report`.
-fn values_in(words: &[String]) -> Option<Written<'_>> {
+fn values_in(words: &[String]) -> Option<Written<'_>>
+    ensures some { IfSome result (λ written. AreCommand (written_of written) (map string_bytes words.now)) }
+    ensures each { (written : WrittenAs) → AreCommand written (map string_bytes words.now) →
+        MatchOption result ⊥ (λ found. written_of found ≡ written) }
+{
     let (command, options) = words.split_first()?;
     if command.as_str() != "report" {
         return None;
@@ -83,14 +89,19 @@ struct Plain {
 }
 
 // The most octets of a terminal's id.
-fn terminal_most(edition: Edition) -> usize {
+fn terminal_most(edition: Edition) -> usize
+    ensures { result ≡ most_of_terminal edition }
+{
     match edition {
         Edition::E2013 => 7,
         Edition::E2019 => 30,
     }
 }
 
-fn plain_values(written: &Written) -> Option<Plain> {
+fn plain_values(written: &Written) -> Option<Plain>
+    ensures some { IfSome result (λ plain. TellsPlain (written_of written.now) plain) }
+    ensures each { (plain : PlainValues) → TellsPlain (written_of written.now) plain → result ≡ Some plain }
+{
     let port = number_up_to(written.port, PORT_MOST)?;
     let tries = number_up_to(written.tries, TRIES_MOST)?;
     let phone = phone(edition(written.edition)?, written.phone)?;
@@ -101,7 +112,12 @@ fn plain_values(written: &Written) -> Option<Plain> {
     })
 }
 
-fn tell(alloc: Global, written: &Written) -> Result<Option<ReportWords>, Memory> {
+// What the values tell.
+fn tell(alloc: Global, written: &Written) -> Result<Option<ReportWords>, Memory>
+    ensures told { IfOk result (λ found. IfSome found (λ told. Tells (written_of written.now) (told_of told))) }
+    ensures that_one { (told : Told) → Tells (written_of written.now) told →
+        IfOk result (λ found. MatchOption found ⊥ (λ found. told_of found ≡ told)) }
+{
     let Some(Plain { port, phone, tries }) = plain_values(written) else {
         return Ok(None);
     };
