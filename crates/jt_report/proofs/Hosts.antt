@@ -25,5 +25,5 @@ are_small (octet ∷ octets) (suc i) h = are_small octets i (second_holds (is_ho
 pub is_text : (host : List ℕ) → IsTrue (is_host host) → IsUtf8 host
 is_text host h =
     let all : list_all is_host_octet host ≡ true = second_holds (not (slice_index host 0 == 45)) (list_all is_host_octet host)
-        (second_holds (nat_le 1 (length host) && nat_le (length host) 255) (not (slice_index host 0 == 45) && list_all is_host_octet host) h) in
+    (second_holds (nat_le 1 (length host) && nat_le (length host) 255) (not (slice_index host 0 == 45) && list_all is_host_octet host) h) in
     IsUtf8-from_ascii host (λ i. are_small host i all)

@@ -14,18 +14,18 @@ Lack name words = (option : List ℕ × List ℕ) (back : List (List ℕ)) → B
 pub none_known : (words : List (List ℕ)) → Lack (codes "host") words → Lack (codes "port") words → Lack (codes "phone") words → Lack (codes "plate") words
     → Lack (codes "terminal") words → Lack (codes "tries") words → Lack (codes "edition") words → BeginWithNone words
 none_known words host port phone plate terminal tries edition option back b = elim b.known as (λ k. ⊥) [
-  inl e ↦ host option back b e |
-  inr k ↦ elim k as (λ k. ⊥) [
-    inl e ↦ port option back b e |
-    inr k ↦ elim k as (λ k. ⊥) [
-      inl e ↦ phone option back b e |
-      inr k ↦ elim k as (λ k. ⊥) [
-        inl e ↦ plate option back b e |
-        inr k ↦ elim k as (λ k. ⊥) [
-          inl e ↦ terminal option back b e |
-          inr k ↦ elim k as (λ k. ⊥) [
-            inl e ↦ tries option back b e |
-            inr e ↦ edition option back b e
+  | inl e ↦ host option back b e
+  | inr k ↦ elim k as (λ k. ⊥) [
+    | inl e ↦ port option back b e
+    | inr k ↦ elim k as (λ k. ⊥) [
+      | inl e ↦ phone option back b e
+      | inr k ↦ elim k as (λ k. ⊥) [
+        | inl e ↦ plate option back b e
+        | inr k ↦ elim k as (λ k. ⊥) [
+          | inl e ↦ terminal option back b e
+          | inr k ↦ elim k as (λ k. ⊥) [
+            | inl e ↦ tries option back b e
+            | inr e ↦ edition option back b e
           ]
         ]
       ]
@@ -98,7 +98,7 @@ pub too_many : (name : List ℕ) (words left values : List (List ℕ)) → HasPa
 too_many name words left values h many = λ options are.
     let e = h.each options are in
     let all : values_of name options ≡ values ++ values_of name e.0 =
-        ap (λ (os : List (List ℕ × List ℕ)). values_of name os) e.1 ∙ values_more name h.passed e.0 ∙ ap (λ (vs : List (List ℕ)). vs ++ values_of name e.0) h.found in
+    ap (λ (os : List (List ℕ × List ℕ)). values_of name os) e.1 ∙ values_more name h.passed e.0 ∙ ap (λ (vs : List (List ℕ)). vs ++ values_of name e.0) h.found in
     subst (λ (vs : List (List ℕ)). 1 < length vs) (sym all) (many e.0 e.2)
 
 -- words that are no options

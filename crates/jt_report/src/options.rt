@@ -83,7 +83,7 @@ fn step<'w>(
     requires { 0 < length words.now }
     ensures some { IfSome result (λ step. (0 < step.1) × (step.1 ≤ length words.now)
         × Steps name.now (map string_bytes words.now) (option_to_list (option_copied found.entry))
-            (map string_bytes (drop step.1 words.now)) (option_to_list (option_copied step.0))) }
+        (map string_bytes (drop step.1 words.now)) (option_to_list (option_copied step.0))) }
     ensures none { result ≡ None → HasTooMany name.now (map string_bytes words.now) (option_to_list (option_copied found.entry)) }
 {
     let first = first_option(words)?;

@@ -6,9 +6,7 @@ ghost use Rattle.jt_report.specs.Telling.{told_of, written_of, TellsPlain};
 ghost use Rattle.jt_report.specs.Values.{terminal_most as most_of_terminal};
 ghost use Rattle.jt_report.specs.declared.report_words.Plain.{Plain as PlainValues};
 
-use crate::options::{
-    EDITION, HOST, PHONE, PLATE, PORT, TERMINAL, TRIES, one_value_of, value_of,
-};
+use crate::options::{EDITION, HOST, PHONE, PLATE, PORT, TERMINAL, TRIES, one_value_of, value_of};
 use crate::readers::{edition, host, number_up_to, octets, phone};
 use jt_value::{Edition, Memory, Octets, Phone};
 use std::alloc::Global;

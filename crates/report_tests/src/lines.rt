@@ -23,6 +23,11 @@ fn octets_of(alloc: Global, line: &str) -> Result<usize, Memory> {
 fn lines_of_a_fix(rt: HostRuntime) -> Result<(), Fail> {
     assert!(rt; octets_of(rt.alloc(), &FIX[..56])? == 28);
     assert!(rt; octets_of(rt.alloc(), FIX)? == 34);
-    assert!(rt; octets_of(rt.alloc(), "00000000000000030000000006BC3E40000000000000240101000000")? == 28);
+    assert!(rt;
+        octets_of(
+            rt.alloc(),
+            "00000000000000030000000006BC3E40000000000000240101000000"
+        )? == 28
+    );
     Ok(())
 }
