@@ -1,9 +1,9 @@
 -- The names of options are told apart, and words begin with one option at most.
-use Rattle.std.proofs.Common.{◌⊎◌, inl, inr, Bool, true, false, if◌then◌else◌, refl, codes, ◌==◌, ◌∷◌, ◌≡◌, ◌++◌, ◌<◌, ◌≤◌, ℕ, List, [], length, map, take, drop, sym, ap, subst, ◌∙◌, arith, append-nil}
+use Rattle.std.proofs.Common.{◌⊎◌, inl, inr, Bool, true, false, if◌then◌else◌, refl, codes, ◌==◌, ◌∷◌, ◌≡◌, ◌++◌, ◌<◌, ℕ, List, [], length, map, take, drop, sym, ap, subst, ◌∙◌, arith, append-nil}
 use Rattle.std.proofs.Math.Seq.{drop-append_seam}
 use Rattle.std.proofs.lemmas.List.{append_cancel_left, map-append, drop-map, take-append-drop}
 use Rattle.jt_words.specs.OptionWords.{IsOption}
-use Rattle.jt_report.specs.Options.{IsKnown, BeginWith}
+use Rattle.jt_report.specs.Options.{IsKnown}
 use Rattle.jt_report.specs.Finding.{BeginsOne}
 
 abbrev pub has_sign : List ℕ → Bool

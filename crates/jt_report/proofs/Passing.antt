@@ -1,5 +1,5 @@
 -- Options are passed one after the other.
-use Rattle.std.proofs.Common.{◌⊎◌, inl, inr, Bool, true, false, not, if◌then◌else◌, refl, codes, ◌∷◌, ◌≡◌, ◌++◌, ◌+◌, ◌-◌, ◌<◌, ◌≤◌, ℕ, List, [], length, map, take, drop, sym, ap, subst, ◌∙◌, arith, append-nil, append_assoc, length-append}
+use Rattle.std.proofs.Common.{inl, inr, Bool, true, false, not, if◌then◌else◌, refl, codes, ◌∷◌, ◌≡◌, ◌++◌, ◌+◌, ◌-◌, ◌<◌, ◌≤◌, ℕ, List, [], length, map, take, drop, sym, ap, subst, ◌∙◌, arith, append-nil, append_assoc}
 use Rattle.std.proofs.lemmas.List.{take_all, drop_all, drop-drop, length-drop}
 use Rattle.std.specs.Str.{bytes_eq}
 use Rattle.jt_words.specs.OptionWords.{IsOption}

@@ -1,5 +1,5 @@
 -- The words of `report`: this project's own. To be believed.
-use Rattle.std.specs.Prelude.{◌≡◌, ◌≤◌, ℕ, List, [], ◌∷◌, codes, Option, Some, IsTrue, string_bytes, option_to_list}
+use Rattle.std.specs.Prelude.{◌≡◌, ◌≤◌, ℕ, List, [], ◌∷◌, codes, Option, Some, IsTrue, option_to_list}
 use Rattle.std.specs.Fmt.{decimal}
 use Rattle.jt_value.specs.declared.phone.Phone.{Phone}
 use Rattle.jt_report.specs.Options.{AreOptions, values_of}

@@ -1,5 +1,5 @@
 -- The values of the program as those that the definitions speak of.
-use Rattle.std.specs.Prelude.{◌≡◌, ◌≤◌, ℕ, List, Some, string_bytes, option_copied}
+use Rattle.std.specs.Prelude.{◌≡◌, ◌≤◌, Some, string_bytes, option_copied}
 use Rattle.std.specs.Fmt.{decimal}
 use Rattle.jt_report.specs.ReportWords.{Told, Written as WrittenAs}
 use Rattle.jt_report.specs.Values.{edition_in, phone_in}

@@ -1,4 +1,4 @@
-use Rattle.std.proofs.Common.{◌≡◌, sym, ap, ◌∙◌, ℕ, subst}
+use Rattle.std.proofs.Common.{◌≡◌, sym, ap, ◌∙◌, ℕ}
 use Rattle.jt_report.specs.Values.{terminal_most, octets_in}
 use Rattle.jt_report.specs.declared.report_words.Plain.{Plain}
 use Rattle.jt_report.proofs.Phones.{plain_of, plain_from, some_same, same_told}
