@@ -4,3 +4,4 @@ pub mod Values
 pub mod ReportWords
 pub mod Telling
 pub mod FixLines
+pub mod BadLines
