@@ -24,11 +24,7 @@ fn push_long_line(text: &mut String, number: u64) -> Result<(), AllocError>
 }
 
 #[tactic(auto, using(std::proofs::Common::append_assoc), unfolding(crate::specs::BadLines::no_position_line))]
-fn push_no_position_line(
-    text: &mut String,
-    number: u64,
-    refusal: Refusal,
-) -> Result<(), AllocError>
+fn push_no_position_line(text: &mut String, number: u64, refusal: Refusal) -> Result<(), AllocError>
     ensures { OnOk result (string_bytes text.new ≡ string_bytes text.old ++ no_position_line number refusal) }
 {
     text.push_str("line ")?;
