@@ -1,6 +1,6 @@
 //! The options of `report`, as they are written.
 
-ghost use Rattle.std.specs.Prelude.{◌≡◌, ◌≤◌, ◌<◌, ◌++◌, ℕ, List, [], ◌∷◌, None, Option, drop, map, length, string_bytes, IfSome, MatchOption, option_to_list, option_copied};
+ghost use Rattle.std.specs.Prelude.{◌≡◌, ◌≤◌, ◌<◌, ℕ, List, [], ◌∷◌, None, drop, map, length, string_bytes, IfSome, option_to_list, option_copied};
 ghost use Rattle.jt_report.specs.Options.{IsKnown, BeginWith, AreOptions, values_of};
 ghost use Rattle.jt_report.specs.Finding.{AreSome, Have, BeginsOne, BeginWithNone, Steps, HasTooMany};
 

@@ -1,6 +1,6 @@
 //! The words of `report`.
 
-ghost use Rattle.std.specs.Prelude.{◌≡◌, ◌≤◌, ℕ, List, map, string_bytes, None, Some, IfOk, IfSome, MatchOption};
+ghost use Rattle.std.specs.Prelude.{◌≡◌, map, string_bytes, Some, IfOk, IfSome, MatchOption};
 ghost use Rattle.jt_report.specs.ReportWords.{AreCommand, AreWords, AreWritten, Tells, Told, Written as WrittenAs};
 ghost use Rattle.jt_report.specs.Telling.{told_of, written_of, TellsPlain};
 ghost use Rattle.jt_report.specs.Values.{terminal_most as most_of_terminal};
