@@ -1,0 +1,4 @@
+mod Apart
+mod Hosts
+mod Passing
+mod Phones
