@@ -4,11 +4,14 @@ use jt_tcp::{StdClock, TcpDial, TcpListen};
 use std::test::Fail;
 use std::thread;
 
+// Below those that the system gives to connections, so that none of an earlier program still has it.
+const PORT: u16 = 18_808;
+
 // Both ends in one process: the listener's end in a thread echoes one octet.
 #[test]
 fn both_ends(rt: HostRuntime) -> Result<(), Fail> {
     let mut listen = TcpListen::new(rt.clone()?);
-    assert!(rt; listen.start(48_808));
+    assert!(rt; listen.start(PORT));
     let child = thread::spawn(&rt, move || {
         let mut echoed = false;
         if let Accepted::Link(mut link) = listen.accept() {
@@ -23,7 +26,7 @@ fn both_ends(rt: HostRuntime) -> Result<(), Fail> {
     let mut got = 0;
     let mut quiet = false;
     let mut end = false;
-    if let Some(mut link) = dial.dial("127.0.0.1", 48_808) {
+    if let Some(mut link) = dial.dial("127.0.0.1", PORT) {
         let mut buf = [0u8; 8];
         quiet = link.read(&mut buf) == LinkGot::Quiet;
         if write_all(&mut link, b"ab") {
