@@ -87,11 +87,11 @@ fn registrations_go_and_rows_stay(rt: HostRuntime) -> Result<(), Fail> {
     let one = phone(Edition::E2013, 0x78);
     let mut keeper = MemKeeper::new(alloc, 9, Seq::new(alloc));
     assert!(rt; put(alloc, &mut keeper, &one, 2, 7) == Ok(()));
-    assert!(rt; enrol(alloc, &mut keeper, &one, b"AB1", b"T1") == Ok(true));
+    assert!(rt; enrol(alloc, &mut keeper, &one, b"AB1", b"TA") == Ok(true));
     match keeper.registered(alloc, &one) {
         Ok(Some(registered)) => {
             assert!(rt; registered.plate.as_slice() == b"AB1".as_slice());
-            assert!(rt; registered.terminal.as_slice() == b"T1".as_slice());
+            assert!(rt; registered.terminal.as_slice() == b"TA".as_slice());
         }
         _ => assert!(rt; false),
     }
@@ -112,13 +112,13 @@ fn owners_are_phones_of_2019(rt: HostRuntime) -> Result<(), Fail> {
     let other = phone(Edition::E2019, 0x79);
     let owner = phone(Edition::E2019, 0x78);
     let mut keeper = MemKeeper::new(alloc, 9, Seq::new(alloc));
-    assert!(rt; enrol(alloc, &mut keeper, &one, b"AB1", b"T1") == Ok(true));
+    assert!(rt; enrol(alloc, &mut keeper, &one, b"AB1", b"TA") == Ok(true));
     assert!(rt; keeper.plate_owner(alloc, b"AB1") == Ok(Some(owner)));
-    assert!(rt; keeper.terminal_owner(alloc, b"T1") == Ok(Some(owner)));
+    assert!(rt; keeper.terminal_owner(alloc, b"TA") == Ok(Some(owner)));
     assert!(rt; keeper.terminal_owner(alloc, b"AB1") == Ok(None));
-    assert!(rt; enrol(alloc, &mut keeper, &other, b"AB1", b"T2") == Ok(false));
-    assert!(rt; enrol(alloc, &mut keeper, &other, b"AB2", b"T2") == Ok(true));
-    assert!(rt; enrol(alloc, &mut keeper, &owner, b"AB3", b"T1") == Ok(true));
+    assert!(rt; enrol(alloc, &mut keeper, &other, b"AB1", b"TB") == Ok(false));
+    assert!(rt; enrol(alloc, &mut keeper, &other, b"AB2", b"TB") == Ok(true));
+    assert!(rt; enrol(alloc, &mut keeper, &owner, b"AB3", b"TA") == Ok(true));
     assert!(rt; keeper.plate_owner(alloc, b"AB1") == Ok(None));
     assert!(rt; keeper.plate_owner(alloc, b"AB3") == Ok(Some(owner)));
     Ok(())
