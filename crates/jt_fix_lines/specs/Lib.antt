@@ -1,0 +1,4 @@
+pub mod FixesText
+pub mod Noting
+pub mod Reading
+pub mod Steps
