@@ -1,1 +1,4 @@
-pub mod Tries
+mod Tries
+pub mod Causes
+mod Runs
+mod Words

@@ -1,1 +1,5 @@
 pub mod Report
+pub mod Settings
+pub mod Came
+pub mod Running
+pub mod Steps

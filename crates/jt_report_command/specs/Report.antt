@@ -7,7 +7,7 @@ use Rattle.jt_text.specs.Values.{octets_text}
 use Rattle.jt_agent.specs.declared.ending.AttemptEnd.{AttemptEnd}
 use Rattle.jt_agent.specs.declared.ending.AttemptEnd.TheVariants as how
 use Rattle.jt_agent.specs.declared.reporting.Outcome.{Outcome}
-use Rattle.jt_agent.specs.declared.reporting.Outcome.TheVariants as came
+use Rattle.jt_agent.specs.declared.reporting.Outcome.TheVariants as outcome
 
 -- the body of the platform's refusal, as digits
 unfoldable pub denial_text : List ℕ → List ℕ
@@ -45,7 +45,7 @@ totals_line accepted recorded = codes "accepted=" ++ decimal accepted ++ codes "
 
 -- What attempts came to, with these totals of the vault. A vault that failed has no totals; of want of memory there is no text.
 unfoldable pub outcome_reply : Outcome → ℕ → ℕ → Reply
-outcome_reply (came.Done ends) accepted recorded = record { text = try_lines 1 ends ++ totals_line accepted recorded; status = status.Done }
-outcome_reply (came.Unsent ends) accepted recorded = record { text = try_lines 1 ends ++ totals_line accepted recorded; status = status.Unsent }
-outcome_reply (came.StoreFault ends) accepted recorded = record { text = try_lines 1 ends ++ codes "store fault\n"; status = status.StoreFault }
-outcome_reply came.Memory accepted recorded = record { text = []; status = status.Memory }
+outcome_reply (outcome.Done ends) accepted recorded = record { text = try_lines 1 ends ++ totals_line accepted recorded; status = status.Done }
+outcome_reply (outcome.Unsent ends) accepted recorded = record { text = try_lines 1 ends ++ totals_line accepted recorded; status = status.Unsent }
+outcome_reply (outcome.StoreFault ends) accepted recorded = record { text = try_lines 1 ends ++ codes "store fault\n"; status = status.StoreFault }
+outcome_reply outcome.Memory accepted recorded = record { text = []; status = status.Memory }

@@ -1,0 +1,28 @@
+use Rattle.std.proofs.Common.{rules}
+use Rattle.jt_report.specs.Telling.{told_of}
+use Rattle.jt_report_command.proofs.Runs.{from_start, runs_none, runs_refused, with_settings}
+use Rattle.jt_report_command.proofs.Words.{spoken_phone, spoken_plate, spoken_terminal}
+use Rattle.jt_report_command.proofs.command.report.Goals as goal
+
+pub settings-requires-clause-phone : goal.settings-requires-clause-phone
+settings-requires-clause-phone g c = spoken_phone (told_of c.args.words) c.requires.words (search rules)
+
+pub settings-requires-clause-plate : goal.settings-requires-clause-plate
+settings-requires-clause-plate g c = spoken_plate (told_of c.args.words) c.requires.words
+
+pub settings-requires-clause-terminal : goal.settings-requires-clause-terminal
+settings-requires-clause-terminal g c = spoken_terminal (told_of c.args.words) c.requires.words
+
+pub returns-in-Err-clause-runs : goal.returns-in-Err-clause-runs
+returns-in-Err-clause-runs g c = runs_none _ _ _ _ _
+
+pub returns-in-Ok-start-clause-runs : goal.returns-in-Ok-start-clause-runs
+returns-in-Ok-start-clause-runs g c =
+    let s = c.in-Ok-start.ensures.ok in
+    rw (c.into_vault.ensures) (with_settings c.in-Ok.settings _ _ _ _ _ _ _ _ _ _ c.in-Ok.ensures.are
+    (from_start c.in-Ok.settings c.in-Ok-start.terminal.state _ _ _ (g.V.Vault.holds c.args.vault) _ (g.V.Vault.limit c.args.vault) _ (g.V.Vault.faults c.args.vault) _ _ _ _ _ _ _ _ s.0 s.1 s.2 s.3 c.report_from-status.ensures.runs))
+
+pub returns-clause-runs : goal.returns-clause-runs
+returns-clause-runs g c =
+    let refused = c.in-Err-start.ensures.err in
+    runs_refused c.in-Err-start.error _ _ _ (g.V.Vault.holds c.args.vault) (g.V.Vault.holds c.in-Err-start.vault) _ _ _ _ _ _ _ _ _ _ refused.0 refused.2.failed c.tell_refused.ensures.answers c.tell_refused.ensures.ends

@@ -1,0 +1,31 @@
+-- What comes of `report`, what it prints of that, and its status: this project's own texts. To be believed.
+use Rattle.std.specs.Prelude.{ℕ, List, [], ◌++◌, codes}
+use Rattle.std.specs.Fmt.{decimal}
+use Rattle.jt_agent.specs.declared.reporting.Outcome.{Outcome}
+use Rattle.jt_report.specs.BadLines.{bad_line_of}
+use Rattle.jt_report.specs.declared.line.FixLine.{FixLine}
+use Rattle.jt_runner.specs.Lines.{bad_line}
+use Rattle.jt_runner.specs.Reply.{Reply}
+use Rattle.jt_runner.specs.declared.status.Status.TheVariants as status
+use Rattle.jt_report_command.specs.Report.{outcome_reply}
+
+-- a bad line of the source, by its number and what it says, or beyond the limits; a full vault, by its limit; a vault that failed before any
+-- dial; another fault before any dial (of a failed read the status is ReadFault); or attempts, by what they came to and how many fixes are then accepted and recorded
+pub data Came : Type 0 where
+  BadLine : ℕ → FixLine → Came
+  BeyondLimits : ℕ → Came
+  VaultFull : ℕ → Came
+  VaultFailed : Came
+  Undialled : Came
+  Reported : Outcome → ℕ → ℕ → Came
+
+unfoldable pub full_line : ℕ → List ℕ
+full_line limit = codes "vault full at " ++ decimal limit ++ codes "\n"
+
+unfoldable pub report_text : Came → Reply
+report_text (BadLine number said) = record { text = bad_line_of number said; status = status.Refused }
+report_text (BeyondLimits number) = record { text = bad_line number; status = status.Refused }
+report_text (VaultFull limit) = record { text = full_line limit; status = status.StoreFault }
+report_text VaultFailed = record { text = codes "store fault\n"; status = status.StoreFault }
+report_text Undialled = record { text = []; status = status.Memory }
+report_text (Reported outcome accepted recorded) = outcome_reply outcome accepted recorded
