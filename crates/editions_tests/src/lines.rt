@@ -2,6 +2,8 @@ ghost use Rattle.std.specs.Prelude.{◌<◌, ◌≤◌, length};
 
 use jt_cli::{Outside, Status, run_alone};
 use jt_io::{MemSink, MemSource};
+use jt_link::{ScriptClock, ScriptDial};
+use jt_store::MemVault;
 use jt_value::{Memory, Octets, Seq};
 use std::alloc::Global;
 
@@ -12,11 +14,11 @@ fn is_viewed(alloc: Global, octets: &[u8], status: Status, written: &[u8]) -> Re
     let outside = Outside {
         source: MemSource::new(Octets::from_vec(octets.to_vec(alloc)?), Seq::new(alloc)),
         sink: MemSink::new(alloc, 8192, Seq::new(alloc))?,
-        dial: (),
+        dial: ScriptDial::new(alloc, Seq::new(alloc), Seq::new(alloc))?,
         listen: (),
-        clock: (),
+        clock: ScriptClock::new(Seq::new(alloc)),
         keeper: (),
-        vault: (),
+        vault: MemVault::new(alloc, 0, Seq::new(alloc)),
     };
     let ended = run_alone(&(), alloc, &words, outside);
     Ok(ended.status == status && ended.outside.sink.octets() == written)

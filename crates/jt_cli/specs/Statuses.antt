@@ -2,7 +2,7 @@
 use Rattle.jt_runner.specs.declared.status.Status.{Status}
 use Rattle.jt_runner.specs.declared.status.Status.TheVariants.{Done, Refused, Usage, ReadFault, WriteFault, StoreFault, NetFault, Unsent, Memory}
 
--- it is none of a store's, a listener's or of fixes that were not sent
+-- it is none of a store's, a listener's or of fixes that are not accepted
 abbrev pub IsAlone : Status → Type 0
 IsAlone Done = Unit {0}
 IsAlone Refused = Unit {0}

@@ -4,6 +4,7 @@
 mod alone;
 mod outside;
 mod playing;
+mod reporting;
 mod task;
 mod top;
 mod usage;

@@ -1,6 +1,6 @@
 //! All that the program does.
 
-ghost use Rattle.std.specs.Prelude.{◌≡◌, ◌≢◌, ◌≤◌, ◌⊎◌, ◌^◌, ℕ, List, [], None, Option, map, string_bytes, IfSome};
+ghost use Rattle.std.specs.Prelude.{◌≡◌, ◌≢◌, ◌≤◌, ◌⊎◌, ◌^◌, ℕ, [], None, Option, false, map, string_bytes, IfSome, length};
 ghost use Rattle.std.specs.Io.KnownBytes.{IsAtEnd, Appends};
 ghost use Rattle.jt_io.specs.Count.{Rose};
 ghost use Rattle.jt_platform.specs.History.{newest, tables_after};
@@ -8,6 +8,12 @@ ghost use Rattle.jt_platform.specs.declared.desk.HubOpening.{HubOpening};
 ghost use Rattle.jt_platform_command.specs.Platform.{first_limit};
 ghost use Rattle.jt_platform_command.specs.Running.{RunsPlatform, scene_of};
 ghost use Rattle.jt_runner.specs.Answer.{Answers, IsFault, Runs, ReadsNoFurther, PrintsTaken, StopsAtWrite};
+ghost use Rattle.jt_store.specs.Tables.{Told};
+ghost use Rattle.jt_store.specs.Vaults.{settled, unsettled};
+ghost use Rattle.jt_terminal_steps.specs.Running.{IsStarted};
+ghost use Rattle.jt_report.specs.ReportWords.{AreWords as AreReportWords, Told as ReportTold};
+ghost use Rattle.jt_report_command.specs.Running.{RunsReport, scene_of as report_scene};
+ghost use Rattle.jt_report_command.specs.Settings.{settings_of};
 ghost use Rattle.jt_view.specs.Answer.{IsOpen};
 ghost use Rattle.jt_view.specs.Report.{answer_of};
 ghost use Rattle.jt_view.specs.declared.command.Command.{Command};
@@ -17,17 +23,17 @@ ghost use Rattle.jt_world.specs.Rehearsal.{script_reply, world_of};
 ghost use Rattle.jt_world.specs.Rehearsing.{IsHeard};
 ghost use Rattle.jt_cli.specs.Script.{RunsScript};
 ghost use Rattle.jt_cli.specs.Usage.{usage};
-ghost use Rattle.jt_cli.specs.Words.{words_of, words_of_task};
+ghost use Rattle.jt_cli.specs.Words.{words_of, words_of_task, AreNoPlatform, AreNoReport, AreNoTask};
 ghost use Rattle.jt_cli.specs.declared.task.Task.{Task};
 ghost use Rattle.jt_cli.specs.declared.task.Task.TheVariants.{Rehearse};
 
 use crate::alone::run_alone;
 use crate::outside::{Ended, Outside};
 use jt_io::{Sink, Source};
-use jt_link::Listen;
+use jt_link::{Clock, Dial, Listen};
 use jt_platform_command::{PlatformRun, platform};
 use jt_runner::Status;
-use jt_store::Keeper;
+use jt_store::{Keeper, Vault};
 use jt_words::PlatformWords;
 use std::alloc::Global;
 use std::sync::Wait;
@@ -107,20 +113,21 @@ where
 
 /// Does what the words say, which are those after the program's name.
 ///
-/// The commands are `view` and `check`, each with or without `--hex`, `rehearse`, and `platform` with its port and its number of
-/// sessions. All other words are answered the usage line, and then nothing is read. Of the source at most 2^40 octets are
-/// reported, and of a script or of a fleet at most 10,000,000 lines of at most 4,096 octets are heard.
+/// The commands are `view` and `check`, each with or without `--hex`, `rehearse`, `platform` with its port and its number of
+/// sessions, and `report` with its options. All other words are answered the usage line, and then nothing is read. Of the source
+/// at most 2^40 octets are viewed or checked, and of a script, of a fleet or of fixes at most 10,000,000 lines of at most 4,096 octets are
+/// heard.
 ///
 /// `platform` may wait for peers; its promises hold where it returns. All other words are left to `run_alone`.
 pub fn run<
     R: Threads + Wait + Sync,
     S: Source,
     K: Sink,
-    D,
+    D: Dial,
     L: Listen,
-    C,
+    C: Clock,
     P: Keeper + Send + Drop,
-    V,
+    V: Vault,
 >(
     rt: &R,
     alloc: Global,
@@ -172,22 +179,44 @@ where
         StopsAtWrite script_reply IsHeard (2 ^ 14) (S.left outside.source) (S.left result.outside.source)
         (K.written outside.sink) (K.written result.outside.sink) }
 
-    // The words are those of no task, and no words of `platform`.
-    ensures usage { ((task : Task) → map string_bytes words.now.items ≢ words_of_task task) → ((port sessions : ℕ) → AreWords port sessions (map string_bytes words.now.items) → ⊥) →
+    // The words are those of `report`: the octets that were taken, what was written, and what the vault, the clock and the dial
+    // say of it.
+    ensures report { (told : ReportTold) → AreReportWords told (map string_bytes words.now.items) →
+        RunsReport (IsStarted (settings_of told.phone told.plate told.terminal) (V.holds outside.vault)) told.tries (S.left outside.source) (S.left result.outside.source)
+        (report_scene (V.holds outside.vault) (V.limit outside.vault) (V.faults outside.vault) (C.time outside.clock) (D.pool outside.dial) (D.faults outside.dial))
+        (report_scene (V.holds result.outside.vault) (V.limit result.outside.vault) (V.faults result.outside.vault) (C.time result.outside.clock) (D.pool result.outside.dial) (D.faults result.outside.dial))
+        (K.written outside.sink) (K.written result.outside.sink) result.status }
+    // On Done every recorded fix is accepted, and on Unsent some fix is not; on both the source was read to its end.
+    ensures reported { (told : ReportTold) → AreReportWords told (map string_bytes words.now.items) → result.status ≡ Status.Done →
+        Told (V.holds result.outside.vault) (λ held. settled held ≡ length held.recorded) × IsAtEnd (S.left result.outside.source) }
+    ensures unsent { (told : ReportTold) → AreReportWords told (map string_bytes words.now.items) → result.status ≡ Status.Unsent →
+        Told (V.holds result.outside.vault) (λ held. settled held ≢ length held.recorded) × IsAtEnd (S.left result.outside.source) }
+    // The vault's limit stays, its count of faults never falls, and where none of its calls may fail none may later.
+    ensures vault { (V.limit result.outside.vault ≡ V.limit outside.vault) × (V.faults outside.vault ≤ V.faults result.outside.vault)
+        × (V.may_fail outside.vault ≡ false → V.may_fail result.outside.vault ≡ false) }
+
+    // The words are those of no task, and no words of `report` or `platform`.
+    ensures usage { AreNoTask (map string_bytes words.now.items) → AreNoReport (map string_bytes words.now.items) → AreNoPlatform (map string_bytes words.now.items) →
         Answers result.status usage (K.written outside.sink) (K.written result.outside.sink) }
-    ensures usage_reads_nothing { ((task : Task) → map string_bytes words.now.items ≢ words_of_task task) → ((port sessions : ℕ) → AreWords port sessions (map string_bytes words.now.items) → ⊥) →
+    ensures usage_reads_nothing { AreNoTask (map string_bytes words.now.items) → AreNoReport (map string_bytes words.now.items) → AreNoPlatform (map string_bytes words.now.items) →
         result.outside.source ≡ outside.source }
-    ensures usage_no_read_fault { ((task : Task) → map string_bytes words.now.items ≢ words_of_task task) → ((port sessions : ℕ) → AreWords port sessions (map string_bytes words.now.items) → ⊥) → result.status ≢ Status.ReadFault }
-    ensures usage_only { result.status ≡ Status.Usage → (task : Task) → map string_bytes words.now.items ≢ words_of_task task }
-    ensures usage_only_so { result.status ≡ Status.Usage → (port sessions : ℕ) → AreWords port sessions (map string_bytes words.now.items) → ⊥ }
+    ensures usage_no_read_fault { AreNoTask (map string_bytes words.now.items) → AreNoReport (map string_bytes words.now.items) → AreNoPlatform (map string_bytes words.now.items) → result.status ≢ Status.ReadFault }
+    ensures usage_only { result.status ≡ Status.Usage → AreNoTask (map string_bytes words.now.items) × AreNoReport (map string_bytes words.now.items) × AreNoPlatform (map string_bytes words.now.items) }
 
     ensures to_the_end { result.status ≡ Status.Done → IsAtEnd (S.left result.outside.source) }
     ensures read_fault { result.status ≡ Status.ReadFault → Rose (S.faults outside.source) (S.faults result.outside.source) }
     ensures write_fault { result.status ≡ Status.WriteFault → Rose (K.faults outside.sink) (K.faults result.outside.sink) }
-    // No link is served by any other words, and all but the source and the sink stays.
-    ensures no_link { ((port sessions : ℕ) → AreWords port sessions (map string_bytes words.now.items) → ⊥) →
+    // StoreFault comes only where the keeper failed or a session's list was full, and of `report` only where the vault failed or was
+    // full.
+    ensures store_fault { AreNoReport (map string_bytes words.now.items) → result.status ≡ Status.StoreFault →
+        Rose (P.faults outside.keeper) (P.faults result.outside.keeper) ⊎ (first_limit result.reports ≢ None) }
+    ensures vault_fault { (told : ReportTold) → AreReportWords told (map string_bytes words.now.items) → result.status ≡ Status.StoreFault →
+        Rose (V.faults outside.vault) (V.faults result.outside.vault) ⊎ Told (V.holds result.outside.vault) (λ held. unsettled held ≡ V.limit outside.vault) }
+    // No link is served by any other words than those of `platform`, and a listener and a keeper stay. All other words than those of
+    // `report` leave the dial, the clock and the vault.
+    ensures no_link { AreNoPlatform (map string_bytes words.now.items) →
         (result.reports ≡ []) × (result.history ≡ []) × (result.outside.listen ≡ outside.listen) × (result.outside.keeper ≡ outside.keeper) }
-    ensures rest { (result.outside.dial ≡ outside.dial) × (result.outside.clock ≡ outside.clock) × (result.outside.vault ≡ outside.vault) }
+    ensures rest { AreNoReport (map string_bytes words.now.items) → (result.outside.dial ≡ outside.dial) × (result.outside.clock ≡ outside.clock) × (result.outside.vault ≡ outside.vault) }
 
     // The words are those of `platform`: the octets that were taken, what was written, and what the listener, the keeper, the
     // reports and the history say of it.
@@ -198,7 +227,6 @@ where
         (K.written outside.sink) (K.written result.outside.sink) result.reports result.history result.status }
     ensures keeper { (P.tables result.outside.keeper ≡ tables_after (P.tables outside.keeper) (newest result.history)) × (P.limit result.outside.keeper ≡ P.limit outside.keeper) }
     ensures net_fault { result.status ≡ Status.NetFault → Rose (L.faults outside.listen) (L.faults result.outside.listen) }
-    ensures store_fault { result.status ≡ Status.StoreFault → Rose (P.faults outside.keeper) (P.faults result.outside.keeper) ⊎ (first_limit result.reports ≢ None) }
 {
     match PlatformWords::from_words(words.as_slice()) {
         Some(told) => run_platform(rt, alloc, told, outside),

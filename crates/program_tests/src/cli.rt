@@ -6,6 +6,8 @@ use jt_cli::{
 use jt_codec::{Message, read_message};
 use jt_header::{Header, read_header};
 use jt_io::{MemSink, MemSource};
+use jt_link::{ScriptClock, ScriptDial};
+use jt_store::MemVault;
 use jt_value::{CodecError, Memory, Octets, Refusal, Seq, Why};
 use std::alloc::{AllocError, Global};
 use std::process::Abort;
@@ -27,7 +29,7 @@ pub(crate) fn outside(
     alloc: Global,
     octets: &[u8],
     failing: (u64, u64),
-) -> Result<Outside<MemSource, MemSink, (), (), (), (), ()>, Memory> {
+) -> Result<Outside<MemSource, MemSink, ScriptDial, (), ScriptClock, (), MemVault>, Memory> {
     let mut failing_reads = Seq::new(alloc);
     failing_reads.push(failing.0)?;
     let mut failing_writes = Seq::new(alloc);
@@ -35,17 +37,17 @@ pub(crate) fn outside(
     Ok(Outside {
         source: MemSource::new(Octets::from_vec(octets.to_vec(alloc)?), failing_reads),
         sink: MemSink::new(alloc, 8192, failing_writes)?,
-        dial: (),
+        dial: ScriptDial::new(alloc, Seq::new(alloc), Seq::new(alloc))?,
         listen: (),
-        clock: (),
+        clock: ScriptClock::new(Seq::new(alloc)),
         keeper: (),
-        vault: (),
+        vault: MemVault::new(alloc, 100, Seq::new(alloc)),
     })
 }
 
 // Whether the run ended so, and wrote this.
 fn is_ended_so(
-    ended: &Ended<MemSource, MemSink, (), (), (), (), ()>,
+    ended: &Ended<MemSource, MemSink, ScriptDial, (), ScriptClock, (), MemVault>,
     status: Status,
     written: &[u8],
 ) -> bool {
@@ -88,6 +90,42 @@ fn expect(
         written.as_bytes(),
     );
     assert!(rt; is_so, "{octets:?}");
+}
+
+#[test]
+fn reports(rt: HostRuntime) {
+    let alloc = rt.alloc();
+    let words = [
+        "report",
+        "--host",
+        "localhost",
+        "--port",
+        "9000",
+        "--phone",
+        "013912345678",
+        "--plate",
+        "4a54383038",
+        "--terminal=31323334353637",
+        "--tries",
+        "2",
+    ];
+    let rows: &[(&[u8], Status, &str)] = &[
+        (
+            b"00000000000000030000000106bc3e40000000000000240101000000\n",
+            Status::Unsent,
+            "try 1 dial\ntry 2 dial\naccepted=0 of 1\n",
+        ),
+        (b"", Status::Done, "accepted=0 of 0\n"),
+        (
+            b"000000000000000300000000000000000000000000002401010000",
+            Status::Refused,
+            "line 1+22 refused Truncated\n",
+        ),
+    ];
+    for (octets, status, text) in rows {
+        expect(&rt, alloc, &words, octets, (0, 0), *status, text);
+    }
+    expect(&rt, alloc, &words[..10], b"", (0, 0), Status::Usage, USAGE);
 }
 
 #[test]

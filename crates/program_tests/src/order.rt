@@ -5,6 +5,9 @@ ghost use Rattle.std.specs.Prelude.{None};
 use crate::cli::{outside, repeated, words_of};
 use jt_cli::{Outside, Status, run_alone};
 use jt_io::{Got, MemSource, Put, Sink, Source};
+use jt_link::{ScriptClock, ScriptDial};
+use jt_store::MemVault;
+use jt_value::Seq;
 use std::alloc::{AllocError, Global};
 use std::cell::Cell;
 use std::process::Abort;
@@ -92,11 +95,11 @@ fn is_written_first(rt: &impl Abort, alloc: Global, word: &str, octets: &[u8]) -
             was_set: false,
         },
         sink: FlagSink { flag: &flag },
-        dial: (),
+        dial: ScriptDial::new(alloc, Seq::new(alloc), Seq::new(alloc)).expect(rt, "a dial"),
         listen: (),
-        clock: (),
+        clock: ScriptClock::new(Seq::new(alloc)),
         keeper: (),
-        vault: (),
+        vault: MemVault::new(alloc, 0, Seq::new(alloc)),
     };
     let ended = run_alone(&(), alloc, &words, outside);
     ended.outside.source.was_set

@@ -1,12 +1,12 @@
-//! Whole runs of `platform` by its words.
+//! Whole runs of `platform` and `report` by their words.
 
 ghost use Rattle.std.specs.Prelude.{None};
 
 use crate::waiting::Pair;
 use jt_cli::{Ended, Outside, Status, run};
 use jt_io::{MemSink, MemSource};
-use jt_link::{Accepted, Listen, ScriptLink, ScriptListen};
-use jt_store::MemKeeper;
+use jt_link::{Accepted, Dial, Listen, ScriptClock, ScriptDial, ScriptLink, ScriptListen};
+use jt_store::{MemKeeper, MemVault};
 use jt_value::{Memory, Octets, Seq};
 use std::alloc::Global;
 use std::process::Abort;
@@ -24,8 +24,8 @@ const REFUSED: &[u8] =
 
 const USAGE: &[u8] = b"usage: jt808 view|check|rehearse|make|platform|report\n";
 
-/// What a run over a listener in memory gives back.
-type Ran<L> = Ended<MemSource, MemSink, (), L, (), MemKeeper, ()>;
+/// What a run over a dial and a listener in memory gives back.
+type Ran<D, L> = Ended<MemSource, MemSink, D, L, ScriptClock, MemKeeper, MemVault>;
 
 // The words of a text, which one space divides.
 fn words_of(alloc: Global, text: &str) -> Result<Vec<String>, Memory> {
@@ -41,30 +41,49 @@ fn source(alloc: Global, text: &str) -> Result<MemSource, Memory> {
     Ok(MemSource::new(octets, Seq::new(alloc)))
 }
 
-// Runs words over the fleet of a text and a listener.
+// Runs words over a text, a dial and a listener.
+fn ran_over<R: Threads + Wait + Sync + Abort, D: Dial + Drop, L: Listen + Drop>(
+    rt: &R,
+    alloc: Global,
+    words: &str,
+    text: &str,
+    dial: D,
+    listen: L,
+) -> Ran<D, L>
+where
+    L::Link: Send,
+{
+    let words = words_of(alloc, words).expect(rt, "there is memory");
+    let source = source(alloc, text).expect(rt, "there is memory");
+    let sink = MemSink::new(alloc, 8192, Seq::new(alloc)).expect(rt, "there is memory");
+    let outside = Outside {
+        source,
+        sink,
+        dial,
+        listen,
+        clock: ScriptClock::new(Seq::new(alloc)),
+        keeper: MemKeeper::new(alloc, 1000, Seq::new(alloc)),
+        vault: MemVault::new(alloc, 100, Seq::new(alloc)),
+    };
+    run(rt, alloc, &words, outside)
+}
+
+// Runs words over the fleet of a text and a listener, with a dial that has no links.
 fn ran<R: Threads + Wait + Sync + Abort, L: Listen + Drop>(
     rt: &R,
     alloc: Global,
     words: &str,
     fleet: &str,
     listen: L,
-) -> Ran<L>
+) -> Ran<ScriptDial, L>
 where
     L::Link: Send,
 {
-    let words = words_of(alloc, words).expect(rt, "there is memory");
-    let source = source(alloc, fleet).expect(rt, "there is memory");
-    let sink = MemSink::new(alloc, 8192, Seq::new(alloc)).expect(rt, "there is memory");
-    let outside = Outside {
-        source,
-        sink,
-        dial: (),
-        listen,
-        clock: (),
-        keeper: MemKeeper::new(alloc, 1000, Seq::new(alloc)),
-        vault: (),
-    };
-    run(rt, alloc, &words, outside)
+    let dial = ScriptDial::new(alloc, Seq::new(alloc), Seq::new(alloc)).expect(
+        rt,
+        "there is memory",
+    );
+    ran_over(rt, alloc, words, fleet, dial, listen)
 }
 
 // A listener to which one heartbeat comes.
@@ -84,7 +103,7 @@ fn is_back(links: &[ScriptLink], written: &[u8]) -> bool {
 }
 
 // Whether a run ended so and printed this.
-fn is_ran<L>(ran: &Ran<L>, status: Status, printed: &[u8]) -> bool {
+fn is_ran<D, L>(ran: &Ran<D, L>, status: Status, printed: &[u8]) -> bool {
     ran.status == status && ran.outside.sink.octets() == printed
 }
 
@@ -189,5 +208,56 @@ fn words_that_are_none_of_platform(rt: HostRuntime) -> Result<(), Fail> {
         assert!(rt; is_ran(&ended, Status::Usage, USAGE), "{words}");
         assert!(rt; ended.outside.listen.told == 0, "{words}");
     }
+    Ok(())
+}
+
+// A dial that has no links, and keeps whether it was always told this host and this port.
+#[derive(Drop)]
+struct Address {
+    host: &'static str,
+    port: u16,
+    is_told: bool,
+    calls: u64,
+}
+
+impl Dial for Address {
+    type Link = ScriptLink;
+
+    ghost pool = { λ _. record { coming = None; back = None; lent = None } };
+
+    ghost faults = { λ address. address.calls };
+
+    fn dial(&mut self, host: &str, port: u16) -> Option<ScriptLink> {
+        self.is_told = self.is_told && host == self.host && port == self.port;
+        self.calls = self.calls.saturating_add(1);
+        None
+    }
+
+    fn back(&mut self, link: ScriptLink) {
+        drop(link);
+    }
+}
+
+#[test]
+fn the_dial_is_told_the_host_and_the_port_of_the_words(rt: HostRuntime) -> Result<(), Fail> {
+    let words =
+        "report --port 65535 --host example.org --phone 013912345678 --plate 4a54383038 --terminal 31323334353637 --tries 2";
+    let dial = Address {
+        host: "example.org",
+        port: 65_535,
+        is_told: true,
+        calls: 0,
+    };
+    let fix = "00000000000000030000000106bc3e40000000000000240101000000";
+    let ended = ran_over(&rt, rt.alloc(), words, fix, dial, Port { told: 0 });
+    assert!(rt;
+        is_ran(
+            &ended,
+            Status::Unsent,
+            b"try 1 dial\ntry 2 dial\naccepted=0 of 1\n"
+        )
+    );
+    assert!(rt; ended.outside.dial.is_told);
+    assert!(rt; ended.outside.dial.calls == 2);
     Ok(())
 }
