@@ -3,7 +3,7 @@ ghost use Rattle.std.specs.Prelude.{◌<◌, ◌≤◌, length};
 use jt_cli::{Outside, Status, run_alone};
 use jt_io::{MemSink, MemSource};
 use jt_link::{ScriptClock, ScriptDial};
-use jt_store::MemVault;
+use jt_store::{MemKeeper, MemVault};
 use jt_value::{Memory, Octets, Seq};
 use std::alloc::Global;
 
@@ -17,7 +17,7 @@ fn is_viewed(alloc: Global, octets: &[u8], status: Status, written: &[u8]) -> Re
         dial: ScriptDial::new(alloc, Seq::new(alloc), Seq::new(alloc))?,
         listen: (),
         clock: ScriptClock::new(Seq::new(alloc)),
-        keeper: (),
+        keeper: MemKeeper::new(alloc, 10, Seq::new(alloc)),
         vault: MemVault::new(alloc, 0, Seq::new(alloc)),
     };
     let ended = run_alone(&(), alloc, &words, outside);

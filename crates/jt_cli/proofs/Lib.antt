@@ -1,5 +1,9 @@
+pub mod Asking
 pub mod EqualWords
+pub mod Runs
 pub mod ScriptRuns
-pub mod TaskWords
 pub mod StatusesOfRuns
+pub mod TaskWords
+pub mod Telling
+pub mod Today
 pub mod ToldWords

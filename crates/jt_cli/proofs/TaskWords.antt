@@ -1,9 +1,7 @@
 -- The words of tasks, of `platform` and of `report`.
-use Rattle.std.proofs.Common.{◌≡◌, ℕ, List, [], ◌∷◌, codes, length, Option, refl, sym, ap, subst, ◌∙◌, arith}
+use Rattle.std.proofs.Common.{◌≡◌, ℕ, List, [], ◌∷◌, codes, length, refl, sym, ap, ◌∙◌, arith}
 use Rattle.jt_view.specs.declared.command.Report.{Report}
 use Rattle.jt_view.specs.declared.command.Report.TheVariants.{View, Check}
-use Rattle.jt_runner.specs.declared.status.Status.{Status}
-use Rattle.jt_cli.specs.Acting.{Acts}
 use Rattle.jt_cli.specs.declared.task.Task.{Task}
 use Rattle.jt_cli.specs.declared.task.Task.TheVariants.{Tell, Rehearse}
 use Rattle.jt_cli.specs.Words.{report_word, words_of, words_of_task}
@@ -64,7 +62,3 @@ two_commands words first second is other = let letters = ap first_letter (sym is
 -- and not those of `platform`
 pub platform_or_report : (port sessions : ℕ) (told : Told) (words : List (List ℕ)) → AreWords port sessions words → AreReportWords told words → ⊥
 platform_or_report port sessions told words are report = two_commands words are.options report.words_are.options are.command report.words_are.command
-
--- what a task did, by the same task
-pub task_is : (task told : Option Task) (left left_now old now : Option (List ℕ)) (status : Status) → task ≡ told → Acts task left left_now old now status → Acts told left left_now old now status
-task_is task told left left_now old now status is acts = subst (λ (t : Option Task). Acts t left left_now old now status) is acts

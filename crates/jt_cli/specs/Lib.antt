@@ -2,6 +2,9 @@ pub use Rattle.jt_runner.specs.Answer
 pub use Rattle.jt_runner.specs.Reply
 pub use Rattle.jt_view.specs.Report
 pub mod Acting
+pub mod Ask
+pub mod Asking
+pub mod Running
 pub mod Script
 pub mod Usage
 pub mod Words

@@ -1,7 +1,9 @@
 //! The command line: what each list of words does to the source and the sink.
 #![tactic(auto)]
 
+mod acting;
 mod alone;
+mod asked;
 mod outside;
 mod playing;
 mod reporting;
@@ -10,6 +12,7 @@ mod top;
 mod usage;
 
 pub use alone::run_alone;
+pub use asked::Asked;
 pub use jt_runner::Status;
 pub use jt_text::{refusal_line, view_line};
 pub use jt_view::{

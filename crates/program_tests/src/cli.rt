@@ -7,7 +7,7 @@ use jt_codec::{Message, read_message};
 use jt_header::{Header, read_header};
 use jt_io::{MemSink, MemSource};
 use jt_link::{ScriptClock, ScriptDial};
-use jt_store::MemVault;
+use jt_store::{MemKeeper, MemVault};
 use jt_value::{CodecError, Memory, Octets, Refusal, Seq, Why};
 use std::alloc::{AllocError, Global};
 use std::process::Abort;
@@ -29,7 +29,7 @@ pub(crate) fn outside(
     alloc: Global,
     octets: &[u8],
     failing: (u64, u64),
-) -> Result<Outside<MemSource, MemSink, ScriptDial, (), ScriptClock, (), MemVault>, Memory> {
+) -> Result<Outside<MemSource, MemSink, ScriptDial, (), ScriptClock, MemKeeper, MemVault>, Memory> {
     let mut failing_reads = Seq::new(alloc);
     failing_reads.push(failing.0)?;
     let mut failing_writes = Seq::new(alloc);
@@ -40,14 +40,14 @@ pub(crate) fn outside(
         dial: ScriptDial::new(alloc, Seq::new(alloc), Seq::new(alloc))?,
         listen: (),
         clock: ScriptClock::new(Seq::new(alloc)),
-        keeper: (),
+        keeper: MemKeeper::new(alloc, 10, Seq::new(alloc)),
         vault: MemVault::new(alloc, 100, Seq::new(alloc)),
     })
 }
 
 // Whether the run ended so, and wrote this.
 fn is_ended_so(
-    ended: &Ended<MemSource, MemSink, ScriptDial, (), ScriptClock, (), MemVault>,
+    ended: &Ended<MemSource, MemSink, ScriptDial, (), ScriptClock, MemKeeper, MemVault>,
     status: Status,
     written: &[u8],
 ) -> bool {

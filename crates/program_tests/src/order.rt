@@ -6,7 +6,7 @@ use crate::cli::{outside, repeated, words_of};
 use jt_cli::{Outside, Status, run_alone};
 use jt_io::{Got, MemSource, Put, Sink, Source};
 use jt_link::{ScriptClock, ScriptDial};
-use jt_store::MemVault;
+use jt_store::{MemKeeper, MemVault};
 use jt_value::Seq;
 use std::alloc::{AllocError, Global};
 use std::cell::Cell;
@@ -98,7 +98,7 @@ fn is_written_first(rt: &impl Abort, alloc: Global, word: &str, octets: &[u8]) -
         dial: ScriptDial::new(alloc, Seq::new(alloc), Seq::new(alloc)).expect(rt, "a dial"),
         listen: (),
         clock: ScriptClock::new(Seq::new(alloc)),
-        keeper: (),
+        keeper: MemKeeper::new(alloc, 10, Seq::new(alloc)),
         vault: MemVault::new(alloc, 0, Seq::new(alloc)),
     };
     let ended = run_alone(&(), alloc, &words, outside);

@@ -1,0 +1,34 @@
+-- What words ask of the program. To be believed.
+use Rattle.std.specs.Prelude.{◌≡◌, ℕ, List}
+use Rattle.jt_report.specs.ReportWords.{Told, AreWords as AreReportWords}
+use Rattle.jt_words.specs.Platform.{PlatformWords}
+use Rattle.jt_cli.specs.Words.{words_of_task}
+use Rattle.jt_cli.specs.declared.task.Task.{Task}
+
+-- a task over the source and the sink; fixes to report, with what `report` is told; or links to
+-- serve, at a port and so many
+pub data Ask : Type 0 where
+  Act : Task → Ask
+  ReportFixes : Told → Ask
+  ServeLinks : ℕ → ℕ → Ask
+
+-- the words after the program's name that ask this
+abbrev pub Asks : Ask → List (List ℕ) → Type 0
+Asks (Act task) words = words ≡ words_of_task task
+Asks (ReportFixes told) words = AreReportWords told words
+Asks (ServeLinks port sessions) words = PlatformWords port sessions words
+
+-- these words ask this and nothing else
+pub record AskOnly (ask : Ask) (words : List (List ℕ)) : Type 0 where
+  pub asks : Asks ask words
+  pub only : (other : Ask) → Asks other words → other ≡ ask
+
+-- these words ask nothing
+abbrev pub AskNothing : List (List ℕ) → Type 0
+AskNothing words = (ask : Ask) → Asks ask words → ⊥
+
+-- memory is taken to read words that ask this
+abbrev pub TakesMemory : Ask → Type 0
+TakesMemory (Act task) = ⊥
+TakesMemory (ReportFixes told) = Unit {0}
+TakesMemory (ServeLinks port sessions) = ⊥
