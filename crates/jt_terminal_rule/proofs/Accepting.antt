@@ -1,5 +1,5 @@
 -- An acceptance moves the mark by one unit.
-use Rattle.std.proofs.Common.{ℕ, zero, suc, ◌≡◌, ◌<◌, ◌≤◌, ◌+◌, ◌-◌, List, [], ◌∷◌, length, drop, slice_get, Option, Some, None, ap, sym, ◌∙◌, subst, arith, IsTrue}
+use Rattle.std.proofs.Common.{refl, ℕ, zero, suc, ◌≡◌, ◌<◌, ◌≤◌, ◌+◌, ◌-◌, List, [], ◌∷◌, length, drop, slice_get, Option, Some, None, ap, sym, ◌∙◌, subst, arith, IsTrue}
 use Rattle.std.specs.Prelude.{Bool, true, false, ◌&&◌, ◌==◌}
 use Rattle.jt_value.specs.Serials.{serial_of, gap_of}
 use Rattle.jt_store.specs.declared.row.Row.{Row}
@@ -144,6 +144,7 @@ module _ (h : Held) (s : State) (serial : ℕ) (u : OneUnit) (more : List OneUni
     may = ((ap is_up live, omega (arith, some), names_it), tt);
     to = ap (λ (n : ℕ). record (machine_of h s) { accepted = h.accepted + 1; reach = n }) sent_is;
     commits = (at_place.3, tt);
+    sent = λ settings own. refl;
     in_order = accepted_order s u more o is;
     agrees = accepted_agrees h s u more o a is;
   }

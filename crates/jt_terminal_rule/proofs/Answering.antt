@@ -22,7 +22,7 @@ use Rattle.jt_terminal_rule.specs.declared.state.AnswerKind.TheVariants.{General
 use Rattle.jt_terminal_rule.specs.Steps.{Machine, MayRun, MaySay, auths_by, is_in, run, stepped}
 use Rattle.jt_terminal_rule.specs.Steps as step
 use Rattle.jt_terminal_rule.specs.Rule.{Ruled, after_packets, answer_packets, answers, changed_by, message_limit, says_answer, says_each, says_packets, sends, stays}
-use Rattle.jt_terminal_rule.specs.Machines.{machine_of, as_steps, held_after, MayCommit, IsInOrder, Agrees}
+use Rattle.jt_terminal_rule.specs.Machines.{machine_of, as_steps, frames_by, held_after, MayCommit, IsInOrder, Agrees}
 use Rattle.jt_terminal_rule.specs.Law.{AreSteps}
 use Rattle.jt_terminal_rule.proofs.Composing.{may_append}
 use Rattle.jt_terminal_rule.proofs.Speaking.{at, good_header}
@@ -190,6 +190,10 @@ pub packets_sent : (settings : Settings) (packets : List Packet) → sends setti
 packets_sent settings [] = refl
 packets_sent settings (q ∷ packets) = ap (λ (fs : List (List ℕ)). frame_of q.0 q.1 ∷ fs) (packets_sent settings packets)
 
+says_written : (settings : Settings) (m : Machine) (packets : List Packet) → sends settings (says_each packets) ≡ frames_by m (as_steps m (says_each packets))
+says_written settings m [] = refl
+says_written settings m (q ∷ packets) = ap (λ (fs : List (List ℕ)). frame_of q.0 q.1 ∷ fs) (says_written settings (stepped m (step.Says q.0 q.1)) packets)
+
 -- ---- states
 
 pub changed_order : (s : State) (a : Answer) → IsInOrder s → IsInOrder (changed_by s a)
@@ -223,12 +227,13 @@ module _ (h : Held) (s : State) (serial : ℕ) (good : AreSettings s.settings) w
     may = say_may (machine_of h live) packets refl can;
     to = say_to (machine_of h live) packets can ∙ ap (λ (held : Held). machine_of held live) (sym (say_held packets h));
     commits = say_commits packets h;
+    sent = λ settings own. says_written settings (machine_of h live) packets;
     in_order = packets_order live packets o;
     agrees = subst (λ (held : Held). Agrees held (says_packets live packets).state) (sym (say_held packets h)) (packets_agrees h live packets o a);
   }
 
   says_steps : (says : Option (AnswerKind × List ℕ)) → IsInOrder live → Agrees h live → AreSteps (machine_of h live) h None (says_answer live says)
-  says_steps None o a = record { may = tt; to = refl; commits = tt; in_order = o; agrees = a }
+  says_steps None o a = record { may = tt; to = refl; commits = tt; sent = λ settings own. refl; in_order = o; agrees = a }
   says_steps (Some says) o a =
       packets_steps (answer_packets live says.0 says.1) o a
       (limited_can (machine_of h live) s.settings good refl refl says.0 s.next o.next says.1 (nat_le (length says.1) message_limit) refl)

@@ -2,27 +2,52 @@
 use Rattle.std.proofs.Common.{ℕ, zero, suc, ◌≡◌, ◌<◌, ◌≤◌, ◌+◌, List, [], ◌∷◌, ◌++◌, length, drop, slice_get, Option, Some, None, Bool, true, false, cond, refl, ap, sym, ◌∙◌, subst, arith, IsTrue}
 use Rattle.std.specs.Prelude.{nat_lt, max}
 use Rattle.std.proofs.lemmas.Bool.{ltb-true}
-use Rattle.std.proofs.lemmas.List.{length-drop}
+use Rattle.std.proofs.lemmas.List.{length-drop, drop-drop}
 use Rattle.std.proofs.lemmas.Option.{slice_get_within}
 use Rattle.jt_value.specs.Serials.{gap_of, serial_of}
+use Rattle.jt_value.specs.declared.phone.Phone.{Phone}
 use Rattle.jt_store.specs.declared.unit.Unit.{Unit as OneUnit}
 use Rattle.jt_store.specs.Vaults.{Held, Forms, Accepts, held_by}
 use Rattle.jt_terminal_rule.specs.declared.state.Phase.TheVariants.{Live}
 use Rattle.jt_terminal_rule.specs.Forming.{unit_of}
 use Rattle.jt_terminal_rule.specs.declared.state.Acknowledgement.{Acknowledgement}
-use Rattle.jt_terminal_rule.specs.Messages.{is_acceptance}
+use Rattle.jt_terminal_rule.specs.declared.settings.Settings.{Settings}
+use Rattle.jt_terminal_rule.specs.Messages.{is_acceptance, header_of, frame_of}
+use Rattle.jt_terminal_rule.specs.Steps.{writes}
+use Rattle.jt_terminal_rule.specs.Steps as step
 use Rattle.jt_terminal_rule.specs.declared.state.State.{State}
 use Rattle.jt_terminal_rule.specs.Rule.{Ruled, one_sent, forms_one, sends_one, next_one, or_stays, fill, fills, window, and_then, accepted, names}
 use Rattle.jt_terminal_rule.specs.Rule as rule
-use Rattle.jt_terminal_rule.specs.Machines.{machine_of, is_up, is_live, held_after, Agrees, IsInOrder}
+use Rattle.jt_terminal_rule.specs.Machines.{machine_of, is_up, is_live, held_after, Agrees, AreSerials, IsInOrder}
 use Rattle.jt_terminal_rule.specs.Law.{AreSteps, UnitCarriesFirstFixes}
 use Rattle.jt_terminal_rule.proofs.Numbering.{length-numbered}
 use Rattle.jt_terminal_rule.proofs.Composing.{and_then_steps, stays_steps}
 use Rattle.jt_terminal_rule.proofs.Forming.{form_steps, with_unit}
-use Rattle.jt_terminal_rule.proofs.Accepting.{accept_steps}
+use Rattle.jt_terminal_rule.proofs.Accepting.{accept_steps, row_in, serial_back}
 
 most : (n : ℕ) → max n (n + 1) ≡ n + 1
 most n = omega arith
+
+drop_at : (units : List OneUnit) (place : ℕ) (u : OneUnit) → slice_get units place ≡ Some u → drop place units ≡ u ∷ drop (suc place) units
+drop_at [] place u e = absurd cc
+drop_at (v ∷ units) zero u e = let same : v ≡ u = cc in ap (λ (x : OneUnit). x ∷ units) same
+drop_at (v ∷ units) (suc place) u e = drop_at units place u e
+
+small_at : (units : List OneUnit) (place : ℕ) (u : OneUnit) → AreSerials units → slice_get units place ≡ Some u → u.serial < 65536
+small_at [] place u small e = absurd cc
+small_at (v ∷ units) zero u small e = let same : v ≡ u = cc in subst (λ (x : OneUnit). x.serial < 65536) same small.0
+small_at (v ∷ units) (suc place) u small e = small_at units place u small.1 e
+
+-- a unit is sent as the machine writes it
+pub unit_written : (h : Held) (s : State) (u : OneUnit) (older : ℕ) → IsInOrder s → Agrees h s → slice_get s.units older ≡ Some u → (settings : Settings) → settings.phone ≡ s.settings.phone
+    → frame_of (header_of settings.phone u.id u.serial) u.body ≡ writes (machine_of h s) (step.Sends (h.accepted + older))
+unit_written h s u older o a there settings own =
+    let at : drop (h.accepted + older) h.units ≡ u ∷ drop (suc older) s.units =
+        sym (drop-drop older h.accepted h.units) ∙ (ap (drop older) (sym a.units) ∙ drop_at s.units older u there) in
+    let row = row_in None h.units (h.accepted + older) u (drop (suc older) s.units) at in
+    ap (λ (phone : Phone). frame_of (header_of phone u.id u.serial) u.body) own
+    ∙ (ap (λ (serial : ℕ). frame_of (header_of s.settings.phone u.id serial) u.body) (sym (serial_back row.0 u.serial (small_at s.units older u o.serials there)))
+    ∙ ap (step.unit_octets s.settings.phone) (sym row.1))
 
 -- the next unit that was not sent on this line is sent
 send_steps : (h : Held) (s : State) (serial : ℕ) (u : OneUnit) → s.phase ≡ Live serial → IsInOrder s → Agrees h s → slice_get s.units s.sent ≡ Some u
@@ -35,6 +60,7 @@ send_steps h s serial u live o a there =
       may = ((ap is_up live, ap is_live live, omega arith, omega arith, omega (arith, within, long, length-numbered None h.units)), tt);
       to = ap (λ (n : ℕ). record (machine_of h s) { reach = n }) reach;
       commits = tt;
+      sent = λ settings own. ap (λ (octets : List ℕ). octets ∷ []) (unit_written h s u s.sent o a there settings own);
       in_order = record { order = o.order; serials = o.serials; phase = o.phase; mark = o.mark; next = o.next; sent = omega (arith, within) };
       agrees = record { known = a.known; units = a.units; mark = a.mark; mark_held = a.mark_held; next_small = a.next_small; next_behind = a.next_behind; next_held = a.next_held; fixes = a.fixes; formed = a.formed; are_fixes = a.are_fixes; code = a.code };
     }

@@ -214,6 +214,7 @@ module _ (carries : UnitCarriesFirstFixes) (h : Held) (s : State) (o : IsInOrder
     may = (may, tt);
     to = ap (λ (rows : List Row). record (machine_of h s) { units = rows }) (sym units_are);
     commits = ((is_unit, vault_may), tt);
+    sent = λ settings own. refl;
     in_order = record { order = order; serials = serials_push s.units u o.serials (let lt = o.next in omega (arith, serial, lt)); phase = o.phase; mark = o.mark; next = omega arith; sent = let le = o.sent in omega (arith, length-append s.units (u ∷ []), le) };
     agrees = record {
       known = let le = a.known in omega (arith, length-append h.units (u ∷ []), le);

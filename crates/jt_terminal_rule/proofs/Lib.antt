@@ -15,3 +15,4 @@ pub mod Starting
 pub mod Measuring
 pub mod Lasting
 mod Unsaying
+mod Keeping

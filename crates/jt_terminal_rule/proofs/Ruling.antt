@@ -1,5 +1,5 @@
 -- The rule at each event is steps of the machine.
-use Rattle.std.proofs.Common.{ℕ, ◌≡◌, ◌<◌, ◌+◌, List, [], ◌∷◌, ◌++◌, length, Some, None, Bool, true, false, cond, refl, ap, ◌∙◌, arith}
+use Rattle.std.proofs.Common.{ℕ, ◌≡◌, ◌<◌, ◌+◌, List, [], ◌∷◌, ◌++◌, length, Some, None, Bool, true, false, cond, slice_get, refl, ap, ◌∙◌, arith}
 use Rattle.std.specs.Prelude.{nat_lt, nat_le, not, ◌==◌, ◌&&◌, ◌||◌, max}
 use Rattle.std.specs.Option.{unwrap_or}
 use Rattle.std.proofs.lemmas.Bool.{ltb-true, leb-true, eq-eqb}
@@ -27,7 +27,7 @@ use Rattle.jt_terminal_rule.specs.Law.{AreSteps, HeardTakesSteps, RuleTakesSteps
 use Rattle.jt_terminal_rule.proofs.Answering.{answers_phase, answers_steps}
 use Rattle.jt_terminal_rule.proofs.Numbering.{length-numbered}
 use Rattle.jt_terminal_rule.proofs.Composing.{and_then_steps, stays_steps, behind_any}
-use Rattle.jt_terminal_rule.proofs.Filling.{window_steps, acceptance_steps}
+use Rattle.jt_terminal_rule.proofs.Filling.{window_steps, acceptance_steps, unit_written}
 use Rattle.jt_terminal_rule.proofs.Speaking.{at, keep_order, keep_agrees, opened_steps, authenticates_steps, beat_steps, lost_steps, denied_steps, sets_steps, say_register, say_auth, code_short}
 
 -- ---- tests
@@ -186,7 +186,7 @@ module _ (carries : UnitCarriesFirstFixes) (h : Held) (s : State) (good : AreSet
 
   oldest_steps : (serial : ℕ) → IsInOrder (at s (Live serial)) → Agrees h (at s (Live serial)) → 0 < s.sent → (units : List OneUnit) → s.units ≡ units
       → AreSteps (machine_of h (at s (Live serial))) h None (record { state = (repeats (at s (Live serial))).state; steps = oldest_again units; end = None })
-  oldest_steps serial o a some [] is = record { may = tt; to = refl; commits = tt; in_order = again_order (Live serial) o; agrees = again_agrees (Live serial) a }
+  oldest_steps serial o a some [] is = record { may = tt; to = refl; commits = tt; sent = λ settings own. refl; in_order = again_order (Live serial) o; agrees = again_agrees (Live serial) a }
   oldest_steps serial o a some (u ∷ more) is =
       let within = o.sent in
       let long = ap (λ (us : List OneUnit). length us) a.units ∙ length-drop h.accepted h.units in
@@ -194,6 +194,7 @@ module _ (carries : UnitCarriesFirstFixes) (h : Held) (s : State) (good : AreSet
         may = ((refl, refl, omega arith, omega arith, omega (arith, some, within, long, length-numbered None h.units)), tt);
         to = ap (λ (n : ℕ). record (machine_of h (at s (Live serial))) { reach = n }) (reaches some);
         commits = tt;
+        sent = λ settings own. ap (λ (octets : List ℕ). octets ∷ []) (unit_written h (at s (Live serial)) u 0 o a (ap (λ (us : List OneUnit). slice_get us 0) is) settings own);
         in_order = again_order (Live serial) o;
         agrees = again_agrees (Live serial) a;
       }
@@ -210,6 +211,7 @@ module _ (carries : UnitCarriesFirstFixes) (h : Held) (s : State) (good : AreSet
     may = ((refl, say_register (machine_of h (at s (Registering serial))) s.settings serial good refl o.phase), tt);
     to = refl;
     commits = tt;
+    sent = λ settings own. refl;
     in_order = again_order (Registering serial) o;
     agrees = again_agrees (Registering serial) a;
   }
@@ -217,6 +219,7 @@ module _ (carries : UnitCarriesFirstFixes) (h : Held) (s : State) (good : AreSet
     may = ((refl, say_auth (machine_of h (at s (Authenticating serial))) s.settings serial (unwrap_or s.code []) good refl o.phase (code_short s.code o.order.short) refl), tt);
     to = ap (λ (serials : List ℕ). record (machine_of h (at s (Authenticating serial))) { auths = serials }) (auths_same serial);
     commits = tt;
+    sent = λ settings own. refl;
     in_order = again_order (Authenticating serial) o;
     agrees = again_agrees (Authenticating serial) a;
   }

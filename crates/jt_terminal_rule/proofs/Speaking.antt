@@ -182,6 +182,7 @@ opened_steps h s good o a = by_code s.code o.order.short
       may = (tt, ((refl, say_register (stepped (machine_of h s) step.Opens) s.settings s.next good refl o.next), tt));
       to = ap (λ (n : ℕ). record (machine_of h (spoken (record s { sent = 0 }) (Registering s.next) (begun s))) { reach = n }) (no_more h.accepted);
       commits = tt;
+      sent = λ settings own. refl;
       in_order = spoken_order (record s { sent = 0 }) (Registering s.next) (begun s) o.next o0;
       agrees = spoken_agrees h (record s { sent = 0 }) (Registering s.next) (begun s) o0 a0;
     }
@@ -189,6 +190,7 @@ opened_steps h s good o a = by_code s.code o.order.short
       may = (tt, ((refl, say_auth (stepped (machine_of h s) step.Opens) s.settings s.next code good refl o.next le refl), tt));
       to = ap (λ (n : ℕ). record (machine_of h (spoken (record s { sent = 0 }) (Authenticating s.next) (begun s))) { reach = n }) (no_more h.accepted);
       commits = tt;
+      sent = λ settings own. refl;
       in_order = spoken_order (record s { sent = 0 }) (Authenticating s.next) (begun s) o.next o0;
       agrees = spoken_agrees h (record s { sent = 0 }) (Authenticating s.next) (begun s) o0 a0;
     }
@@ -200,6 +202,7 @@ authenticates_steps h s serial code good o a le = record {
   may = ((refl, say_auth (machine_of h (at s (Registering serial))) s.settings s.next code good refl o.next le refl), tt);
   to = refl;
   commits = tt;
+  sent = λ settings own. refl;
   in_order = spoken_order (at s (Registering serial)) (Authenticating s.next) (begun s) o.next o;
   agrees = spoken_agrees h (at s (Registering serial)) (Authenticating s.next) (begun s) o a;
 }
@@ -223,6 +226,7 @@ beat_steps h s serial good o a = record {
   );
   to = refl;
   commits = tt;
+  sent = λ settings own. refl;
   in_order = spoken_order (at s (Live serial)) (Live serial) s.wait o.phase o;
   agrees = spoken_agrees h (at s (Live serial)) (Live serial) s.wait o a;
 }
@@ -240,6 +244,7 @@ lost_steps m h s just cause same o a = record {
   may = (tt, tt);
   to = same ∙ ap (λ (n : ℕ). record (machine_of h (down s)) { reach = n }) (no_more h.accepted);
   commits = tt;
+  sent = λ settings own. refl;
   in_order = down_order s o;
   agrees = down_agrees h s a;
 }
@@ -251,6 +256,7 @@ denied_steps m h s just cause same o a = record {
   may = (tt, (tt, tt));
   to = ap (λ (n : Machine). record n { code = None }) same ∙ ap (λ (n : ℕ). record (machine_of (held_by (Sets None) h) (down (record s { code = None }))) { reach = n }) (no_more h.accepted);
   commits = (tt, tt);
+  sent = λ settings own. refl;
   in_order = record { order = record { gaps = o.order.gaps; behind = o.order.behind; near = o.order.near; short = tt }; serials = o.serials; phase = tt; mark = o.mark; next = o.next; sent = omega arith };
   agrees = record { known = a.known; units = a.units; mark = a.mark; mark_held = a.mark_held; next_small = a.next_small; next_behind = a.next_behind; next_held = a.next_held; fixes = a.fixes; formed = a.formed; are_fixes = a.are_fixes; code = refl };
 }
@@ -262,6 +268,7 @@ sets_steps h s code o a le = record {
   may = (tt, tt);
   to = refl;
   commits = (le, tt);
+  sent = λ settings own. refl;
   in_order = record { order = record { gaps = o.order.gaps; behind = o.order.behind; near = o.order.near; short = le }; serials = o.serials; phase = o.phase; mark = o.mark; next = o.next; sent = o.sent };
   agrees = record { known = a.known; units = a.units; mark = a.mark; mark_held = a.mark_held; next_small = a.next_small; next_behind = a.next_behind; next_held = a.next_held; fixes = a.fixes; formed = a.formed; are_fixes = a.are_fixes; code = refl };
 }

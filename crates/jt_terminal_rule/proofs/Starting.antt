@@ -19,6 +19,7 @@ noted_is_a_step h s fix is o a = record {
   may = (is, tt);
   to = refl;
   commits = (is, tt);
+  sent = λ settings own. refl;
   in_order = record { order = o.order; serials = o.serials; phase = o.phase; mark = o.mark; next = o.next; sent = o.sent };
   agrees = record {
     known = a.known;

@@ -22,7 +22,7 @@ use Rattle.jt_terminal_rule.specs.declared.state.State.{State}
 use Rattle.jt_terminal_rule.specs.declared.state.Event.{Event}
 use Rattle.jt_terminal_rule.specs.declared.state.Event.TheVariants.{Opened, Received, Tick}
 use Rattle.jt_terminal_rule.specs.Rule.{Ruled, Step, Sends, Says, Changes, Opens, Loses, Heard, Whole, Refused, Lacks, TooMany, after_control, after_packets, down, heard, noted, response, response_in, rule, started, told, sends}
-use Rattle.jt_terminal_rule.specs.Machines.{machine_of, as_steps, held_after, Agrees, IsInOrder, MayCommit}
+use Rattle.jt_terminal_rule.specs.Machines.{machine_of, as_steps, frames_by, held_after, Agrees, IsInOrder, MayCommit}
 
 -- a batch may have at most 1,023 octets where it has at most so many fixes, and only there
 pub record FittingIsGreatest : Type 0 where
@@ -47,11 +47,13 @@ pub record PacketsKeepTheLastPlace : Type 0 where
   pub one : (s : State) → after_packets s 1 ≡ after_control s
 
 -- Steps of the rule from the machine m, where the vault holds `held`: they are steps of the machine, the first of them directly after
--- `just`, and lead to the machine of the new state, which is in order and agrees with what the vault then holds. The vault takes each change.
+-- `just`, and lead to the machine of the new state, which is in order and agrees with what the vault then holds. The vault takes each change,
+-- and the frames that are sent are those that the steps write.
 pub record AreSteps (m : Machine) (held : Held) (just : Option Acknowledgement) (r : Ruled) : Type 0 where
   pub may : MayRun m just (as_steps m r.steps)
   pub to : run m (as_steps m r.steps) ≡ machine_of (held_after r.steps held) r.state
   pub commits : MayCommit held r.steps
+  pub sent : (settings : Settings) → settings.phone ≡ m.phone → sends settings r.steps ≡ frames_by m (as_steps m r.steps)
   pub in_order : IsInOrder r.state
   pub agrees : Agrees (held_after r.steps held) r.state
 
@@ -150,3 +152,8 @@ pub record ResponsesNameTheUnit (settings : Settings) (body : List ℕ) (h : Hea
   pub denied : (rule (with_one_sent settings body) (Received h (message.PlatformAck 2 0x0200 1))).end ≡ Some (Denied (body_octets h.edition (message.PlatformAck 2 0x0200 1)))
   pub down : (rule (with_one_sent settings body) (Received h (message.PlatformAck 2 0x0200 1))).steps ≡ Loses ∷ []
   pub accepted : (rule (with_one_sent settings body) (Received h (message.PlatformAck 2 0x0200 4))).steps ≡ Changes Accepts ∷ []
+
+-- what happens leaves the settings
+pub record RuleKeepsSettings : Type 0 where
+  pub ruled : (s : State) (event : Event) → (rule s event).state.settings ≡ s.settings
+  pub heard_too : (s : State) (x : Heard) → (heard s x).state.settings ≡ s.settings

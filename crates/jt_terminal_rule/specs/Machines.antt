@@ -9,7 +9,7 @@ use Rattle.jt_store.specs.Vaults as vaults
 use Rattle.jt_store.specs.Verdicts.{row_of, number_after, numbered}
 use Rattle.jt_terminal_rule.specs.declared.state.Phase.{Phase}
 use Rattle.jt_terminal_rule.specs.declared.state.Phase.TheVariants.{Down, Registering, Authenticating, Live}
-use Rattle.jt_terminal_rule.specs.Steps.{Machine, TerminalStep, stepped, past_accepted, fixes_in}
+use Rattle.jt_terminal_rule.specs.Steps.{Machine, TerminalStep, stepped, writes, past_accepted, fixes_in}
 use Rattle.jt_terminal_rule.specs.Steps as step
 use Rattle.jt_terminal_rule.specs.declared.state.State.{State}
 use Rattle.jt_terminal_rule.specs.Rule.{Step}
@@ -77,6 +77,13 @@ as_step m rule.Loses = step.Loses
 abbrev pub as_steps : Machine → List Step → List TerminalStep
 as_steps m [] = []
 as_steps m (s ∷ steps) = as_step m s ∷ as_steps (stepped m (as_step m s)) steps
+
+-- the frames that these steps write, in order
+abbrev pub frames_by : Machine → List TerminalStep → List (List ℕ)
+frames_by m [] = []
+frames_by m (step.Sends place ∷ steps) = writes m (step.Sends place) ∷ frames_by (stepped m (step.Sends place)) steps
+frames_by m (step.Says h body ∷ steps) = writes m (step.Says h body) ∷ frames_by (stepped m (step.Says h body)) steps
+frames_by m (s ∷ steps) = frames_by (stepped m s) steps
 
 -- what a vault holds after these steps
 abbrev pub held_after : List Step → Held → Held

@@ -1,6 +1,6 @@
 //! Laws of the terminal's rule, which is defined in specs/Rule.
 
-ghost use Rattle.jt_terminal_rule.specs.Law.{ControlKeepsTheLastPlace, FirstStartIsInOrder, FittingIsGreatest, HeardIsCutInSteps, HeardTakesSteps, NotedFixIsAStep, PacketsKeepTheLastPlace, ResponsesNameTheUnit, RuleIsCutInSteps, RuleTakesSteps, RuleTellsTheUnit, StartIsARestart, UnitCarriesFirstFixes, WaitsGrow};
+ghost use Rattle.jt_terminal_rule.specs.Law.{ControlKeepsTheLastPlace, FirstStartIsInOrder, FittingIsGreatest, HeardIsCutInSteps, HeardTakesSteps, NotedFixIsAStep, PacketsKeepTheLastPlace, ResponsesNameTheUnit, RuleIsCutInSteps, RuleKeepsSettings, RuleTakesSteps, RuleTellsTheUnit, StartIsARestart, UnitCarriesFirstFixes, WaitsGrow};
 ghost use Rattle.jt_terminal_rule.specs.Unsaid.{EachFrameIsOneLess};
 ghost use Rattle.jt_terminal_rule.specs.Waits.{PassesAllWaits};
 ghost use Rattle.std.specs.Prelude.{ℕ, List};
@@ -28,6 +28,7 @@ pub fn law_rule()
     ensures noted { NotedFixIsAStep }
     ensures start { StartIsARestart }
     ensures first { FirstStartIsInOrder }
+    ensures settings { RuleKeepsSettings }
 {
     jt_position::law_fixes();
 }

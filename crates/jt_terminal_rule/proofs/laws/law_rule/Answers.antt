@@ -6,6 +6,7 @@ use Rattle.jt_terminal_rule.proofs.Controlling.{last_place, packets_place}
 use Rattle.jt_terminal_rule.proofs.Ruling.{heard_steps, rule_steps}
 use Rattle.jt_terminal_rule.proofs.Telling.{rule_tells}
 use Rattle.jt_terminal_rule.proofs.Starting.{first_start, noted_is_a_step, start_is_a_restart}
+use Rattle.jt_terminal_rule.proofs.Keeping.{keeps_settings}
 use Rattle.jt_terminal_rule.proofs.laws.law_rule.Goals as goal
 
 pub returns-clause-control : goal.returns-clause-control
@@ -39,3 +40,6 @@ returns-clause-start c = start_is_a_restart
 
 pub returns-clause-first : goal.returns-clause-first
 returns-clause-first c = first_start
+
+pub returns-clause-settings : goal.returns-clause-settings
+returns-clause-settings c = keeps_settings
