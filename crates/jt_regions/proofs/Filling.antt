@@ -1,5 +1,6 @@
 -- What is under each id of a map after a list of regions was put over it, and how many ids there are then.
-use Rattle.std.proofs.Common.{◌≡◌, ℕ, suc, ◌+◌, ◌<◌, Bool, true, false, ◌||◌, ◌⊎◌, inl, inr, cond, eqb, List, [], ◌∷◌, ◌++◌, length, map, take, drop, get_or, Option, Some, None, is_some, refl, sym, ap, subst, ◌∙◌, arith}
+use Rattle.std.proofs.Common.{◌≡◌, ℕ, suc, ◌+◌, ◌<◌, Bool, true, false, ◌||◌, ◌⊎◌, inl, inr, cond, eqb, List, [], ◌∷◌, ◌++◌, length, map, take, drop, get_or, Option, Some, None, Result, Ok, Err, is_some, refl, sym, ap, subst, ◌∙◌, arith}
+use Rattle.std.specs.Prelude.{IfOk}
 use Rattle.std.specs.Option.{option_or}
 use Rattle.std.specs.List.{list_any, IsDistinct, AllByRecursion}
 use Rattle.std.specs.List.Sorted.{IsStrictlySortedBy}
@@ -18,9 +19,9 @@ use Rattle.std.proofs.lemmas.Map.Entries.{length-keys_of}
 use Rattle.std.proofs.lemmas.Map.Made.{is_some-lookup, length-from_keys}
 use Rattle.std.proofs.Math.Bool.{or_comm, or-false}
 use Rattle.std.proofs.lemmas.Map.Views.{exact_unsigned_eq}
-use Rattle.std.specs.FinMap.{FinMap, empty, get, keys, from_entries, contains_key, get-empty, contains_key-keys}
+use Rattle.std.specs.FinMap.{FinMap, empty, get, keys, entries, from_entries, contains_key, get-empty, contains_key-keys}
 use Rattle.jt_value.proofs.FiniteMaps.{get_is, entries_are}
-use Rattle.jt_regions.specs.Kinds.{last_with, kept, first_missing, after_setting, count_after, after_deletion}
+use Rattle.jt_regions.specs.Kinds.{last_with, kept, first_missing, after_setting, count_after, after_deletion, listed}
 use Rattle.jt_regions.specs.Steps.{under, OwnIds, After}
 
 or_over : {T : Type 0} (b : Bool) (x : Option T) (d : Option T) (r : T) → option_or (cond b (Some r) x) d ≡ cond b (Some r) (option_or x d)
@@ -210,3 +211,11 @@ missing_at {T} id_of old list i key r has lt at keyed is =
     let more : drop i list ≡ r ∷ rest = drop_more list i r lt ∙ ap (λ (x : T). x ∷ rest) (sym at) in
     let found : contains_key (from_entries {R = nat_cmp} old) (id_of r) ≡ has = ap is_some (get_is old (id_of r)) ∙ ap (λ k. is_some (under old k)) (sym keyed) ∙ sym is in
     ap (first_missing id_of (from_entries old)) more ∙ ap (λ b. cond b (first_missing id_of (from_entries old) rest) (Some (id_of r))) found ∙ ap (λ k. cond has (first_missing id_of (from_entries old) rest) (Some k)) (sym keyed)
+
+-- ---- all regions in order
+
+-- the regions of the entries are those of the table
+pub list_is : {E T : Type 0} (r : Result (List T) E) (es : List (ℕ × T)) (table : FinMap nat_cmp T)
+    → IsStrictlySortedBy nat_cmp (keys_of es) → from_entries es ≡ table → IfOk r (λ list. list ≡ map (λ entry. entry.1) es) → IfOk r (λ list. list ≡ listed table)
+list_is (Ok list) es table ordered view is = is ∙ ap (map (λ entry. entry.1)) (sym (entries_are es ordered) ∙ ap entries view)
+list_is (Err e) es table ordered view is = tt

@@ -1,6 +1,6 @@
 -- The regions of one kind are a finite map from id to region; what a change makes of it (this project's own). To be believed.
 use Rattle.std.specs.Prelude.{◌≡◌, ℕ, ◌≤◌, ◌<◌, ◌==◌, nat_eq, if◌then◌else◌, List, [], ◌∷◌, ◌++◌, map, Option, Some, None, Result, Ok, Err}
-use Rattle.std.specs.FinMap.{FinMap, empty, get, contains_key, keys}
+use Rattle.std.specs.FinMap.{FinMap, empty, get, contains_key, keys, entries}
 use Rattle.std.specs.Option.{option_or}
 use Rattle.std.specs.List.{list_any}
 use Rattle.std.specs.Ordering.{nat_cmp}
@@ -16,6 +16,10 @@ module _ {T : Type 0} where
   -- what is kept of the regions that there are: setting 0 replaces the kind, 1 and 2 add to it or replace by id
   abbrev pub kept : ℕ → FinMap nat_cmp T → FinMap nat_cmp T
   kept setting old = if setting == 0 then empty else old
+
+  -- the regions of a table, in order of id
+  abbrev pub listed : FinMap nat_cmp T → List T
+  listed table = map (λ entry. entry.1) (entries table)
 
   module _ (id_of : T → ℕ) where
     -- the last region of a list with an id

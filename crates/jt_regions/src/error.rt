@@ -3,6 +3,7 @@
 ghost use Rattle.std.specs.Prelude.{◌≡◌};
 ghost use Rattle.jt_regions.specs.declared.error.RegionError.TheVariants.{Memory};
 
+use jt_value::Memory as NoMemory;
 use std::alloc::{AllocError, AllocFailed};
 
 /// Why a table does not take a change. The first that applies is answered.
@@ -30,6 +31,14 @@ impl<T: Drop> From<AllocFailed<T>> for RegionError {
     ghost from_gives = { λ _ error. error ≡ Memory };
 
     fn from(_error: AllocFailed<T>) -> RegionError {
+        RegionError::Memory
+    }
+}
+
+impl From<NoMemory> for RegionError {
+    ghost from_gives = { λ _ error. error ≡ Memory };
+
+    fn from(_error: NoMemory) -> RegionError {
         RegionError::Memory
     }
 }

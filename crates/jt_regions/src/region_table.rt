@@ -1,6 +1,7 @@
 //! The table of a terminal's regions.
 
-ghost use Rattle.std.specs.Prelude.{◌≡◌, ◌≤◌, IfSome, OnErr, option_copied};
+ghost use Rattle.std.specs.Prelude.{◌≡◌, ◌≤◌, IfSome, IfOk, OnErr, option_copied};
+ghost use Rattle.jt_regions.specs.Kinds.{listed};
 ghost use Rattle.std.specs.FinMap as map;
 ghost use Rattle.jt_regions.specs.Tables.{count_of, Applies, AtMost, Deleted, OthersStay};
 
@@ -8,6 +9,7 @@ use crate::change::RegionChange;
 use crate::error::RegionError;
 use crate::table::Table;
 use jt_region_bodies::{Circle, Polygon, Rectangle, RegionKind, Route};
+use jt_value::{Memory, Seq};
 use std::alloc::Global;
 use std::marker::Model;
 
@@ -74,6 +76,32 @@ impl RegionTable {
         ensures id { IfSome result (λ route. route.now.id ≡ id) }
     {
         self.routes.get(id)
+    }
+
+    /// The same table again.
+    pub fn copy(&self) -> Result<RegionTable, Memory>
+        ensures { IfOk result (λ copy. copy ≡ self.now) }
+    {
+        Ok(RegionTable {
+            circles: self.circles.copy()?,
+            rectangles: self.rectangles.copy()?,
+            polygons: self.polygons.copy()?,
+            routes: self.routes.copy()?,
+        })
+    }
+
+    /// All rectangles in order of id.
+    pub fn rectangles(&self, alloc: Global) -> Result<Seq<Rectangle>, Memory>
+        ensures { IfOk result (λ list. list ≡ listed self.now.rectangles) }
+    {
+        self.rectangles.list(alloc)
+    }
+
+    /// All polygons in order of id.
+    pub fn polygons(&self, alloc: Global) -> Result<Seq<Polygon>, Memory>
+        ensures { IfOk result (λ list. list ≡ listed self.now.polygons) }
+    {
+        self.polygons.list(alloc)
     }
 
     /// The number of regions of a kind, at most 1,024.

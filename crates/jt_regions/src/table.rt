@@ -1,17 +1,18 @@
 //! The regions of one kind.
 
-ghost use Rattle.std.specs.Prelude.{◌≡◌, ℕ, nat_eq, ◌≤◌, ◌+◌, [], ◌∷◌, length, IfOk, IfSome, OnErr, OnOk, option_copied, if◌then◌else◌, None};
+ghost use Rattle.std.specs.Prelude.{◌≡◌, ℕ, map as map_list, nat_eq, ◌≤◌, ◌+◌, [], ◌∷◌, length, IfOk, IfSome, OnErr, OnOk, option_copied, if◌then◌else◌, None};
 ghost use Rattle.std.specs.BTreeMap as tree;
 ghost use Rattle.std.specs.FinMap as map;
 ghost use Rattle.std.specs.Ordering.{nat_cmp};
 ghost use Rattle.std.specs.Option.{option_or};
 ghost use Rattle.std.specs.List.{list_any};
 ghost use Rattle.jt_regions.specs.Kinds as kinds;
-ghost use Rattle.jt_regions.specs.Kinds.{last_with, first_missing, count_after, Sets, after_deletion};
+ghost use Rattle.jt_regions.specs.Kinds.{last_with, first_missing, count_after, Sets, after_deletion, listed};
 ghost use Rattle.jt_regions.specs.Steps.{OwnIds, After};
 
 use crate::error::RegionError;
 use crate::identified::Identified;
+use jt_value::{Memory, Seq};
 use std::alloc::{AllocError, Global};
 use std::collections::BTreeMap;
 use std::marker::Model;
@@ -150,6 +151,18 @@ fn put_over<T: Identified>(regions: &mut BTreeMap<u32, T>, region: &T) -> Result
     Ok(())
 }
 
+// The regions of a map in its order.
+fn listed<T: Identified>(alloc: Global, regions: &BTreeMap<u32, T>) -> Result<Seq<T>, Memory>
+    ensures regions { IfOk result (λ list. list ≡ map_list (λ entry. entry.1) regions.now.entries) }
+    ensures ordered { tree.IsOrdered nat_cmp regions.now }
+{
+    let mut list = Vec::with_capacity(alloc, regions.len())?;
+    for (_, region) in regions {
+        list.push(region.clone()?)?;
+    }
+    Ok(Seq::from_vec(list))
+}
+
 impl<T: Identified> Table<T> {
     /// No regions.
     pub fn new(alloc: Global) -> Table<T>
@@ -159,6 +172,23 @@ impl<T: Identified> Table<T> {
             alloc,
             regions: BTreeMap::new(alloc),
         }
+    }
+
+    /// The same table again.
+    pub fn copy(&self) -> Result<Table<T>, Memory>
+        ensures { IfOk result (λ copy. copy ≡ self.now) }
+    {
+        Ok(Table {
+            alloc: self.alloc,
+            regions: self.regions.clone()?,
+        })
+    }
+
+    /// The regions in order of id.
+    pub fn list(&self, alloc: Global) -> Result<Seq<T>, Memory>
+        ensures { IfOk result (λ list. list ≡ listed self.now) }
+    {
+        listed(alloc, &self.regions)
     }
 
     /// The region under an id.
