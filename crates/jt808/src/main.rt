@@ -3,18 +3,18 @@
 
 use jt_cli::{Outside, Status, run};
 use jt_io::{StdSink, StdSource};
-use jt_store::{MemKeeper, MemVault};
+use jt_sql::{SqlKeeper, SqlVault};
 use jt_tcp::{StdClock, TcpDial, TcpListen};
-use jt_value::Seq;
+use jt_value::Memory;
 use std::alloc::AllocError;
 use std::env::Env;
 use std::process::ExitCode;
 use std::{env, io};
 
-// How many rows a phone may have, and how many fixes may wait, in the stores (this project's own limits).
-const ROW_LIMIT: u64 = 1_000_000_000;
+// The files of the stores, in the present folder.
+const KEEPER: &str = "platform.db";
 
-const FIX_LIMIT: u64 = 100_000;
+const VAULT: &str = "terminal.db";
 
 // The words after the program's name. A word that is not UTF-8 makes the command line faulty, as no words do.
 fn words<R: Env + AllocGlobal>(rt: &R) -> io::Result<Vec<String>> {
@@ -47,18 +47,32 @@ fn make_links(rt: &HostRuntime) -> Result<Links, AllocError> {
     })
 }
 
+// The stores, whose files are opened by the first calls.
+#[derive(Drop)]
+struct Stores {
+    keeper: SqlKeeper<HostRuntime>,
+    vault: SqlVault<HostRuntime>,
+}
+
+fn make_stores(rt: &HostRuntime) -> Result<Stores, Memory> {
+    Ok(Stores {
+        keeper: SqlKeeper::at(rt.clone()?, KEEPER)?,
+        vault: SqlVault::at(rt.clone()?, VAULT)?,
+    })
+}
+
 fn main(rt: HostRuntime) -> ExitCode {
     let alloc = rt.alloc();
-    let status = match (words(&rt), make_links(&rt)) {
-        (Ok(words), Ok(links)) => {
+    let status = match (words(&rt), make_links(&rt), make_stores(&rt)) {
+        (Ok(words), Ok(links), Ok(stores)) => {
             let outside = Outside {
                 source: StdSource::new(rt.stdin()),
                 sink: StdSink::new(rt.stdout()),
                 dial: links.dial,
                 listen: links.listen,
                 clock: links.clock,
-                keeper: MemKeeper::new(alloc, ROW_LIMIT, Seq::new(alloc)),
-                vault: MemVault::new(alloc, FIX_LIMIT, Seq::new(alloc)),
+                keeper: stores.keeper,
+                vault: stores.vault,
             };
             run(&rt, alloc, &words, outside).status
         }

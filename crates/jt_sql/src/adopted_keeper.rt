@@ -1,0 +1,131 @@
+//! A keeper over a connection that was handed in.
+
+ghost use Rattle.std.specs.Prelude.{◌≡◌, None, true};
+
+use crate::answers::{added, answered, changed};
+use crate::keeping;
+use crate::rows::ROW_LIMIT;
+use jt_store::{Keeper, Registered, Row, StoreError};
+use jt_value::Phone;
+use sqlite::{Alter, Connection};
+use std::alloc::Global;
+use std::marker::Model;
+
+/// Keeps registrations and rows by an open connection, over any store of `sqlite`, with the tables, calls and refusals of
+/// `SqlKeeper`. A connection that was handed in with a transaction of its own makes each call Failed.
+#[derive(Drop)]
+pub struct AdoptedKeeper<C> {
+    connection: C,
+    faults: u64,
+}
+
+impl<C> Model for AdoptedKeeper<C> {
+    ghost use Rattle.std.specs.Prelude.{◌≤◌, ◌-◌, ◌^◌, ℕ};
+
+    ghost Value = { ℕ };
+
+    ghost view = { λ s. s.faults };
+
+    ghost invariant = { λ s. s.faults ≤ 2 ^ 64 - 1 };
+}
+
+impl<C> AdoptedKeeper<C> {
+    /// No fault so far.
+    pub(crate) fn new(connection: C) -> AdoptedKeeper<C>
+        ensures { result ≡ 0 }
+    {
+        AdoptedKeeper {
+            connection,
+            faults: 0,
+        }
+    }
+}
+
+impl<S: Alter> AdoptedKeeper<Connection<S>> {
+    /// Gives the connection back.
+    pub fn into_connection(self) -> Connection<S> {
+        let AdoptedKeeper {
+            connection,
+            faults: _,
+        } = self;
+        connection
+    }
+}
+
+impl<S: Alter> Keeper for AdoptedKeeper<Connection<S>> {
+    ghost tables = { λ _. None };
+
+    ghost limit = { λ _. 1000000000 };
+
+    ghost faults = { λ keeper. keeper };
+
+    ghost may_fail = { λ _. true };
+
+    fn registered(
+        &mut self,
+        alloc: Global,
+        phone: &Phone,
+    ) -> Result<Option<Registered>, StoreError> {
+        let answer = keeping::registered(alloc, &mut self.connection, phone);
+        answered(&mut self.faults, answer)
+    }
+
+    fn plate_owner(&mut self, alloc: Global, plate: &[u8]) -> Result<Option<Phone>, StoreError> {
+        let answer = keeping::plate_owner(alloc, &mut self.connection, plate);
+        answered(&mut self.faults, answer)
+    }
+
+    fn terminal_owner(
+        &mut self,
+        alloc: Global,
+        terminal: &[u8],
+    ) -> Result<Option<Phone>, StoreError> {
+        let answer = keeping::terminal_owner(alloc, &mut self.connection, terminal);
+        answered(&mut self.faults, answer)
+    }
+
+    fn register(
+        &mut self,
+        alloc: Global,
+        phone: &Phone,
+        registered: &Registered,
+    ) -> Result<(), StoreError> {
+        let answer = keeping::register(alloc, &mut self.connection, phone, registered);
+        changed(&mut self.faults, answer)
+    }
+
+    fn unregister(&mut self, alloc: Global, phone: &Phone) -> Result<(), StoreError> {
+        let answer = keeping::unregister(alloc, &mut self.connection, phone);
+        changed(&mut self.faults, answer)
+    }
+
+    fn last(&mut self, alloc: Global, phone: &Phone) -> Result<Option<u64>, StoreError> {
+        let answer = keeping::last(alloc, &mut self.connection, phone);
+        answered(&mut self.faults, answer)
+    }
+
+    fn row_at(
+        &mut self,
+        alloc: Global,
+        phone: &Phone,
+        number: u64,
+    ) -> Result<Option<Row>, StoreError> {
+        let answer = keeping::row_at(alloc, &mut self.connection, phone, number);
+        answered(&mut self.faults, answer)
+    }
+
+    fn row_from(
+        &mut self,
+        alloc: Global,
+        phone: &Phone,
+        number: u64,
+    ) -> Result<Option<Row>, StoreError> {
+        let answer = keeping::row_from(alloc, &mut self.connection, phone, number);
+        answered(&mut self.faults, answer)
+    }
+
+    fn append(&mut self, alloc: Global, phone: &Phone, row: &Row) -> Result<(), StoreError> {
+        let answer = keeping::append(alloc, &mut self.connection, phone, row);
+        added(&mut self.faults, ROW_LIMIT, answer)
+    }
+}

@@ -1,0 +1,87 @@
+//! A vault over a connection that was handed in.
+
+ghost use Rattle.std.specs.Prelude.{◌≡◌, None, true};
+
+use crate::answers::{added, answered, changed};
+use crate::vaulting::{self, FIX_LIMIT};
+use jt_position::Fix;
+use jt_store::{Loaded, StoreError, Unit, Vault};
+use sqlite::{Alter, Connection};
+use std::alloc::Global;
+use std::marker::Model;
+
+/// Keeps fixes and units by an open connection, over any store of `sqlite`, with the tables, calls and refusals of `SqlVault`.
+/// A connection that was handed in with a transaction of its own makes each call Failed.
+#[derive(Drop)]
+pub struct AdoptedVault<C> {
+    connection: C,
+    faults: u64,
+}
+
+impl<C> Model for AdoptedVault<C> {
+    ghost use Rattle.std.specs.Prelude.{◌≤◌, ◌-◌, ◌^◌, ℕ};
+
+    ghost Value = { ℕ };
+
+    ghost view = { λ s. s.faults };
+
+    ghost invariant = { λ s. s.faults ≤ 2 ^ 64 - 1 };
+}
+
+impl<C> AdoptedVault<C> {
+    /// No fault so far.
+    pub(crate) fn new(connection: C) -> AdoptedVault<C>
+        ensures { result ≡ 0 }
+    {
+        AdoptedVault {
+            connection,
+            faults: 0,
+        }
+    }
+}
+
+impl<S: Alter> AdoptedVault<Connection<S>> {
+    /// Gives the connection back.
+    pub fn into_connection(self) -> Connection<S> {
+        let AdoptedVault {
+            connection,
+            faults: _,
+        } = self;
+        connection
+    }
+}
+
+impl<S: Alter> Vault for AdoptedVault<Connection<S>> {
+    ghost holds = { λ _. None };
+
+    ghost limit = { λ _. 100000 };
+
+    ghost faults = { λ vault. vault };
+
+    ghost may_fail = { λ _. true };
+
+    fn load(&mut self, alloc: Global) -> Result<Loaded, StoreError> {
+        let answer = vaulting::load(alloc, &mut self.connection);
+        answered(&mut self.faults, answer)
+    }
+
+    fn note_fix(&mut self, _alloc: Global, fix: &Fix) -> Result<(), StoreError> {
+        let answer = vaulting::note_fix(&mut self.connection, fix);
+        added(&mut self.faults, FIX_LIMIT, answer)
+    }
+
+    fn form(&mut self, _alloc: Global, unit: &Unit) -> Result<(), StoreError> {
+        let answer = vaulting::form(&mut self.connection, unit);
+        changed(&mut self.faults, answer)
+    }
+
+    fn accept(&mut self, _alloc: Global) -> Result<(), StoreError> {
+        let answer = vaulting::accept(&mut self.connection);
+        changed(&mut self.faults, answer)
+    }
+
+    fn set_code(&mut self, _alloc: Global, code: Option<&[u8]>) -> Result<(), StoreError> {
+        let answer = vaulting::set_code(&mut self.connection, code);
+        changed(&mut self.faults, answer)
+    }
+}

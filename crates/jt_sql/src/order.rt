@@ -1,0 +1,61 @@
+//! What every vault promises of the units that it loads.
+
+ghost use Rattle.std.specs.Prelude.{◌≤◌, IfSome, IsTrue, length};
+ghost use Rattle.jt_store.specs.Vaults.{AreInOrder, IsUnit};
+
+use jt_store::Unit;
+use jt_value::{Octets, gap};
+
+// The greatest gap of a unit from the mark, and of the serial behind it.
+const NEAR: u16 = 32_766;
+
+const FAR: u16 = 32_767;
+
+// The ids of a position and of a batch of positions.
+const POSITION: u16 = 0x0200;
+
+const BATCH: u16 = 0x0704;
+
+// The most octets of a body that fits one packet, and of a code.
+const BODY_LIMIT: usize = 1_023;
+
+const CODE_LIMIT: usize = 255;
+
+fn is_short(code: &Option<Octets>) -> bool
+    ensures { IsTrue result → IfSome code.now (λ octets. length octets ≤ 255) }
+{
+    match code {
+        Some(octets) => octets.len() <= CODE_LIMIT,
+        None => true,
+    }
+}
+
+// Whether it is a message of fixes, at least one, that fits one packet.
+fn is_unit(unit: &Unit) -> bool
+    ensures { IsTrue result → IsUnit unit.now }
+{
+    (unit.id == POSITION || unit.id == BATCH) && unit.body.len() <= BODY_LIMIT && unit.count >= 1
+}
+
+/// Whether the gaps of the units' serials from the mark rise and are 1 to 32,766, the gap of next is above them and at most
+/// 32,767, each unit is a message of fixes that fits one packet, and the code is short.
+pub(crate) fn are_in_order(mark: u16, next: u16, units: &[Unit], code: &Option<Octets>) -> bool
+    ensures { IsTrue result → AreInOrder mark next units.now code.now }
+{
+    let mut low = 1;
+    for unit in units {
+        let far = gap(mark, unit.serial);
+        if far < low || far > NEAR || !is_unit(unit) {
+            return false;
+        }
+        low = far + 1;
+    }
+    let behind = gap(mark, next);
+    low <= behind && behind <= FAR && is_short(code)
+}
+
+/// Whether a unit may be formed whose serial is this one, so that it stays in order.
+pub(crate) fn may_form(mark: u16, next: u16, serial: u16) -> bool {
+    let far = gap(mark, serial);
+    gap(mark, next) <= far && far <= NEAR
+}

@@ -1,0 +1,80 @@
+//! The table of registrations. Each call is a part of a transaction.
+
+use crate::opening::found;
+use crate::phones::phone_of;
+use crate::refused::Refused;
+use jt_store::Registered;
+use jt_value::{Edition, Octets, Phone};
+use sqlite::{Alter, Transaction, params};
+
+const READ: &str = "SELECT plate, terminal FROM registered WHERE phone = ?1";
+
+const PLATE_OWNER: &str = "SELECT phone FROM registered WHERE plate = ?1";
+
+const TERMINAL_OWNER: &str = "SELECT phone FROM registered WHERE terminal = ?1";
+
+const SET: &str = "INSERT INTO registered (phone, plate, terminal) VALUES (?1, ?2, ?3) \
+     ON CONFLICT (phone) DO UPDATE SET plate = excluded.plate, terminal = excluded.terminal";
+
+const REMOVE: &str = "DELETE FROM registered WHERE phone = ?1";
+
+/// What is kept under a phone's octets.
+pub(crate) fn read<S: Alter>(
+    work: &mut Transaction<'_, S>,
+    phone: &[u8],
+) -> Result<Option<Registered>, Refused> {
+    let Some(row) = found(work.query_row(READ, params![phone]))? else {
+        return Ok(None);
+    };
+    Ok(Some(Registered {
+        plate: Octets::from_vec(row.get(0)?),
+        terminal: Octets::from_vec(row.get(1)?),
+    }))
+}
+
+// The phone of 2019 with the digits in the one row that is found, if one is.
+fn owner<S: Alter>(
+    work: &mut Transaction<'_, S>,
+    sql: &str,
+    name: &[u8],
+) -> Result<Option<Phone>, Refused> {
+    let Some(row) = found(work.query_row(sql, params![name]))? else {
+        return Ok(None);
+    };
+    let digits: Vec<u8> = row.get(0)?;
+    Ok(Some(phone_of(Edition::E2019, digits.as_slice())?))
+}
+
+/// The phone of 2019 with the digits of the one that has this plate.
+pub(crate) fn plate_owner<S: Alter>(
+    work: &mut Transaction<'_, S>,
+    plate: &[u8],
+) -> Result<Option<Phone>, Refused> {
+    owner(work, PLATE_OWNER, plate)
+}
+
+/// The phone of 2019 with the digits of the one that has this terminal id.
+pub(crate) fn terminal_owner<S: Alter>(
+    work: &mut Transaction<'_, S>,
+    terminal: &[u8],
+) -> Result<Option<Phone>, Refused> {
+    owner(work, TERMINAL_OWNER, terminal)
+}
+
+/// Sets or replaces what is kept under a phone's octets.
+pub(crate) fn set<S: Alter>(
+    work: &mut Transaction<'_, S>,
+    phone: &[u8],
+    registered: &Registered,
+) -> Result<(), Refused> {
+    let plate = registered.plate.as_slice();
+    let terminal = registered.terminal.as_slice();
+    work.execute(SET, params![phone, plate, terminal])?;
+    Ok(())
+}
+
+/// Removes what is kept under a phone's octets, if there is anything.
+pub(crate) fn remove<S: Alter>(work: &mut Transaction<'_, S>, phone: &[u8]) -> Result<(), Refused> {
+    work.execute(REMOVE, params![phone])?;
+    Ok(())
+}

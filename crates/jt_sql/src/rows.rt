@@ -1,0 +1,192 @@
+//! The table of rows. Each call is a part of a transaction.
+
+ghost use Rattle.std.specs.Prelude.{◌<◌, ◌≤◌, ◌^◌, IfOk, IfSome};
+
+use crate::answers::Adding;
+use crate::opening::found;
+use crate::refused::Refused;
+use jt_store::Row;
+use jt_value::{Octets, Seq};
+use sqlite::{Alter, Transaction, params};
+use std::alloc::Global;
+
+/// How many rows a phone may have (this project's own limit).
+pub(crate) const ROW_LIMIT: u64 = 1_000_000_000;
+
+// Every number of a row is below this one, 2^47.
+const NUMBERS: u64 = 140_737_488_355_328;
+
+// How far above the last row's number the next one's may be, and what the first one's is below.
+const FARTHEST: u64 = 131_071;
+
+const FIRST_NUMBERS: u64 = 65_536;
+
+const LAST: &str = "SELECT number FROM rows808 WHERE phone = ?1 ORDER BY number DESC LIMIT 1";
+
+const COUNT: &str = "SELECT COUNT(*) FROM rows808 WHERE phone = ?1";
+
+const AT: &str = "SELECT number, id, body FROM rows808 WHERE phone = ?1 AND number = ?2";
+
+const FROM: &str =
+    "SELECT number, id, body FROM rows808 WHERE phone = ?1 AND number >= ?2 ORDER BY number LIMIT 1";
+
+const ALL: &str = "SELECT number, id, body FROM rows808 WHERE phone = ?1 ORDER BY number";
+
+const ADD: &str = "INSERT INTO rows808 (phone, number, id, body) VALUES (?1, ?2, ?3, ?4)";
+
+const REMOVE: &str = "DELETE FROM rows808 WHERE phone = ?1";
+
+// A number that a row may have.
+fn number_in(value: i64) -> Result<u64, Refused>
+    ensures { IfOk result (λ number. number < 2 ^ 47) }
+{
+    match u64::try_from(value) {
+        Ok(number) if number < NUMBERS => Ok(number),
+        _ => Err(Refused::Failed),
+    }
+}
+
+// The row of the three columns. One that no keeper would have written is refused.
+fn row_in(row: &sqlite::Row) -> Result<Row, Refused>
+    ensures { IfOk result (λ read. read.number < 2 ^ 47) }
+{
+    let number = number_in(row.get(0)?)?;
+    let id: u32 = row.get(1)?;
+    let Ok(id) = u16::try_from(id) else {
+        return Err(Refused::Failed);
+    };
+    let body = Octets::from_vec(row.get(2)?);
+    Ok(Row { number, id, body })
+}
+
+/// The number of the last row.
+pub(crate) fn last<S: Alter>(
+    work: &mut Transaction<'_, S>,
+    phone: &[u8],
+) -> Result<Option<u64>, Refused>
+    ensures { IfOk result (λ last. IfSome last (λ number. number < 2 ^ 47)) }
+{
+    let Some(row) = found(work.query_row(LAST, params![phone]))? else {
+        return Ok(None);
+    };
+    let number = number_in(row.get(0)?)?;
+    Ok(Some(number))
+}
+
+// The row that is found by a phone and a number.
+fn find<S: Alter>(
+    work: &mut Transaction<'_, S>,
+    sql: &str,
+    phone: &[u8],
+    number: u64,
+) -> Result<Option<Row>, Refused>
+    ensures { IfOk result (λ found. IfSome found (λ row. row.number < 2 ^ 47)) }
+{
+    let Ok(number) = i64::try_from(number) else {
+        return Ok(None);
+    };
+    let Some(row) = found(work.query_row(sql, params![phone, number]))? else {
+        return Ok(None);
+    };
+    let row = row_in(&row)?;
+    Ok(Some(row))
+}
+
+/// The row of this number.
+pub(crate) fn at<S: Alter>(
+    work: &mut Transaction<'_, S>,
+    phone: &[u8],
+    number: u64,
+) -> Result<Option<Row>, Refused> {
+    find(work, AT, phone, number)
+}
+
+/// The row of the least number from this one on.
+pub(crate) fn from<S: Alter>(
+    work: &mut Transaction<'_, S>,
+    phone: &[u8],
+    number: u64,
+) -> Result<Option<Row>, Refused>
+    ensures { IfOk result (λ found. IfSome found (λ row. (number ≤ row.number) × (row.number < 2 ^ 47))) }
+{
+    match find(work, FROM, phone, number)? {
+        Some(row) if row.number >= number => Ok(Some(row)),
+        Some(_) => Err(Refused::Failed),
+        None => Ok(None),
+    }
+}
+
+/// All rows of a phone, in the order of their numbers.
+pub(crate) fn all<S: Alter>(
+    alloc: Global,
+    work: &mut Transaction<'_, S>,
+    phone: &[u8],
+) -> Result<Seq<Row>, Refused> {
+    let found = work.query_all(ALL, params![phone])?;
+    let mut rows = Seq::new(alloc);
+    for row in &found {
+        rows.push(row_in(row)?)?;
+    }
+    Ok(rows)
+}
+
+/// Removes all rows of a phone.
+pub(crate) fn remove<S: Alter>(work: &mut Transaction<'_, S>, phone: &[u8]) -> Result<(), Refused> {
+    work.execute(REMOVE, params![phone])?;
+    Ok(())
+}
+
+/// Puts a row into the table.
+pub(crate) fn add<S: Alter>(
+    work: &mut Transaction<'_, S>,
+    phone: &[u8],
+    row: &Row,
+) -> Result<(), Refused> {
+    let Ok(number) = i64::try_from(row.number) else {
+        return Err(Refused::Failed);
+    };
+    let body = row.body.as_slice();
+    work.execute(ADD, params![phone, number, i64::from(row.id), body])?;
+    Ok(())
+}
+
+// Whether a phone has as many rows as it may have. The numbers of its rows differ, so they are counted only once the last
+// one is so great that there may be as many.
+fn is_full<S: Alter>(
+    work: &mut Transaction<'_, S>,
+    phone: &[u8],
+    last: Option<u64>,
+) -> Result<bool, Refused> {
+    match last {
+        Some(last) if last >= ROW_LIMIT - 1 => {
+            let count: u64 = work.query_row(COUNT, params![phone])?.get(0)?;
+            Ok(count >= ROW_LIMIT)
+        }
+        _ => Ok(false),
+    }
+}
+
+// Whether a row of this number may stand behind the last one.
+fn may_follow(last: Option<u64>, number: u64) -> bool {
+    match last {
+        Some(last) => last < number && number - last <= FARTHEST,
+        None => number < FIRST_NUMBERS,
+    }
+}
+
+/// Puts a row behind a phone's others. A number that may not follow is refused.
+pub(crate) fn append<S: Alter>(
+    work: &mut Transaction<'_, S>,
+    phone: &[u8],
+    row: &Row,
+) -> Result<Adding, Refused> {
+    let last = last(work, phone)?;
+    if is_full(work, phone, last)? {
+        return Ok(Adding::Full);
+    }
+    if !may_follow(last, row.number) {
+        return Err(Refused::Failed);
+    }
+    add(work, phone, row)?;
+    Ok(Adding::Done)
+}

@@ -1,0 +1,88 @@
+//! The one row of a vault's state. Each call is a part of a transaction.
+
+use crate::refused::Refused;
+use jt_value::Octets;
+use sqlite::{Alter, Row, Transaction, params};
+
+const READ: &str = "SELECT units_accepted, fixes_accepted, mark, next, code FROM state";
+
+const SET_NEXT: &str = "UPDATE state SET next = ?1";
+
+const SET_ACCEPTED: &str = "UPDATE state SET units_accepted = ?1, fixes_accepted = ?2, mark = ?3";
+
+const SET_CODE: &str = "UPDATE state SET code = ?1";
+
+/// What a vault knows beside its fixes and units.
+#[derive(Drop)]
+pub(crate) struct State {
+    /// How many units are accepted, and how many fixes they carry.
+    pub units_accepted: i64,
+    pub fixes_accepted: i64,
+    /// The serial of the last unit that was accepted.
+    pub mark: u16,
+    /// The serial of the next unit.
+    pub next: u16,
+    /// The platform's code.
+    pub code: Option<Octets>,
+}
+
+/// A serial that stands in a column.
+pub(crate) fn serial_in(row: &Row, column: usize) -> Result<u16, Refused> {
+    let value: u32 = row.get(column)?;
+    match u16::try_from(value) {
+        Ok(serial) => Ok(serial),
+        Err(_) => Err(Refused::Failed),
+    }
+}
+
+// The code in the last column.
+fn code_in(row: &Row) -> Result<Option<Octets>, Refused> {
+    let code: Option<Vec<u8>> = row.get(4)?;
+    match code {
+        Some(octets) => Ok(Some(Octets::from_vec(octets))),
+        None => Ok(None),
+    }
+}
+
+/// The state.
+pub(crate) fn read<S: Alter>(work: &mut Transaction<'_, S>) -> Result<State, Refused> {
+    let row = work.query_row(READ, &[])?;
+    let units_accepted = row.get(0)?;
+    let fixes_accepted = row.get(1)?;
+    let mark = serial_in(&row, 2)?;
+    let next = serial_in(&row, 3)?;
+    let code = code_in(&row)?;
+    Ok(State {
+        units_accepted,
+        fixes_accepted,
+        mark,
+        next,
+        code,
+    })
+}
+
+/// Sets the serial of the next unit.
+pub(crate) fn set_next<S: Alter>(work: &mut Transaction<'_, S>, next: u16) -> Result<(), Refused> {
+    work.execute(SET_NEXT, params![i64::from(next)])?;
+    Ok(())
+}
+
+/// Sets how many units and fixes are accepted, and the serial of the last unit that is.
+pub(crate) fn set_accepted<S: Alter>(
+    work: &mut Transaction<'_, S>,
+    units: i64,
+    fixes: i64,
+    mark: u16,
+) -> Result<(), Refused> {
+    work.execute(SET_ACCEPTED, params![units, fixes, i64::from(mark)])?;
+    Ok(())
+}
+
+/// Sets the platform's code, or removes it.
+pub(crate) fn set_code<S: Alter>(
+    work: &mut Transaction<'_, S>,
+    code: Option<&[u8]>,
+) -> Result<(), Refused> {
+    work.execute(SET_CODE, params![code])?;
+    Ok(())
+}

@@ -1,0 +1,79 @@
+//! The table of all units, at places from 0 on. Each call is a part of a transaction.
+
+use crate::fixes::place_behind;
+use crate::opening::found;
+use crate::refused::Refused;
+use crate::state::serial_in;
+use jt_store::Unit;
+use jt_value::{Octets, Seq};
+use sqlite::{Alter, Row, Transaction, params};
+use std::alloc::Global;
+
+const LAST: &str = "SELECT place FROM unit ORDER BY place DESC LIMIT 1";
+
+const AT: &str = "SELECT serial, id, body, fixes FROM unit WHERE place = ?1";
+
+const FROM: &str = "SELECT serial, id, body, fixes FROM unit WHERE place >= ?1 ORDER BY place";
+
+const ADD: &str = "INSERT INTO unit (place, serial, id, body, fixes) VALUES (?1, ?2, ?3, ?4, ?5)";
+
+// The unit in the four columns.
+fn unit_in(row: &Row) -> Result<Unit, Refused> {
+    let serial = serial_in(row, 0)?;
+    let id = serial_in(row, 1)?;
+    let body = Octets::from_vec(row.get(2)?);
+    let count = row.get(3)?;
+    Ok(Unit {
+        serial,
+        id,
+        body,
+        count,
+    })
+}
+
+/// How many units were formed.
+pub(crate) fn count<S: Alter>(work: &mut Transaction<'_, S>) -> Result<i64, Refused> {
+    let last = found(work.query_row(LAST, &[]))?;
+    place_behind(last)
+}
+
+/// The unit at a place.
+pub(crate) fn at<S: Alter>(
+    work: &mut Transaction<'_, S>,
+    place: i64,
+) -> Result<Option<Unit>, Refused> {
+    let Some(row) = found(work.query_row(AT, params![place]))? else {
+        return Ok(None);
+    };
+    let unit = unit_in(&row)?;
+    Ok(Some(unit))
+}
+
+/// The units from a place on.
+pub(crate) fn from<S: Alter>(
+    alloc: Global,
+    work: &mut Transaction<'_, S>,
+    place: i64,
+) -> Result<Seq<Unit>, Refused> {
+    let found = work.query_all(FROM, params![place])?;
+    let mut units = Seq::new(alloc);
+    for row in &found {
+        units.push(unit_in(row)?)?;
+    }
+    Ok(units)
+}
+
+/// Puts a unit at a place.
+pub(crate) fn add<S: Alter>(
+    work: &mut Transaction<'_, S>,
+    place: i64,
+    unit: &Unit,
+) -> Result<(), Refused> {
+    let serial = i64::from(unit.serial);
+    let body = unit.body.as_slice();
+    work.execute(
+        ADD,
+        params![place, serial, i64::from(unit.id), body, unit.count],
+    )?;
+    Ok(())
+}

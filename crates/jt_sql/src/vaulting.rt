@@ -1,0 +1,211 @@
+//! The calls of a vault, each one transaction over a connection.
+
+ghost use Rattle.std.specs.Prelude.{IfOk};
+ghost use Rattle.jt_store.specs.Vaults.{AreInOrder};
+
+use crate::answers::Adding;
+use crate::opening::begun;
+use crate::order::{are_in_order, may_form};
+use crate::refused::Refused;
+use crate::state::{self, State};
+use crate::versions::version;
+use crate::{fixes, units};
+use jt_position::Fix;
+use jt_store::{Loaded, Unit};
+use jt_value::Seq;
+use sqlite::{Alter, Connection, Transaction};
+use std::alloc::Global;
+
+/// How many fixes may be recorded and not accepted (this project's own limit).
+pub(crate) const FIX_LIMIT: u64 = 100_000;
+
+const VERSION: i64 = 1;
+
+const MAKE: &str = "CREATE TABLE meta (version INTEGER); \
+     INSERT INTO meta (version) VALUES (1); \
+     CREATE TABLE fix (place INTEGER PRIMARY KEY, body BLOB); \
+     CREATE TABLE unit (place INTEGER PRIMARY KEY, serial INTEGER, id INTEGER, body BLOB, fixes INTEGER); \
+     CREATE TABLE state (one INTEGER PRIMARY KEY, units_accepted INTEGER, fixes_accepted INTEGER, mark INTEGER, next INTEGER, code BLOB); \
+     INSERT INTO state (one, units_accepted, fixes_accepted, mark, next, code) VALUES (1, 0, 0, 65535, 0, NULL)";
+
+// Makes the tables in a new file, and refuses another version.
+fn prepare<S: Alter>(work: &mut Transaction<'_, S>) -> Result<(), Refused> {
+    match version(work)? {
+        None => {
+            work.execute_batch(MAKE)?;
+            Ok(())
+        }
+        Some(VERSION) => Ok(()),
+        Some(_) => Err(Refused::Failed),
+    }
+}
+
+// Begins a transaction over tables of the present version.
+fn begin<S: Alter>(connection: &mut Connection<S>) -> Result<Transaction<'_, S>, Refused> {
+    let mut work = begun(connection)?;
+    prepare(&mut work)?;
+    Ok(work)
+}
+
+// How many fixes are in units, by the units that are not accepted.
+fn formed(accepted: i64, units: &[Unit]) -> i64 {
+    let mut formed = accepted;
+    for unit in units {
+        formed = formed.saturating_add(i64::from(unit.count));
+    }
+    formed
+}
+
+// Whether so many that were found from a place on are all that stand there, where there are `count` in all.
+fn are_all(from: i64, found: usize, count: i64) -> bool {
+    match i64::try_from(found) {
+        Ok(found) => 0 <= from && from <= count && count - from == found,
+        Err(_) => false,
+    }
+}
+
+// The units that are not accepted. Where some of them are missing they are refused.
+fn pending<S: Alter>(
+    alloc: Global,
+    work: &mut Transaction<'_, S>,
+    accepted: i64,
+) -> Result<Seq<Unit>, Refused> {
+    let count = units::count(work)?;
+    let units = units::from(alloc, work, accepted)?;
+    if are_all(accepted, units.len(), count) {
+        Ok(units)
+    } else {
+        Err(Refused::Failed)
+    }
+}
+
+// What is loaded, where it is such as a vault keeps it.
+fn loaded(state: State, recorded: i64, units: Seq<Unit>, fixes: Seq<Fix>) -> Result<Loaded, Refused>
+    ensures { IfOk result (λ loaded. AreInOrder loaded.mark loaded.next loaded.units loaded.code) }
+{
+    let (Ok(recorded), Ok(accepted)) = (
+        u64::try_from(recorded),
+        u64::try_from(state.fixes_accepted),
+    ) else {
+        return Err(Refused::Failed);
+    };
+    if !are_in_order(state.mark, state.next, units.as_slice(), &state.code) {
+        return Err(Refused::Failed);
+    }
+    Ok(Loaded {
+        fixes,
+        units,
+        mark: state.mark,
+        next: state.next,
+        code: state.code,
+        recorded,
+        accepted,
+    })
+}
+
+// What the tables hold that is not accepted.
+fn load_within<S: Alter>(alloc: Global, work: &mut Transaction<'_, S>) -> Result<Loaded, Refused>
+    ensures { IfOk result (λ loaded. AreInOrder loaded.mark loaded.next loaded.units loaded.code) }
+{
+    let state = state::read(work)?;
+    let recorded = fixes::count(work)?;
+    let units = pending(alloc, work, state.units_accepted)?;
+    let formed = formed(state.fixes_accepted, units.as_slice());
+    let fixes = fixes::from(alloc, work, formed)?;
+    if !are_all(formed, fixes.len(), recorded) {
+        return Err(Refused::Failed);
+    }
+    loaded(state, recorded, units, fixes)
+}
+
+/// What a terminal begins with.
+pub(crate) fn load<S: Alter>(
+    alloc: Global,
+    connection: &mut Connection<S>,
+) -> Result<Loaded, Refused>
+    ensures { IfOk result (λ loaded. AreInOrder loaded.mark loaded.next loaded.units loaded.code) }
+{
+    let mut work = begin(connection)?;
+    let loaded = load_within(alloc, &mut work)?;
+    work.commit()?;
+    Ok(loaded)
+}
+
+// Whether as many fixes as may be are recorded and not accepted.
+fn is_full(recorded: i64, accepted: i64) -> bool {
+    match u64::try_from(recorded.saturating_sub(accepted)) {
+        Ok(waiting) => waiting >= FIX_LIMIT,
+        Err(_) => false,
+    }
+}
+
+// Records a fix behind the others.
+fn note_within<S: Alter>(work: &mut Transaction<'_, S>, fix: &Fix) -> Result<Adding, Refused> {
+    let state = state::read(work)?;
+    let recorded = fixes::count(work)?;
+    if is_full(recorded, state.fixes_accepted) {
+        return Ok(Adding::Full);
+    }
+    fixes::add(work, recorded, fix)?;
+    Ok(Adding::Done)
+}
+
+/// Records a fix behind the others.
+pub(crate) fn note_fix<S: Alter>(
+    connection: &mut Connection<S>,
+    fix: &Fix,
+) -> Result<Adding, Refused> {
+    let mut work = begin(connection)?;
+    let adding = note_within(&mut work, fix)?;
+    work.commit()?;
+    Ok(adding)
+}
+
+// Puts a unit behind the others. A serial that would not be in order is refused.
+fn form_within<S: Alter>(work: &mut Transaction<'_, S>, unit: &Unit) -> Result<(), Refused> {
+    let state = state::read(work)?;
+    if !may_form(state.mark, state.next, unit.serial) {
+        return Err(Refused::Failed);
+    }
+    let place = units::count(work)?;
+    units::add(work, place, unit)?;
+    state::set_next(work, unit.serial.wrapping_add(1))
+}
+
+/// Puts a unit of the next fixes behind the others.
+pub(crate) fn form<S: Alter>(connection: &mut Connection<S>, unit: &Unit) -> Result<(), Refused> {
+    let mut work = begin(connection)?;
+    form_within(&mut work, unit)?;
+    work.commit()?;
+    Ok(())
+}
+
+// Accepts the oldest unit that is not accepted. Where none is, the call is refused.
+fn accept_within<S: Alter>(work: &mut Transaction<'_, S>) -> Result<(), Refused> {
+    let state = state::read(work)?;
+    let Some(unit) = units::at(work, state.units_accepted)? else {
+        return Err(Refused::Failed);
+    };
+    let units = state.units_accepted.saturating_add(1);
+    let fixes = state.fixes_accepted.saturating_add(i64::from(unit.count));
+    state::set_accepted(work, units, fixes, unit.serial)
+}
+
+/// Accepts the oldest unit that is not accepted.
+pub(crate) fn accept<S: Alter>(connection: &mut Connection<S>) -> Result<(), Refused> {
+    let mut work = begin(connection)?;
+    accept_within(&mut work)?;
+    work.commit()?;
+    Ok(())
+}
+
+/// Sets the platform's code, or removes it.
+pub(crate) fn set_code<S: Alter>(
+    connection: &mut Connection<S>,
+    code: Option<&[u8]>,
+) -> Result<(), Refused> {
+    let mut work = begin(connection)?;
+    state::set_code(&mut work, code)?;
+    work.commit()?;
+    Ok(())
+}

@@ -1,0 +1,27 @@
+//! The version of a file, which says what its tables mean.
+
+use crate::refused::Refused;
+use sqlite::{Alter, Error, Transaction};
+
+const READ_VERSION: &str = "SELECT version FROM meta";
+
+const COUNT_TABLES: &str = "SELECT COUNT(*) FROM sqlite_schema";
+
+/// The version of a file. None where nothing was made in it yet.
+pub(crate) fn version<S: Alter>(work: &mut Transaction<'_, S>) -> Result<Option<i64>, Refused> {
+    match work.query_row(READ_VERSION, &[]) {
+        Ok(row) => Ok(Some(row.get(0)?)),
+        Err(Error::SqlInputError(_)) => without_version(work),
+        Err(error) => Err(Refused::from(error)),
+    }
+}
+
+// A file with tables but without a version is none of ours.
+fn without_version<S: Alter>(work: &mut Transaction<'_, S>) -> Result<Option<i64>, Refused> {
+    let count: i64 = work.query_row(COUNT_TABLES, &[])?.get(0)?;
+    if count == 0 {
+        Ok(None)
+    } else {
+        Err(Refused::Failed)
+    }
+}

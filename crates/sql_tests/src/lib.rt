@@ -1,0 +1,19 @@
+//! Tests of the stores in SQLite files against those in memory.
+#![tactic(auto)]
+
+#[cfg(test)]
+mod files;
+#[cfg(test)]
+mod keeper_calls;
+#[cfg(test)]
+mod keeper_tests;
+#[cfg(test)]
+mod stop_tests;
+#[cfg(test)]
+mod stopped_files;
+#[cfg(test)]
+mod vault_calls;
+#[cfg(test)]
+mod vault_tests;
+#[cfg(test)]
+mod version_tests;

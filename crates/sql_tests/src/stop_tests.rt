@@ -1,0 +1,260 @@
+use crate::stopped_files::{Stopping, files_of, open_new, open_synced, open_written};
+use crate::{keeper_calls, vault_calls};
+use jt_sql::{AdoptedKeeper, AdoptedVault, SqlKeeper, SqlVault};
+use jt_store::{MemKeeper, MemVault};
+use jt_value::{Edition, Phone, Seq};
+use sqlite::{Connection, FileStore, Files};
+use std::alloc::Global;
+use std::test::Fail;
+
+const PHONE: Phone = Phone {
+    edition: Edition::E2013,
+    digits: [0, 0, 0, 0, 0x01, 0x39, 0x12, 0x34, 0x56, 0x78],
+};
+
+// A registration, an authentication and a unit, and behind a restart an authentication and the unit again.
+const KEPT: [keeper_calls::Call; 6] = [
+    keeper_calls::Call::Register(PHONE, b"PA", b"TA"),
+    keeper_calls::Call::Registered(PHONE),
+    keeper_calls::Call::Append(PHONE, 2, 7),
+    keeper_calls::Call::Registered(PHONE),
+    keeper_calls::Call::Last(PHONE),
+    keeper_calls::Call::At(PHONE, 2),
+];
+
+const KEPT_LOOKS: [keeper_calls::Call; 3] = [
+    keeper_calls::Call::Registered(PHONE),
+    keeper_calls::Call::From(PHONE, 0),
+    keeper_calls::Call::From(PHONE, 3),
+];
+
+// What a terminal begins with, a fix, the code, a unit and its acceptance.
+const HELD: [vault_calls::Call; 5] = [
+    vault_calls::Call::Load,
+    vault_calls::Call::Code(Some(b'C')),
+    vault_calls::Call::Note(1),
+    vault_calls::Call::Form,
+    vault_calls::Call::Accept,
+];
+
+const HELD_LOOKS: [vault_calls::Call; 2] = [vault_calls::Call::Load, vault_calls::Call::Oldest];
+
+// What stops after each number of calls in a range leave.
+#[derive(Clone, Copy, Debug, PartialEq, Eq)]
+enum Stops {
+    /// After so many calls on a file the tables are not those after some whole calls of the store.
+    Torn(u64),
+    /// The tables are those after whole calls, and no number was enough for all of them.
+    Whole,
+    /// The same, and some number was enough for all of them.
+    Ended,
+}
+
+type Keeping = AdoptedKeeper<Connection<FileStore<Stopping>>>;
+
+type Holding = AdoptedVault<Connection<FileStore<Stopping>>>;
+
+// Makes the calls up to the first that is refused, and counts those before it.
+fn keep(alloc: Global, keeper: &mut Keeping) -> usize {
+    for (done, call) in KEPT.iter().enumerate() {
+        if let keeper_calls::Said::Refused(_) = keeper_calls::answer(alloc, keeper, *call) {
+            return done;
+        }
+    }
+    KEPT.len()
+}
+
+fn hold(alloc: Global, vault: &mut Holding) -> usize {
+    for (done, call) in HELD.iter().enumerate() {
+        if let vault_calls::Said::Refused(_) = vault_calls::answer(alloc, vault, *call) {
+            return done;
+        }
+    }
+    HELD.len()
+}
+
+// A keeper in memory after so many of the calls.
+fn kept(alloc: Global, count: usize) -> MemKeeper {
+    let mut keeper = MemKeeper::new(alloc, 1_000_000_000, Seq::new(alloc));
+    for call in KEPT.iter().take(count) {
+        keeper_calls::answer(alloc, &mut keeper, *call);
+    }
+    keeper
+}
+
+fn held(alloc: Global, count: usize) -> MemVault {
+    let mut vault = MemVault::new(alloc, 100_000, Seq::new(alloc));
+    for call in HELD.iter().take(count) {
+        vault_calls::answer(alloc, &mut vault, *call);
+    }
+    vault
+}
+
+// Whether the keeper has what so many of the calls leave.
+fn keeps(alloc: Global, keeper: &mut Keeping, count: usize) -> bool {
+    let mut wanted = kept(alloc, count);
+    for call in KEPT_LOOKS {
+        if keeper_calls::answer(alloc, keeper, call)
+            != keeper_calls::answer(alloc, &mut wanted, call)
+        {
+            return false;
+        }
+    }
+    true
+}
+
+fn holds(alloc: Global, vault: &mut Holding, count: usize) -> bool {
+    let mut wanted = held(alloc, count);
+    for call in HELD_LOOKS {
+        if vault_calls::answer(alloc, vault, call)
+            != vault_calls::answer(alloc, &mut wanted, call)
+        {
+            return false;
+        }
+    }
+    true
+}
+
+// Makes the calls on files that stop, and counts those that were not refused.
+fn keep_in(alloc: Global, log_calls: u64, db_calls: u64) -> (usize, Files<Stopping>) {
+    match open_new(alloc, log_calls, db_calls) {
+        Ok(connection) => {
+            let mut keeper = SqlKeeper::over(connection);
+            let done = keep(alloc, &mut keeper);
+            (done, files_of(keeper.into_connection()))
+        }
+        Err(left) => (0, left),
+    }
+}
+
+fn hold_in(alloc: Global, log_calls: u64, db_calls: u64) -> (usize, Files<Stopping>) {
+    match open_new(alloc, log_calls, db_calls) {
+        Ok(connection) => {
+            let mut vault = SqlVault::over(connection);
+            let done = hold(alloc, &mut vault);
+            (done, files_of(vault.into_connection()))
+        }
+        Err(left) => (0, left),
+    }
+}
+
+// Whether a keeper over the connection has what so many calls leave, or those and one more.
+fn keeps_some(
+    alloc: Global,
+    connection: Option<Connection<FileStore<Stopping>>>,
+    done: usize,
+) -> bool {
+    let Some(connection) = connection else {
+        return false;
+    };
+    let mut keeper = SqlKeeper::over(connection);
+    keeps(alloc, &mut keeper, done) || keeps(alloc, &mut keeper, done.saturating_add(1))
+}
+
+fn holds_some(
+    alloc: Global,
+    connection: Option<Connection<FileStore<Stopping>>>,
+    done: usize,
+) -> bool {
+    let Some(connection) = connection else {
+        return false;
+    };
+    let mut vault = SqlVault::over(connection);
+    holds(alloc, &mut vault, done) || holds(alloc, &mut vault, done.saturating_add(1))
+}
+
+// Whether the files, opened again after a stop of the process and after one of the machine, have what the calls left that were
+// not refused, or those and the one that was; and how many were not.
+fn keeper_stops(alloc: Global, log_calls: u64, db_calls: u64) -> (usize, bool) {
+    let (done, left) = keep_in(alloc, log_calls, db_calls);
+    let killed = open_written(alloc, &left);
+    let whole = keeps_some(alloc, killed, done);
+    (
+        done,
+        whole && keeps_some(alloc, open_synced(alloc, left), done),
+    )
+}
+
+fn vault_stops(alloc: Global, log_calls: u64, db_calls: u64) -> (usize, bool) {
+    let (done, left) = hold_in(alloc, log_calls, db_calls);
+    let killed = open_written(alloc, &left);
+    let whole = holds_some(alloc, killed, done);
+    (
+        done,
+        whole && holds_some(alloc, open_synced(alloc, left), done),
+    )
+}
+
+// How many calls the two files take before they fail, where one of them fails after so many.
+fn limits(in_log: bool, calls: u64) -> (u64, u64) {
+    if in_log {
+        (calls, u64::MAX)
+    } else {
+        (u64::MAX, calls)
+    }
+}
+
+// What a keeper has that stops after each number of calls in a range, up to one that is enough for all.
+fn stops_of_keeper(alloc: Global, in_log: bool, from: u64, to: u64) -> Stops {
+    for calls in from..to {
+        let (log_calls, db_calls) = limits(in_log, calls);
+        let (done, whole) = keeper_stops(alloc, log_calls, db_calls);
+        if !whole {
+            return Stops::Torn(calls);
+        }
+        if done == KEPT.len() {
+            return Stops::Ended;
+        }
+    }
+    Stops::Whole
+}
+
+fn stops_of_vault(alloc: Global, in_log: bool, from: u64, to: u64) -> Stops {
+    for calls in from..to {
+        let (log_calls, db_calls) = limits(in_log, calls);
+        let (done, whole) = vault_stops(alloc, log_calls, db_calls);
+        if !whole {
+            return Stops::Torn(calls);
+        }
+        if done == HELD.len() {
+            return Stops::Ended;
+        }
+    }
+    Stops::Whole
+}
+
+#[test]
+fn a_keeper_stopped_early_in_its_log_has_whole_calls(rt: HostRuntime) -> Result<(), Fail> {
+    assert_eq!(rt; stops_of_keeper(rt.alloc(), true, 0, 20), Stops::Whole);
+    Ok(())
+}
+
+#[test]
+fn a_keeper_stopped_late_in_its_log_has_whole_calls(rt: HostRuntime) -> Result<(), Fail> {
+    assert_eq!(rt; stops_of_keeper(rt.alloc(), true, 20, 100), Stops::Ended);
+    Ok(())
+}
+
+#[test]
+fn a_keeper_stopped_in_its_database_has_whole_calls(rt: HostRuntime) -> Result<(), Fail> {
+    assert_eq!(rt; stops_of_keeper(rt.alloc(), false, 0, 100), Stops::Ended);
+    Ok(())
+}
+
+#[test]
+fn a_vault_stopped_early_in_its_log_has_whole_calls(rt: HostRuntime) -> Result<(), Fail> {
+    assert_eq!(rt; stops_of_vault(rt.alloc(), true, 0, 20), Stops::Whole);
+    Ok(())
+}
+
+#[test]
+fn a_vault_stopped_late_in_its_log_has_whole_calls(rt: HostRuntime) -> Result<(), Fail> {
+    assert_eq!(rt; stops_of_vault(rt.alloc(), true, 20, 100), Stops::Ended);
+    Ok(())
+}
+
+#[test]
+fn a_vault_stopped_in_its_database_has_whole_calls(rt: HostRuntime) -> Result<(), Fail> {
+    assert_eq!(rt; stops_of_vault(rt.alloc(), false, 0, 100), Stops::Ended);
+    Ok(())
+}

@@ -1,0 +1,70 @@
+//! Files in memory that stop at some call.
+
+use sqlite::{Connection, FileStore, Files, Options};
+use sqlite_disk::{Crash, Disk, Fuse, Memory};
+use std::alloc::Global;
+
+/// A small cache, since each open makes it anew.
+const OPTIONS: Options = Options {
+    cache_pages: 16,
+    spill_pages: 2000,
+    checkpoint_frames: 1000,
+    seed: 7,
+};
+
+/// A file in memory that fails from some call on.
+pub type Stopping = Fuse<Memory>;
+
+/// Opens two new files, of which the log fails after so many calls and the database after so many. Where that is refused
+/// already, what is left of them.
+pub fn open_new(
+    alloc: Global,
+    log_calls: u64,
+    db_calls: u64,
+) -> Result<Connection<FileStore<Stopping>>, Files<Stopping>> {
+    let files = Files {
+        log: Fuse::new(Memory::new(alloc), log_calls),
+        db: Fuse::new(Memory::new(alloc), db_calls),
+    };
+    match Connection::open_files(alloc, files, OPTIONS) {
+        Ok(connection) => Ok(connection),
+        Err((_, left)) => Err(left.into_files()),
+    }
+}
+
+/// The files of a connection, with no further call on them.
+pub fn files_of(connection: Connection<FileStore<Stopping>>) -> Files<Stopping> {
+    connection.into_store().close()
+}
+
+/// Opens files again after the machine stopped: what was not synced is lost. They fail no more.
+pub fn open_synced(
+    alloc: Global,
+    mut files: Files<Stopping>,
+) -> Option<Connection<FileStore<Stopping>>> {
+    files.log.crash();
+    files.db.crash();
+    match Connection::open_files(alloc, files, OPTIONS) {
+        Ok(connection) => Some(connection),
+        Err(_) => None,
+    }
+}
+
+// A file with all that was written to this one.
+fn written(alloc: Global, file: &Stopping) -> Option<Stopping> {
+    let mut copy = Fuse::new(Memory::new(alloc), u64::MAX);
+    if copy.write_at(0, file.inner().bytes()).is_err() || copy.sync().is_err() {
+        return None;
+    }
+    Some(copy)
+}
+
+/// Opens copies of files as they are after the process was killed: what was written stays. They fail no more.
+pub fn open_written(
+    alloc: Global,
+    files: &Files<Stopping>,
+) -> Option<Connection<FileStore<Stopping>>> {
+    let log = written(alloc, &files.log)?;
+    let db = written(alloc, &files.db)?;
+    open_synced(alloc, Files { log, db })
+}
