@@ -4,7 +4,7 @@ use Rattle.std.proofs.KnownBytes.{Appends-nil, Appends-trans, Appends-kept, Cons
 use Rattle.std.specs.Io.KnownBytes.{Appends, IsAtEnd}
 use Rattle.std.specs.List.{flat_map}
 use Rattle.std.proofs.lemmas.Grind.{flat_map-append}
-use Rattle.jt_io.specs.Count.{Rose, RoseBy, Counts, counted}
+use Rattle.jt_value.specs.Counts.{Rose, RoseBy, Counts, counted}
 use Rattle.jt_io.specs.Inbound.{Inbound}
 use Rattle.jt_io.specs.Sink.{AppendsPrefix}
 use Rattle.jt_value.specs.Octets.{AreOctets}

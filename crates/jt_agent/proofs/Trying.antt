@@ -1,7 +1,7 @@
 -- Attempts one after another.
 use Rattle.std.proofs.Common.{◌≡◌, ◌≤◌, ◌<◌, ◌+◌, ℕ, List, [], ◌∷◌, ◌++◌, false, refl, sym, ap, subst, ◌∙◌, length, length-append, arith}
 use Rattle.std.specs.Prelude.{◌↔◌, IsTrue}
-use Rattle.jt_io.specs.Count.{Rose, RoseBy}
+use Rattle.jt_value.specs.Counts.{Rose, RoseBy}
 use Rattle.jt_terminal_rule.specs.declared.state.State.{State}
 use Rattle.jt_terminal_steps.specs.Running.{IsDone}
 use Rattle.jt_agent.specs.Tries.{Between, OverLink, OneTry, Tries, Breaks, dials_in}

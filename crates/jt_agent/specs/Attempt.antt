@@ -1,7 +1,7 @@
 -- One attempt of a terminal over a link (this project's own). To be believed.
 use Rattle.std.specs.Prelude.{◌≡◌, ℕ, ◌≤◌, ◌⊎◌, List, [], ◌∷◌, ◌++◌, length, Option, Some, Bool, false}
 use Rattle.std.specs.Io.KnownBytes.{Appends, IsAtEnd}
-use Rattle.jt_io.specs.Count.{Rose, RoseBy, Counts}
+use Rattle.jt_value.specs.Counts.{Rose, RoseBy, Counts}
 use Rattle.jt_io.specs.Inbound.{Inbound}
 use Rattle.jt_value.specs.Octets.{AreOctets}
 use Rattle.jt_link.specs.Link.{Wire, Gives}

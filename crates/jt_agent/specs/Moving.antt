@@ -1,7 +1,7 @@
 -- How an attempt comes on, move by move. For the proofs.
 use Rattle.std.specs.Prelude.{◌≡◌, ℕ, ◌≤◌, ◌⊎◌, List, ◌∷◌, length, Option, None, Some, Bool}
 use Rattle.std.specs.Io.KnownBytes.{Appends}
-use Rattle.jt_io.specs.Count.{Rose, RoseBy, Counts}
+use Rattle.jt_value.specs.Counts.{Rose, RoseBy, Counts}
 use Rattle.jt_io.specs.Inbound.{Inbound}
 use Rattle.jt_value.specs.Octets.{AreOctets}
 use Rattle.jt_io.specs.Sink.{AppendsPrefix}

@@ -1,6 +1,6 @@
 -- Attempts one after another, each over a link of its own (this project's own). To be believed.
 use Rattle.std.specs.Prelude.{◌≡◌, ℕ, ◌+◌, ◌^◌, ◌≤◌, ◌<◌, ◌⊎◌, List, [], ◌∷◌, Option, Some, true, false, length}
-use Rattle.jt_io.specs.Count.{Rose, Counts}
+use Rattle.jt_value.specs.Counts.{Rose, Counts}
 use Rattle.jt_link.specs.Link.{Wire}
 use Rattle.jt_link.specs.Pool.{Pool, GivesLink, taken_back}
 use Rattle.jt_link.specs.Time.{Time}

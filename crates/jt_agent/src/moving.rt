@@ -2,7 +2,7 @@
 
 ghost use Rattle.std.specs.Prelude.{◌≡◌, ◌≤◌, ◌<◌, ◌+◌, ◌++◌, ◌^◌, List, ℕ, None, Some, Bool, length};
 ghost use Rattle.std.specs.List.{flat_map};
-ghost use Rattle.jt_io.specs.Count.{Counts};
+ghost use Rattle.jt_value.specs.Counts.{Counts};
 ghost use Rattle.jt_io.specs.Sink.{WritesAll, WriteAllHasCause};
 ghost use Rattle.jt_link.specs.Link.{wire_of};
 ghost use Rattle.jt_terminal_rule.specs.Rule.{rule};

@@ -1,7 +1,7 @@
 //! Attempts one after another.
 
 ghost use Rattle.std.specs.Prelude.{◌≡◌, ◌≤◌};
-ghost use Rattle.jt_io.specs.Count.{Rose, RoseBy};
+ghost use Rattle.jt_value.specs.Counts.{Rose, RoseBy};
 ghost use Rattle.jt_link.specs.Link.{wire_of};
 ghost use Rattle.jt_terminal_rule.specs.declared.state.Phase.TheVariants.{Down};
 ghost use Rattle.jt_agent.specs.Attempt.{VaultStays};

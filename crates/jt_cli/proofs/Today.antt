@@ -1,7 +1,7 @@
 -- The clauses that `run` had one by one, from the table of commands.
 use Rattle.std.proofs.Common.{◌≡◌, ◌≢◌, ◌≤◌, ◌⊎◌, ℕ, List, [], Option, None, Some, false, refl, ap, sym, subst, inl, inr, arith}
 use Rattle.std.specs.Io.KnownBytes.{IsAtEnd}
-use Rattle.jt_io.specs.Count.{Rose}
+use Rattle.jt_value.specs.Counts.{Rose}
 use Rattle.jt_link.specs.Pool.{Pool}
 use Rattle.jt_platform.specs.History.{newest, tables_after}
 use Rattle.jt_platform_command.specs.Platform.{first_limit}

@@ -1,7 +1,7 @@
 -- What a run does to the seven objects that it is handed, by what its words ask. To be believed.
 use Rattle.std.specs.Prelude.{◌≡◌, ◌≢◌, ◌⊎◌, ℕ, Bool, List, [], length, Option, None}
 use Rattle.std.specs.Io.KnownBytes.{IsAtEnd}
-use Rattle.jt_io.specs.Count.{Rose}
+use Rattle.jt_value.specs.Counts.{Rose}
 use Rattle.jt_link.specs.Pool.{Pool}
 use Rattle.jt_link.specs.Time.{Time}
 use Rattle.jt_store.specs.Tables.{Tables, Told}

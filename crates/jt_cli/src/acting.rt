@@ -1,7 +1,7 @@
 //! Tasks, and the answer for words that ask nothing.
 
 ghost use Rattle.std.specs.Prelude.{◌≡◌, ◌≢◌, []};
-ghost use Rattle.jt_io.specs.Count.{Rose};
+ghost use Rattle.jt_value.specs.Counts.{Rose};
 ghost use Rattle.jt_runner.specs.Answer.{Answers};
 ghost use Rattle.jt_cli.specs.Acting.{Acts};
 ghost use Rattle.jt_cli.specs.Running.{Refuses, Streams, eyes_of};

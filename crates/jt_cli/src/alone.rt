@@ -1,7 +1,7 @@
 //! All that the program does alone, without a listener.
 
 ghost use Rattle.std.specs.Prelude.{◌≡◌, map, string_bytes};
-ghost use Rattle.jt_io.specs.Count.{Rose};
+ghost use Rattle.jt_value.specs.Counts.{Rose};
 ghost use Rattle.jt_cli.specs.Running.{Ran, Refuses, eyes_of};
 ghost use Rattle.jt_cli.specs.Words.{AreNoReport, AreNoTask};
 

@@ -2,7 +2,7 @@
 
 ghost use Rattle.std.specs.Prelude.{◌≡◌, ◌≢◌, ◌⊎◌, ◌^◌, IfSome};
 ghost use Rattle.std.specs.Io.KnownBytes.{IsAtEnd, Appends};
-ghost use Rattle.jt_io.specs.Count.{Rose};
+ghost use Rattle.jt_value.specs.Counts.{Rose};
 ghost use Rattle.jt_world.specs.Claim.{Kept};
 ghost use Rattle.jt_world.specs.Rehearsal.{script_reply, world_of};
 ghost use Rattle.jt_world.specs.Rehearsing.{IsHeard};

@@ -1,7 +1,7 @@
 //! The command `report`, over all that a run has.
 
 ghost use Rattle.std.specs.Prelude.{◌≡◌, ◌≢◌};
-ghost use Rattle.jt_io.specs.Count.{Rose};
+ghost use Rattle.jt_value.specs.Counts.{Rose};
 ghost use Rattle.jt_report.specs.Telling.{told_of};
 ghost use Rattle.jt_report_command.specs.Settings.{AreSpoken};
 ghost use Rattle.jt_cli.specs.Running.{Reports, eyes_of};

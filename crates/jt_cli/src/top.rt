@@ -1,7 +1,7 @@
 //! All that the program does.
 
 ghost use Rattle.std.specs.Prelude.{◌≡◌, ◌≢◌, ◌≤◌, Option, map, string_bytes};
-ghost use Rattle.jt_io.specs.Count.{Rose};
+ghost use Rattle.jt_value.specs.Counts.{Rose};
 ghost use Rattle.jt_platform.specs.declared.desk.HubOpening.{HubOpening};
 ghost use Rattle.jt_cli.specs.Ask.{AskNothing};
 ghost use Rattle.jt_cli.specs.Running.{Ran, Serves, eyes_of};

@@ -3,6 +3,7 @@ use Rattle.std.specs.Prelude.{ℕ, ◌==◌, ◌&&◌, List, [], Option, Some, N
 use Rattle.jt_value.specs.declared.phone.Edition.{Edition}
 use Rattle.jt_value.specs.declared.refusal.CodecError.{CodecError}
 use Rattle.jt_value.specs.declared.refusal.CodecError.TheVariants as errors
+use Rattle.jt_value.specs.declared.ids.TheConstants.{AUTH, BATCH, CIRCLES, CONTROL, DELETE_CIRCLES, DELETE_POLYGONS, DELETE_RECTANGLES, DELETE_ROUTES, DEREGISTER, HEARTBEAT, PARAMS, PLATFORM_ACK, POLYGON, POSITION, POSITION_REPLY, QUERY_PARAMS, QUERY_POSITION, QUERY_SOME, RECTANGLES, REGISTER, REGISTER_REPLY, RESEND, ROUTE, SET_PARAMS, TERMINAL_ACK, TERMINAL_RESEND, TEXT, TRACK}
 use Rattle.jt_layout.specs.Answer.{IsPlaced}
 use Rattle.jt_layout.specs.Layout.{Body, Fills, empty, rest, if_body, body_case}
 use Rattle.jt_params.specs.Params.{params, params_reply, query_some}
@@ -21,35 +22,35 @@ use Rattle.jt_codec.specs.declared.message.Message.TheVariants as message
 -- The row of an id. A row of one edition alone says so. Under every other id a body is opaque.
 unfoldable pub body : Edition → ℕ → Body Message
 body edition id =
-    if_body (id == 0x0001) (body_case ack (λ x. message.TerminalAck x.0 x.1 x.2) terminal_ack_of) (
-    if_body (id == 0x8001) (body_case ack (λ x. message.PlatformAck x.0 x.1 x.2) platform_ack_of) (
-    if_body (id == 0x0002) (body_case empty (λ _. message.Heartbeat) heartbeat_of) (
-    if_body (id == 0x0003) (body_case empty (λ _. message.Deregister) deregister_of) (
-    if_body (is_2019 edition && (id == 0x0005)) (body_case (resend edition) message.TerminalResend terminal_resend_of) (
-    if_body (id == 0x8003) (body_case (resend edition) message.Resend resend_of) (
-    if_body (id == 0x0100) (body_case (register edition) message.Register register_of) (
-    if_body (id == 0x8100) (body_case register_reply message.RegisterReply register_reply_of) (
-    if_body (id == 0x0102) (body_case (auth edition) message.Auth auth_of) (
-    if_body (id == 0x8103) (body_case params message.SetParams set_params_of) (
-    if_body (id == 0x8104) (body_case empty (λ _. message.QueryParams) query_params_of) (
-    if_body (id == 0x8106) (body_case query_some message.QuerySome query_some_of) (
-    if_body (id == 0x0104) (body_case params_reply (λ x. message.Params x.0 x.1) params_of) (
-    if_body (id == 0x0200) (body_case position message.Position position_of) (
-    if_body (id == 0x0201) (body_case position_reply (λ x. message.PositionReply x.0 x.1) position_reply_of) (
-    if_body (id == 0x8201) (body_case empty (λ _. message.QueryPosition) query_position_of) (
-    if_body (id == 0x8202) (body_case track (λ x. message.Track x.0 x.1) track_of) (
-    if_body (id == 0x0704) (body_case batch message.Batch batch_of) (
-    if_body (is_2013 edition && (id == 0x8300)) (body_case octet_and_text (λ x. message.Text x.0 None x.1) text_of) (
-    if_body (is_2019 edition && (id == 0x8300)) (body_case flag_kind_and_text (λ x. message.Text x.0 (Some x.1) x.2) kind_text_of) (
-    if_body (id == 0x8105) (body_case octet_and_text (λ x. message.Control x.0 x.1) control_of) (
-    if_body (is_2013 edition && (id == 0x8600)) (body_case circles (λ x. message.Circles x.0 x.1) circles_of) (
-    if_body (is_2013 edition && (id == 0x8602)) (body_case rectangles (λ x. message.Rectangles x.0 x.1) rectangles_of) (
-    if_body (is_2013 edition && (id == 0x8604)) (body_case polygon message.Polygon polygon_of) (
-    if_body (is_2013 edition && (id == 0x8606)) (body_case route message.Route route_of) (
-    if_body (id == 0x8601) (body_case deletion (λ x. message.Delete kind.Circle x.ids) delete_circles_of) (
-    if_body (id == 0x8603) (body_case deletion (λ x. message.Delete kind.Rectangle x.ids) delete_rectangles_of) (
-    if_body (id == 0x8605) (body_case deletion (λ x. message.Delete kind.Polygon x.ids) delete_polygons_of) (
-    if_body (id == 0x8607) (body_case deletion (λ x. message.Delete kind.Route x.ids) delete_routes_of)
+    if_body (id == TERMINAL_ACK) (body_case ack (λ x. message.TerminalAck x.0 x.1 x.2) terminal_ack_of) (
+    if_body (id == PLATFORM_ACK) (body_case ack (λ x. message.PlatformAck x.0 x.1 x.2) platform_ack_of) (
+    if_body (id == HEARTBEAT) (body_case empty (λ _. message.Heartbeat) heartbeat_of) (
+    if_body (id == DEREGISTER) (body_case empty (λ _. message.Deregister) deregister_of) (
+    if_body (is_2019 edition && (id == TERMINAL_RESEND)) (body_case (resend edition) message.TerminalResend terminal_resend_of) (
+    if_body (id == RESEND) (body_case (resend edition) message.Resend resend_of) (
+    if_body (id == REGISTER) (body_case (register edition) message.Register register_of) (
+    if_body (id == REGISTER_REPLY) (body_case register_reply message.RegisterReply register_reply_of) (
+    if_body (id == AUTH) (body_case (auth edition) message.Auth auth_of) (
+    if_body (id == SET_PARAMS) (body_case params message.SetParams set_params_of) (
+    if_body (id == QUERY_PARAMS) (body_case empty (λ _. message.QueryParams) query_params_of) (
+    if_body (id == QUERY_SOME) (body_case query_some message.QuerySome query_some_of) (
+    if_body (id == PARAMS) (body_case params_reply (λ x. message.Params x.0 x.1) params_of) (
+    if_body (id == POSITION) (body_case position message.Position position_of) (
+    if_body (id == POSITION_REPLY) (body_case position_reply (λ x. message.PositionReply x.0 x.1) position_reply_of) (
+    if_body (id == QUERY_POSITION) (body_case empty (λ _. message.QueryPosition) query_position_of) (
+    if_body (id == TRACK) (body_case track (λ x. message.Track x.0 x.1) track_of) (
+    if_body (id == BATCH) (body_case batch message.Batch batch_of) (
+    if_body (is_2013 edition && (id == TEXT)) (body_case octet_and_text (λ x. message.Text x.0 None x.1) text_of) (
+    if_body (is_2019 edition && (id == TEXT)) (body_case flag_kind_and_text (λ x. message.Text x.0 (Some x.1) x.2) kind_text_of) (
+    if_body (id == CONTROL) (body_case octet_and_text (λ x. message.Control x.0 x.1) control_of) (
+    if_body (is_2013 edition && (id == CIRCLES)) (body_case circles (λ x. message.Circles x.0 x.1) circles_of) (
+    if_body (is_2013 edition && (id == RECTANGLES)) (body_case rectangles (λ x. message.Rectangles x.0 x.1) rectangles_of) (
+    if_body (is_2013 edition && (id == POLYGON)) (body_case polygon message.Polygon polygon_of) (
+    if_body (is_2013 edition && (id == ROUTE)) (body_case route message.Route route_of) (
+    if_body (id == DELETE_CIRCLES) (body_case deletion (λ x. message.Delete kind.Circle x.ids) delete_circles_of) (
+    if_body (id == DELETE_RECTANGLES) (body_case deletion (λ x. message.Delete kind.Rectangle x.ids) delete_rectangles_of) (
+    if_body (id == DELETE_POLYGONS) (body_case deletion (λ x. message.Delete kind.Polygon x.ids) delete_polygons_of) (
+    if_body (id == DELETE_ROUTES) (body_case deletion (λ x. message.Delete kind.Route x.ids) delete_routes_of)
     (body_case rest (message.Opaque id) (opaque_of id))))))))))))))))))))))))))))))
 
 -- under this id, the octets are the message's fields in the order of the row
@@ -58,37 +59,37 @@ HasBody edition id message octets = Fills (body edition id) octets 0 message
 
 -- the id of the deletion of a kind
 abbrev pub deletion_id : RegionKind → ℕ
-deletion_id kind.Circle = 0x8601
-deletion_id kind.Rectangle = 0x8603
-deletion_id kind.Polygon = 0x8605
-deletion_id kind.Route = 0x8607
+deletion_id kind.Circle = DELETE_CIRCLES
+deletion_id kind.Rectangle = DELETE_RECTANGLES
+deletion_id kind.Polygon = DELETE_POLYGONS
+deletion_id kind.Route = DELETE_ROUTES
 
 -- the id that a message stands under; a part has no row, and so no id of its own
 abbrev pub id_of : Message → Option ℕ
-id_of (message.TerminalAck _ _ _) = Some 0x0001
-id_of (message.PlatformAck _ _ _) = Some 0x8001
-id_of message.Heartbeat = Some 0x0002
-id_of message.Deregister = Some 0x0003
-id_of (message.TerminalResend _) = Some 0x0005
-id_of (message.Resend _) = Some 0x8003
-id_of (message.Register _) = Some 0x0100
-id_of (message.RegisterReply _) = Some 0x8100
-id_of (message.Auth _) = Some 0x0102
-id_of (message.SetParams _) = Some 0x8103
-id_of message.QueryParams = Some 0x8104
-id_of (message.QuerySome _) = Some 0x8106
-id_of (message.Params _ _) = Some 0x0104
-id_of (message.Position _) = Some 0x0200
-id_of (message.PositionReply _ _) = Some 0x0201
-id_of message.QueryPosition = Some 0x8201
-id_of (message.Track _ _) = Some 0x8202
-id_of (message.Batch _) = Some 0x0704
-id_of (message.Text _ _ _) = Some 0x8300
-id_of (message.Control _ _) = Some 0x8105
-id_of (message.Circles _ _) = Some 0x8600
-id_of (message.Rectangles _ _) = Some 0x8602
-id_of (message.Polygon _) = Some 0x8604
-id_of (message.Route _) = Some 0x8606
+id_of (message.TerminalAck _ _ _) = Some TERMINAL_ACK
+id_of (message.PlatformAck _ _ _) = Some PLATFORM_ACK
+id_of message.Heartbeat = Some HEARTBEAT
+id_of message.Deregister = Some DEREGISTER
+id_of (message.TerminalResend _) = Some TERMINAL_RESEND
+id_of (message.Resend _) = Some RESEND
+id_of (message.Register _) = Some REGISTER
+id_of (message.RegisterReply _) = Some REGISTER_REPLY
+id_of (message.Auth _) = Some AUTH
+id_of (message.SetParams _) = Some SET_PARAMS
+id_of message.QueryParams = Some QUERY_PARAMS
+id_of (message.QuerySome _) = Some QUERY_SOME
+id_of (message.Params _ _) = Some PARAMS
+id_of (message.Position _) = Some POSITION
+id_of (message.PositionReply _ _) = Some POSITION_REPLY
+id_of message.QueryPosition = Some QUERY_POSITION
+id_of (message.Track _ _) = Some TRACK
+id_of (message.Batch _) = Some BATCH
+id_of (message.Text _ _ _) = Some TEXT
+id_of (message.Control _ _) = Some CONTROL
+id_of (message.Circles _ _) = Some CIRCLES
+id_of (message.Rectangles _ _) = Some RECTANGLES
+id_of (message.Polygon _) = Some POLYGON
+id_of (message.Route _) = Some ROUTE
 id_of (message.Delete kind _) = Some (deletion_id kind)
 id_of (message.Opaque id _) = Some id
 id_of (message.Part _) = None

@@ -1,6 +1,7 @@
 -- Messages that are read in place. To be believed.
 use Rattle.std.specs.Prelude.{ℕ, Bool, ◌==◌, ◌||◌, ◌⊎◌, List, Option, Some, None, IsTrue}
 use Rattle.jt_value.specs.declared.phone.Edition.{Edition}
+use Rattle.jt_value.specs.declared.ids.TheConstants.{BATCH, CONTROL, DEREGISTER, HEARTBEAT, PLATFORM_ACK, POSITION, QUERY_PARAMS, QUERY_POSITION, TERMINAL_ACK, TEXT, TRACK}
 use Rattle.jt_header.specs.declared.header.Packet.{Packet}
 use Rattle.jt_position.specs.BatchViews.{viewed_position}
 use Rattle.jt_codec.specs.Bodies.{body}
@@ -11,15 +12,15 @@ use Rattle.jt_codec.specs.declared.viewing.MessageView.TheVariants as view
 
 -- the ids of messages without fields: heartbeats, a registration given up, questions for all parameters and for the position
 abbrev pub is_empty : ℕ → Bool
-is_empty id = (id == 0x0002) || (id == 0x0003) || (id == 0x8104) || (id == 0x8201)
+is_empty id = (id == HEARTBEAT) || (id == DEREGISTER) || (id == QUERY_PARAMS) || (id == QUERY_POSITION)
 
 -- the ids of general responses, orders to track, texts and orders
 abbrev pub is_flat : ℕ → Bool
-is_flat id = (id == 0x0001) || (id == 0x8001) || (id == 0x8202) || (id == 0x8300) || (id == 0x8105)
+is_flat id = (id == TERMINAL_ACK) || (id == PLATFORM_ACK) || (id == TRACK) || (id == TEXT) || (id == CONTROL)
 
 -- the ids of these, positions and batches, whose messages have a view each
 abbrev pub has_view : ℕ → Bool
-has_view id = is_empty id || is_flat id || (id == 0x0200) || (id == 0x0704)
+has_view id = is_empty id || is_flat id || (id == POSITION) || (id == BATCH)
 
 -- one of these messages, or octets under an id without a row of the edition, which are kept unread
 abbrev pub IsReadInPlace : Edition → ℕ → List ℕ → Type 0

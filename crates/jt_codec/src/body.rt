@@ -10,12 +10,7 @@ ghost use Rattle.jt_codec.specs.declared.message.Message.TheVariants as message;
 
 use crate::ack::{read_ack, write_ack};
 use crate::empty::read_empty;
-use crate::message::{
-    AUTH, BATCH, CIRCLES, CONTROL, DELETE_CIRCLES, DELETE_POLYGONS, DELETE_RECTANGLES,
-    DELETE_ROUTES, DEREGISTER, HEARTBEAT, Message, PARAMS, PLATFORM_ACK, POLYGON, POSITION,
-    POSITION_REPLY, QUERY_PARAMS, QUERY_POSITION, QUERY_SOME, RECTANGLES, REGISTER, REGISTER_REPLY,
-    RESEND, ROUTE, SET_PARAMS, TERMINAL_ACK, TERMINAL_RESEND, TEXT, TRACK,
-};
+use crate::message::Message;
 use crate::position_reply::write_position_reply;
 use crate::regions::write_region_ids;
 use crate::resend::write_resend;
@@ -34,6 +29,12 @@ use jt_region_bodies::{
     write_route,
 };
 use jt_register::{write_auth, write_register, write_register_reply};
+use jt_value::ids::{
+    AUTH, BATCH, CIRCLES, CONTROL, DELETE_CIRCLES, DELETE_POLYGONS, DELETE_RECTANGLES,
+    DELETE_ROUTES, DEREGISTER, HEARTBEAT, PARAMS, PLATFORM_ACK, POLYGON, POSITION, POSITION_REPLY,
+    QUERY_PARAMS, QUERY_POSITION, QUERY_SOME, RECTANGLES, REGISTER, REGISTER_REPLY, RESEND, ROUTE,
+    SET_PARAMS, TERMINAL_ACK, TERMINAL_RESEND, TEXT, TRACK,
+};
 use jt_value::{CodecError, Edition, Memory, Octets};
 use std::alloc::Global;
 

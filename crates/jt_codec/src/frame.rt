@@ -14,8 +14,9 @@ ghost use Rattle.jt_codec.specs.declared.message.Message.{Message};
 use crate::body::read_body;
 use crate::message::Message;
 use arrayvec::ArrayVec;
-use jt_escape::{FRAME_LIMIT, check, escape_into};
+use jt_escape::{check, escape_into};
 use jt_header::{Header, law_of_contents, read_header, write_header};
+use jt_value::limits::FRAME_LIMIT;
 use jt_value::{CodecError, Edition, Octets, Refusal};
 use std::alloc::Global;
 

@@ -8,16 +8,16 @@ ghost use Rattle.jt_codec.specs.Parsing.{message_read};
 ghost use Rattle.jt_codec.specs.Viewing.{IsViewed};
 
 use crate::frame::{in_content, read_message, start_of_body};
-use crate::message::{
-    CIRCLES, DELETE_CIRCLES, DELETE_POLYGONS, DELETE_RECTANGLES, DELETE_ROUTES, PARAMS, POLYGON,
-    QUERY_SOME, RECTANGLES, RESEND, ROUTE, SET_PARAMS, TERMINAL_RESEND,
-};
 use crate::resend::judge_resend;
 use crate::viewing::view_message;
 use jt_header::Header;
 use jt_params::{judge_params, judge_params_reply, judge_query_some};
 use jt_region_bodies::{
     judge_circles, judge_deletion, judge_polygon, judge_rectangles, judge_route,
+};
+use jt_value::ids::{
+    CIRCLES, DELETE_CIRCLES, DELETE_POLYGONS, DELETE_RECTANGLES, DELETE_ROUTES, PARAMS, POLYGON,
+    QUERY_SOME, RECTANGLES, RESEND, ROUTE, SET_PARAMS, TERMINAL_RESEND,
 };
 use jt_value::{CodecError, Edition, Memory, Refusal};
 use std::alloc::Global;

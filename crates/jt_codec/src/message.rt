@@ -14,64 +14,13 @@ use jt_params::{Param, params_fit, params_reply_fits, query_some_fits};
 use jt_position::{Batch, Position};
 use jt_region_bodies::{Circle, Polygon, Rectangle, RegionKind, Route};
 use jt_register::{Auth, Register, RegisterReply};
+use jt_value::ids::{
+    AUTH, BATCH, CIRCLES, CONTROL, DELETE_CIRCLES, DELETE_POLYGONS, DELETE_RECTANGLES,
+    DELETE_ROUTES, DEREGISTER, HEARTBEAT, PARAMS, PLATFORM_ACK, POLYGON, POSITION, POSITION_REPLY,
+    QUERY_PARAMS, QUERY_POSITION, QUERY_SOME, RECTANGLES, REGISTER, REGISTER_REPLY, RESEND, ROUTE,
+    SET_PARAMS, TERMINAL_ACK, TERMINAL_RESEND, TEXT, TRACK,
+};
 use jt_value::{Edition, Octets, Seq};
-
-/// The ids of messages (the standard's message bodies).
-pub(crate) const TERMINAL_ACK: u16 = 0x0001;
-
-pub(crate) const PLATFORM_ACK: u16 = 0x8001;
-
-pub(crate) const HEARTBEAT: u16 = 0x0002;
-
-pub(crate) const DEREGISTER: u16 = 0x0003;
-
-pub(crate) const TERMINAL_RESEND: u16 = 0x0005;
-
-pub(crate) const RESEND: u16 = 0x8003;
-
-pub(crate) const REGISTER: u16 = 0x0100;
-
-pub(crate) const REGISTER_REPLY: u16 = 0x8100;
-
-pub(crate) const AUTH: u16 = 0x0102;
-
-pub(crate) const SET_PARAMS: u16 = 0x8103;
-
-pub(crate) const QUERY_PARAMS: u16 = 0x8104;
-
-pub(crate) const QUERY_SOME: u16 = 0x8106;
-
-pub(crate) const PARAMS: u16 = 0x0104;
-
-pub(crate) const POSITION: u16 = 0x0200;
-
-pub(crate) const POSITION_REPLY: u16 = 0x0201;
-
-pub(crate) const QUERY_POSITION: u16 = 0x8201;
-
-pub(crate) const TRACK: u16 = 0x8202;
-
-pub(crate) const BATCH: u16 = 0x0704;
-
-pub(crate) const TEXT: u16 = 0x8300;
-
-pub(crate) const CONTROL: u16 = 0x8105;
-
-pub(crate) const CIRCLES: u16 = 0x8600;
-
-pub(crate) const RECTANGLES: u16 = 0x8602;
-
-pub(crate) const POLYGON: u16 = 0x8604;
-
-pub(crate) const ROUTE: u16 = 0x8606;
-
-pub(crate) const DELETE_CIRCLES: u16 = 0x8601;
-
-pub(crate) const DELETE_RECTANGLES: u16 = 0x8603;
-
-pub(crate) const DELETE_POLYGONS: u16 = 0x8605;
-
-pub(crate) const DELETE_ROUTES: u16 = 0x8607;
 
 /// What the body of a frame is (the standard's message bodies).
 #[derive(Drop)]

@@ -5,8 +5,8 @@ ghost use Rattle.jt_codec.specs.Bodies as bodies;
 ghost use Rattle.jt_codec.specs.Bodies.{Fits, body_octets};
 ghost use Rattle.jt_codec.specs.declared.message.Message.TheVariants as message;
 
-use crate::message::{DELETE_CIRCLES, DELETE_POLYGONS, DELETE_RECTANGLES, DELETE_ROUTES};
 use jt_region_bodies::{Circle, Polygon, Rectangle, RegionKind, Route, ids_fit, write_ids};
+use jt_value::ids::{DELETE_CIRCLES, DELETE_POLYGONS, DELETE_RECTANGLES, DELETE_ROUTES};
 use jt_value::{Edition, Memory, Octets, Seq};
 use std::alloc::Global;
 

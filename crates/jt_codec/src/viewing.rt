@@ -9,14 +9,15 @@ ghost use Rattle.jt_codec.specs.Viewing.{IsReadInPlace, IsViewed, viewed};
 use crate::ack::view_ack;
 use crate::empty::view_empty;
 use crate::frame::{in_content, start_of_body};
-use crate::message::{
-    BATCH, CONTROL, DEREGISTER, HEARTBEAT, PLATFORM_ACK, POSITION, QUERY_PARAMS, QUERY_POSITION,
-    TERMINAL_ACK, TEXT, TRACK, is_opaque,
-};
+use crate::message::is_opaque;
 use crate::text::{view_flag_kind_and_text, view_octet_and_text};
 use crate::track::view_track;
 use jt_header::Header;
 use jt_position::{BatchView, PositionView, view_batch, view_position};
+use jt_value::ids::{
+    BATCH, CONTROL, DEREGISTER, HEARTBEAT, PLATFORM_ACK, POSITION, QUERY_PARAMS, QUERY_POSITION,
+    TERMINAL_ACK, TEXT, TRACK,
+};
 use jt_value::{Edition, Refusal};
 
 /// A message that is read in place: one without fields, a general response, an order to track, a text, an order, a position or

@@ -7,10 +7,11 @@ use Rattle.jt_value.specs.Serials.{serial_of}
 use Rattle.jt_position.specs.Fixes.{fixes_of}
 use Rattle.jt_store.specs.declared.row.Row.{Row}
 use Rattle.jt_platform.specs.declared.request.Entry.{Entry}
-use Rattle.jt_delivery.specs.World.{Line, new_line, World, past_accepted, number_at, put, IsOpened, carried, fixes_in}
-use Rattle.jt_delivery.specs.Steps.{Records, Forms, Opens, without_line, MayForm, after}
+use Rattle.jt_delivery.specs.World.{Line, new_line, World, number_at, put, IsOpened}
+use Rattle.jt_store.specs.Units.{past_accepted, carried, fixes_in, MayForm}
+use Rattle.jt_delivery.specs.Steps.{Records, Forms, Opens, without_line, after}
 use Rattle.jt_delivery.specs.Record.{top, seen, line_top, SendOk, Carries, TookAfter, UnitsOk, RowsOk, LineOk, Across, LastRowOk, InUseOk, Stands}
-use Rattle.jt_delivery.proofs.Lists.{put_elim, put_same, seen_known, top_seen, end_top_known, number_push, number_new, row_at_all, Gone_form, Waiting_form, Chain_form, past_form}
+use Rattle.jt_delivery.proofs.Lists.{put_elim, put_same, seen_known, top_seen, end_top_known, number_push, number_new, row_at_all, Gone_form, Waiting_form, Chain_form, past_at, past_form}
 
 -- two numbers with one serial that are less than 65,536 apart are one
 serial_apart : (a b : ℕ) → serial_of a ≡ serial_of b → a < b + 65536 → b < a + 65536 → a ≡ b
@@ -25,28 +26,31 @@ serial_window past a b al au bl bu e = serial_apart a b e (omega arith) (omega a
 -- one past the last accepted number is at most each unit's that is not accepted
 pub past_below : (units : List Row) (a i : ℕ) → UnitsOk units a → a ≤ i → i < length units → past_accepted units a ≤ number_at units i
 past_below units zero i h le lt = omega arith
-past_below units (suc a) i h le lt = omega (arith, h.rise a i le lt)
+past_below units (suc a) i h le lt = omega (arith, past_at units a (omega arith), h.rise a i le lt)
 
 -- and at most what was formed by then allows
 pub past_near : (units : List Row) (a i f : ℕ) → UnitsOk units a → a ≤ f → SendOk units i f → past_accepted units a ≤ number_at units i + 32766
 past_near units zero i f h le good = omega arith
 past_near units (suc a) i f h le good = go (cases_lt a (f - 1))
   where
-    go : (a < f - 1) ⊎ (f - 1 ≤ a) → number_at units a + 1 ≤ number_at units i + 32766
-    go (inl lt) = omega (arith, good.near, h.rise a (f - 1) lt (omega (arith, good.known, good.before)))
-    go (inr ge) = let e : a ≡ f - 1 = omega arith in rw e (omega (arith, good.near))
+    at : past_accepted units (suc a) ≡ number_at units a + 1
+    at = past_at units a (omega (arith, good.known))
+
+    go : (a < f - 1) ⊎ (f - 1 ≤ a) → past_accepted units (suc a) ≤ number_at units i + 32766
+    go (inl lt) = omega (arith, at, good.near, h.rise a (f - 1) lt (omega (arith, good.known, good.before)))
+    go (inr ge) = let e : a ≡ f - 1 = omega arith in omega (arith, at, ap (λ (n : ℕ). number_at units n) e, good.near)
 
 pub number_up : (units : List Row) (a i : ℕ) → UnitsOk units a → a ≤ length units → i < length units → number_at units i + 1 ≤ past_accepted units a + 32766
 number_up units a i h le lt = go a h le (cases_lt i a)
   where
     go : (b : ℕ) → UnitsOk units b → b ≤ length units → (i < b) ⊎ (b ≤ i) → number_at units i + 1 ≤ past_accepted units b + 32766
     go zero h le (inl l) = absurd (omega arith)
-    go (suc b) h le (inl l) = elim (cases_eq i b) [ inl e ↦ rw e (omega arith) | inr n ↦ omega (arith, h.rise i b (omega arith) le) ]
+    go (suc b) h le (inl l) = elim (cases_eq i b) [ inl e ↦ omega (arith, past_at units b le, ap (λ (n : ℕ). number_at units n) e) | inr n ↦ omega (arith, past_at units b le, h.rise i b (omega arith) le) ]
     go b h le (inr ge) = omega (arith, h.near_mark i ge lt)
 
 pub past_last : (units : List Row) (a i : ℕ) → UnitsOk units a → a ≤ suc i → i < length units → past_accepted units a ≤ number_at units i + 1
 past_last units zero i h le lt = omega arith
-past_last units (suc a) i h le lt = elim (cases_eq a i) [ inl e ↦ rw e (omega arith) | inr n ↦ omega (arith, h.rise a i (omega arith) lt) ]
+past_last units (suc a) i h le lt = elim (cases_eq a i) [ inl e ↦ omega (arith, past_at units a (omega arith), ap (λ (n : ℕ). number_at units n) e) | inr n ↦ omega (arith, past_at units a (omega arith), h.rise a i (omega arith) lt) ]
 
 past_zero : (units : List Row) (a : ℕ) → a ≤ 0 → past_accepted units a ≡ 0
 past_zero units zero le = refl
@@ -125,7 +129,7 @@ fixes_push : (units : List Row) (u : Row) → fixes_in (units ++ u ∷ []) ≡ f
 fixes_push [] u = append-nil (fixes_of (carried u))
 fixes_push (x ∷ xs) u = ap (λ (z : List (List ℕ)). fixes_of (carried x) ++ z) (fixes_push xs u) ∙ sym (append_assoc (fixes_of (carried x)) (fixes_in xs) (fixes_of (carried u)))
 
-pub form_kept : (w : World) (u : Row) → Stands w → MayForm w u → Stands (after w (Forms u))
+pub form_kept : (w : World) (u : Row) → Stands w → MayForm w.units w.accepted w.recorded u → Stands (after w (Forms u))
 form_kept w u i m = record {
   units = units_form w.units w.accepted u i.units (omega (arith, i.rows.accepted_stored, i.rows.stored)) m.after_accepted (omega (arith, m.near)) (λ k lt. row_at_all (λ (older : Row). older.number < u.number) w.units k m.above lt);
   rows = rows_form w.units w.accepted w.keeper.rows u i.rows;
@@ -138,7 +142,7 @@ form_kept w u i m = record {
   told = i.told;
   answers = i.answers;
   keeper = i.keeper;
-  fixes = (m.next.0, m.next.1 ∙ ap (λ (z : List (List ℕ)). z ++ m.next.0) (sym (fixes_push w.units u)));
+  fixes = (m.next.0, ap (λ (z : List (List ℕ)). z ++ m.next.0) (fixes_push w.units u) ∙ m.next.1);
   just = tt;
 }
 
@@ -225,7 +229,7 @@ record_kept w x i = record {
   told = i.told;
   answers = i.answers;
   keeper = i.keeper;
-  fixes = (i.fixes.0 ++ x ∷ [], ap (λ (z : List (List ℕ)). z ++ x ∷ []) i.fixes.1 ∙ append_assoc (fixes_in w.units) i.fixes.0 (x ∷ []));
+  fixes = (i.fixes.0 ++ x ∷ [], sym (append_assoc (fixes_in w.units) i.fixes.0 (x ∷ [])) ∙ ap (λ (z : List (List ℕ)). z ++ x ∷ []) i.fixes.1);
   just = tt;
 }
 

@@ -16,9 +16,12 @@ use Rattle.jt_platform.specs.declared.request.Reply.TheVariants as say
 use Rattle.jt_platform.specs.Codes.{code_for}
 use Rattle.jt_platform.specs.History.{live, holder, or_else, registration}
 use Rattle.jt_platform.specs.Allowed.{IsHolder, IsOfFleet, VerdictOn}
-use Rattle.jt_delivery.specs.World.{World, Setting, Authentication, OtherMessage, Sending, Admission, Acceptance, OtherAnswer, carried, fixes_in}
-use Rattle.jt_delivery.specs.Steps.{Event, Records, Forms, Opens, Sends, Says, Answers, Hears, Accepts, Answered, IsNamed, after}
-use Rattle.jt_delivery.specs.Reaching.{MayAll, after_all, empty, Leads}
+use Rattle.jt_delivery.specs.World.{World, Setting, Authentication, OtherMessage, Sending, Admission, Acceptance, OtherAnswer}
+use Rattle.jt_store.specs.Units.{carried, fixes_in}
+use Rattle.jt_delivery.specs.Steps.{Event, Records, Forms, Opens, Sends, Says, Answers, Hears, Accepts, Answered, IsNamed, May, after}
+use Rattle.jt_delivery.specs.Reaching.{empty}
+use Rattle.jt_value.specs.Reaching.{MayAll, after_all, Leads}
+use Rattle.jt_value.proofs.Reaching.{may_append, after_append}
 use Rattle.jt_delivery.specs.Claim.{SomeFixIsDelivered}
 
 -- of nothing there is nothing
@@ -29,15 +32,6 @@ none_so false r e = absurd cc
 none_and : (b : Bool) (P : Registered → Type 0) → IsSomeAnd (if b then None else None) P → ⊥
 none_and true P h = h
 none_and false P h = h
-
--- events after events
-may_append : (w : World) (first more : List Event) → MayAll w first → MayAll (after_all w first) more → MayAll w (first ++ more)
-may_append w [] more a b = b
-may_append w (event ∷ first) more a b = (a.0, may_append (after w event) first more a.1 b)
-
-after_append : (w : World) (first more : List Event) → after_all w (first ++ more) ≡ after_all (after_all w first) more
-after_append w [] more = refl
-after_append w (event ∷ first) more = after_append (after w event) first more
 
 module _ (told : FixesAre) (phone : Phone) (register : Register) (setting : Setting) (fix : List ℕ) (fleet : IsOfFleet setting.fleet (registration register)) (room : 0 < setting.limit) (is_fix : IsFix fix) where
   abbrev key : List ℕ
@@ -63,9 +57,9 @@ module _ (told : FixesAre) (phone : Phone) (register : Register) (setting : Sett
   first_events = Records fix ∷ Opens ∷ Says OtherMessage ∷ Answers 1 OtherMessage [] (Answered (ask.Register phone register) (say.Registered code) (OtherAnswer ∷ [])) ∷ []
 
   abbrev first_world : World
-  first_world = after_all (empty key setting) first_events
+  first_world = after_all after (empty key setting) first_events
 
-  may_first : MayAll (empty key setting) first_events
+  may_first : MayAll May after (empty key setting) first_events
   may_first = (
     is_fix,
     (
@@ -105,9 +99,9 @@ module _ (told : FixesAre) (phone : Phone) (register : Register) (setting : Sett
   next_events = Says Authentication ∷ Answers 1 Authentication [] (Answered (ask.Auth phone code) say.Accepted (Admission ∷ [])) ∷ Hears OtherAnswer (Admission ∷ []) [] ∷ Hears Admission [] [] ∷ Forms unit ∷ Sends 0 ∷ []
 
   abbrev next_world : World
-  next_world = after_all first_world next_events
+  next_world = after_all after first_world next_events
 
-  may_next : MayAll first_world next_events
+  may_next : MayAll May after first_world next_events
   may_next = (
     (refl, tt),
     (
@@ -117,7 +111,7 @@ module _ (told : FixesAre) (phone : Phone) (register : Register) (setting : Sett
         (
           (refl, refl, λ k d lt. absurd (omega arith)),
           (
-            record { above = λ k d lt. absurd (omega arith); after_accepted = omega arith; near = omega arith; short = is_fix.short; some = carries_some; next = ([], sym (append-nil (fixes_of (carried unit)) ∙ carries)) },
+            record { above = λ k d lt. absurd (omega arith); after_accepted = omega arith; near = omega arith; short = is_fix.short; some = carries_some; next = ([], append-nil (fixes_of (carried unit)) ∙ carries) },
             (
               record { in_use = refl; admitted = tt; waits = omega arith; formed = omega arith; in_order = λ older from to. absurd (omega arith) },
               tt,
@@ -136,7 +130,7 @@ module _ (told : FixesAre) (phone : Phone) (register : Register) (setting : Sett
   last_events = stores ∷ Hears (Acceptance 0 1) [] (0 ∷ []) ∷ Accepts ∷ []
 
   abbrev last_world : World
-  last_world = after_all next_world last_events
+  last_world = after_all after next_world last_events
 
   lives : live key next_world.history 1 ≡ true
   lives = ap (λ (b : Bool). or_else (if b then Some true else None) false) same
@@ -153,7 +147,7 @@ module _ (told : FixesAre) (phone : Phone) (register : Register) (setting : Sett
   named : IsNamed (after next_world stores) (Acceptance 0 1) 0
   named = record { names = (refl, refl); waits = omega arith; formed = omega arith; sent = inl (inl refl) }
 
-  may_last : MayAll next_world last_events
+  may_last : MayAll May after next_world last_events
   may_last = (
     (
       record { opened = (omega arith, omega arith); is_open = refl; going = refl; first = refl },
@@ -168,11 +162,11 @@ module _ (told : FixesAre) (phone : Phone) (register : Register) (setting : Sett
   abbrev all_events : List Event
   all_events = first_events ++ (next_events ++ last_events)
 
-  leads : Leads (empty key setting) last_world
+  leads : Leads May after (empty key setting) last_world
   leads = record {
     events = all_events;
-    may = may_append (empty key setting) first_events (next_events ++ last_events) may_first (may_append first_world next_events last_events may_next may_last);
-    to = after_append (empty key setting) first_events (next_events ++ last_events) ∙ after_append first_world next_events last_events;
+    may = may_append May after (empty key setting) first_events (next_events ++ last_events) may_first (may_append May after first_world next_events last_events may_next may_last);
+    to = after_append after (empty key setting) first_events (next_events ++ last_events) ∙ after_append after first_world next_events last_events;
   }
 
   abbrev stored_by : Bool → List Row

@@ -8,7 +8,7 @@ use Rattle.jt_delivery.specs.World.{Down, Admission, Acceptance, OtherAnswer, Li
 use Rattle.jt_delivery.specs.Steps.{reads, Names, IsNamed, IsTakenBy, Hears, Accepts, after}
 use Rattle.jt_delivery.specs.Record.{seen, Below, Chain, UnitsOk, LineOk, InUseOk, JustOk, Stands}
 use Rattle.jt_delivery.specs.Parts.{OneIsNamed}
-use Rattle.jt_delivery.proofs.Lists.{put_same, Chain_lower, was_sent_top, HasAdmission_cons, HasAdmission_split}
+use Rattle.jt_delivery.proofs.Lists.{put_same, past_at, Chain_lower, was_sent_top, HasAdmission_cons, HasAdmission_split}
 use Rattle.jt_delivery.proofs.Forming.{past_below, same_unit}
 use Rattle.jt_delivery.proofs.Sending.{newest, in_use_kept}
 
@@ -125,7 +125,7 @@ units_accept units a h lt = record {
   rise = h.rise;
   near_before = h.near_before;
   near_first = h.near_first;
-  near_mark = λ i ge l. omega (arith, h.near_mark i (omega arith) l, past_below units a a h (omega arith) lt);
+  near_mark = λ i ge l. omega (arith, past_at units a lt, h.near_mark i (omega arith) l, past_below units a a h (omega arith) lt);
 }
 
 line_accept : (key : List ℕ) (units : List Row) (a j : ℕ) (takers : List ℕ) (hist : List Entry) (l : ℕ) (x : Line) → LineOk key units a j takers hist l x → LineOk key units (suc a) j takers hist l x

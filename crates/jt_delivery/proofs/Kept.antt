@@ -7,9 +7,12 @@ use Rattle.jt_position.specs.Fixes.{fixes_of}
 use Rattle.jt_store.specs.declared.row.Row.{Row}
 use Rattle.jt_store.specs.Verdicts.{VerdictsNear}
 use Rattle.jt_platform.specs.declared.request.Entry.{Entry}
-use Rattle.jt_delivery.specs.World.{World, Setting, carried, fixes_in, IsPrefixOf}
+use Rattle.jt_delivery.specs.World.{World, Setting}
+use mathlib.Core.List.{IsPrefix}
+use Rattle.jt_store.specs.Units.{carried, fixes_in}
 use Rattle.jt_delivery.specs.Steps.{Event, Records, Forms, Opens, Sends, Says, Answers, Hears, Accepts, Loses, Restarts, Cuts, RestartsPlatform, May, after}
-use Rattle.jt_delivery.specs.Reaching.{MayAll, after_all, empty, Reached}
+use Rattle.jt_delivery.specs.Reaching.{empty, Reached}
+use Rattle.jt_value.specs.Reaching.{MayAll, after_all}
 use Rattle.jt_delivery.specs.Record.{Stands}
 use Rattle.jt_delivery.specs.Claim.{IsKept, EachReachedIsKept, IsRenumbered, NoneReachedRenumbers}
 use Rattle.jt_delivery.specs.Parts.{EventsKeepIt}
@@ -51,26 +54,26 @@ empty_stands key setting = record {
 pub events_keep : VerdictsNear → EventsKeepIt
 events_keep near = record { begins = empty_stands; keeps = step_kept near }
 
-all_kept : VerdictsNear → (w : World) (events : List Event) → Stands w → MayAll w events → Stands (after_all w events)
+all_kept : VerdictsNear → (w : World) (events : List Event) → Stands w → MayAll May after w events → Stands (after_all after w events)
 all_kept near w [] v m = v
 all_kept near w (event ∷ events) v m = all_kept near (after w event) events (step_kept near w event v m.0) m.1
 
 pub reached_stands : VerdictsNear → (w : World) → Reached w → Stands w
 reached_stands near w r = subst Stands r.leads.to (all_kept near (empty r.key r.setting) r.leads.events (empty_stands r.key r.setting) r.leads.may)
 
-fixes_take : (n : ℕ) (rs : List Row) → IsPrefixOf (fixes_in (take n rs)) (fixes_in rs)
+fixes_take : (n : ℕ) (rs : List Row) → IsPrefix (fixes_in (take n rs)) (fixes_in rs)
 fixes_take zero rs = (fixes_in rs, refl)
 fixes_take (suc n) [] = ([], refl)
-fixes_take (suc n) (r ∷ rs) = let p : IsPrefixOf (fixes_in (take n rs)) (fixes_in rs) = fixes_take n rs in
-    (p.0, ap (λ (z : List (List ℕ)). fixes_of (carried r) ++ z) p.1 ∙ sym (append_assoc (fixes_of (carried r)) (fixes_in (take n rs)) p.0))
+fixes_take (suc n) (r ∷ rs) = let p : IsPrefix (fixes_in (take n rs)) (fixes_in rs) = fixes_take n rs in
+    (p.0, append_assoc (fixes_of (carried r)) (fixes_in (take n rs)) p.0 ∙ ap (λ (z : List (List ℕ)). fixes_of (carried r) ++ z) p.1)
 
 stands_kept : (w : World) → Stands w → IsKept w.recorded w.units w.accepted w.keeper.rows w.told
 stands_kept w v = record { stored = v.rows.stored; first_units = v.rows.first_units; recorded = prefix; told = v.told; accepted = v.rows.accepted_stored }
   where
-    prefix : IsPrefixOf (fixes_in w.keeper.rows) w.recorded
-    prefix = let p : IsPrefixOf (fixes_in (take (length w.keeper.rows) w.units)) (fixes_in w.units) = fixes_take (length w.keeper.rows) w.units in (
+    prefix : IsPrefix (fixes_in w.keeper.rows) w.recorded
+    prefix = let p : IsPrefix (fixes_in (take (length w.keeper.rows) w.units)) (fixes_in w.units) = fixes_take (length w.keeper.rows) w.units in (
       p.0 ++ v.fixes.0,
-      v.fixes.1 ∙ (ap (λ (z : List (List ℕ)). z ++ v.fixes.0) p.1 ∙ (append_assoc (fixes_in (take (length w.keeper.rows) w.units)) p.0 v.fixes.0 ∙ ap (λ (rs : List Row). fixes_in rs ++ (p.0 ++ v.fixes.0)) (sym v.rows.first_units))),
+      ap (λ (rs : List Row). fixes_in rs ++ (p.0 ++ v.fixes.0)) v.rows.first_units ∙ (sym (append_assoc (fixes_in (take (length w.keeper.rows) w.units)) p.0 v.fixes.0) ∙ (ap (λ (z : List (List ℕ)). z ++ v.fixes.0) p.1 ∙ v.fixes.1)),
     )
 
 pub reached_kept : VerdictsNear → EachReachedIsKept

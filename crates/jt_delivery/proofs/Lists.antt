@@ -1,12 +1,13 @@
 -- Short facts on rows by their places, and on what a line carries.
-use Rattle.std.proofs.Common.{ℕ, zero, suc, ◌+◌, ◌-◌, ◌<◌, ◌≤◌, ◌≡◌, ◌≢◌, List, [], ◌∷◌, ◌++◌, length, take, arith, refl, ap, ◌∙◌, inl, inr, All, Some}
+use Rattle.std.proofs.Common.{ℕ, zero, suc, ◌+◌, ◌-◌, ◌<◌, ◌≤◌, ◌≡◌, ◌≢◌, List, [], ◌∷◌, ◌++◌, length, take, arith, refl, ap, sym, ◌∙◌, inl, inr, All, Some}
 use Rattle.std.specs.Prelude.{◌⊎◌, max}
 use Rattle.std.proofs.lemmas.Bool.{cases_eq, eq-eqb, ne_eqb}
 use Rattle.std.proofs.lemmas.List.{length_push}
 use Rattle.std.proofs.lemmas.List.Elements.{All-head, All-tail}
 use Rattle.jt_store.specs.declared.row.Row.{Row}
 use Rattle.jt_store.specs.Tables.{IsRow, last_from, last_of}
-use Rattle.jt_delivery.specs.World.{Up, Authentication, OtherMessage, Sending, Down, Admission, Acceptance, OtherAnswer, Line, row_at, number_at, past_accepted, WasSent, IsSentIn, HasAdmission, put}
+use Rattle.jt_delivery.specs.World.{Up, Authentication, OtherMessage, Sending, Down, Admission, Acceptance, OtherAnswer, Line, row_at, number_at, WasSent, IsSentIn, HasAdmission, put}
+use Rattle.jt_store.specs.Units.{past_accepted}
 use Rattle.jt_delivery.specs.Steps.{IsNoUnit, AreOthers}
 use Rattle.jt_delivery.specs.Record.{top, seen, end_top, end_seen, SendOk, Follows, Gone, Waiting, Below, Chain, Took, TookAfter}
 
@@ -252,9 +253,15 @@ Chain_form units u lo hi (Admission ∷ q) h = Chain_form units u lo hi q h
 Chain_form units u lo hi (OtherAnswer ∷ q) h = Chain_form units u lo hi q h
 Chain_form units u lo hi (Acceptance i f ∷ q) h = (SendOk_form units u i f h.0, h.1, Chain_form units u f hi q h.2)
 
+-- one past the number of the unit of a place
+pub past_at : (units : List Row) (a : ℕ) → a < length units → past_accepted units (suc a) ≡ number_at units a + 1
+past_at [] a lt = absurd (omega arith)
+past_at (row ∷ units) zero lt = refl
+past_at (row ∷ units) (suc a) lt = past_at units a (omega arith)
+
 pub past_form : (units : List Row) (u : Row) (a : ℕ) → a ≤ length units → past_accepted (units ++ u ∷ []) a ≡ past_accepted units a
 past_form units u zero le = refl
-past_form units u (suc a) le = ap (λ (n : ℕ). n + 1) (number_push units u a le)
+past_form units u (suc a) le = past_at (units ++ u ∷ []) a (omega (arith, length_push units u)) ∙ (ap (λ (n : ℕ). n + 1) (number_push units u a le) ∙ sym (past_at units a le))
 
 -- lines by their numbers
 pub Took_after : (takers : List ℕ) (l k : ℕ) → TookAfter takers l k → Took takers l × Took takers k

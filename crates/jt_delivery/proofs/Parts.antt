@@ -11,7 +11,8 @@ use Rattle.jt_platform.specs.declared.request.Reply.{Reply}
 use Rattle.jt_platform.specs.declared.request.Reply.TheVariants as say
 use Rattle.jt_platform.specs.declared.request.Entry.{Entry}
 use Rattle.jt_platform.specs.History.{live, says_live, or_else, is_accepted_auth}
-use Rattle.jt_delivery.specs.World.{World, Up, Authentication, OtherMessage, Sending, Down, Admission, Acceptance, OtherAnswer, Line, IsOpened, IsSentIn, HasAdmission, number_at, past_accepted}
+use Rattle.jt_delivery.specs.World.{World, Up, Authentication, OtherMessage, Sending, Down, Admission, Acceptance, OtherAnswer, Line, IsOpened, IsSentIn, HasAdmission, number_at}
+use Rattle.jt_store.specs.Units.{past_accepted}
 use Rattle.jt_delivery.specs.Record.{Stands, top, seen, SendOk, Follows, Gone, Waiting, Below, Chain, units_in, accepted_in, onto, AnswersInOrder}
 use Rattle.jt_delivery.specs.Parts.{IsSending, TookIn, PartsFollow, EachReachedHasParts}
 use Rattle.jt_delivery.proofs.Lists.{sent_top, top_seen}

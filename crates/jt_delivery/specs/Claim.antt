@@ -9,7 +9,9 @@ use Rattle.jt_platform.specs.declared.request.Reply.TheVariants as say
 use Rattle.jt_platform.specs.declared.request.Entry.{Entry}
 use Rattle.jt_platform.specs.History.{registration}
 use Rattle.jt_platform.specs.Allowed.{IsOfFleet}
-use Rattle.jt_delivery.specs.World.{World, Setting, fixes_in, IsPrefixOf}
+use Rattle.jt_delivery.specs.World.{World, Setting}
+use mathlib.Core.List.{IsPrefix}
+use Rattle.jt_store.specs.Units.{fixes_in}
 use Rattle.jt_delivery.specs.Reaching.{Reached}
 
 -- Of the fixes recorded, the units formed, how many of them are held as accepted, the rows stored, and the places of those units whose
@@ -19,7 +21,7 @@ pub record IsKept (fixes : List (List ℕ)) (units : List Row) (held : ℕ) (row
   pub stored : length rows ≤ length units
   pub first_units : rows ≡ take (length rows) units
   -- the fixes stored are the first of those recorded
-  pub recorded : IsPrefixOf (fixes_in rows) fixes
+  pub recorded : IsPrefix (fixes_in rows) fixes
   -- each unit whose acceptance the terminal received is stored
   pub told : All (λ (place : ℕ). place < length rows) received
   -- and so is each that it holds as accepted

@@ -2,7 +2,8 @@
 use Rattle.std.specs.Prelude.{◌≡◌, ◌⊎◌, ℕ, suc, ◌+◌, ◌<◌, ◌≤◌, List, [], ◌∷◌, ◌++◌, length, take, true, false}
 use Rattle.jt_platform.specs.declared.request.Entry.{Entry}
 use Rattle.jt_platform.specs.History.{live, takes}
-use Rattle.jt_delivery.specs.World.{World, Setting, Up, Sending, Down, Acceptance, Line, IsOpened, IsSentIn, HasAdmission, number_at, past_accepted}
+use Rattle.jt_delivery.specs.World.{World, Setting, Up, Sending, Down, Acceptance, Line, IsOpened, IsSentIn, HasAdmission, number_at}
+use Rattle.jt_store.specs.Units.{past_accepted}
 use Rattle.jt_delivery.specs.Steps.{Event, IsNamed, May, after}
 use Rattle.jt_delivery.specs.Reaching.{Reached, empty}
 use Rattle.jt_delivery.specs.Record.{Carries, TookAfter, Stands, units_in, accepted_in, onto}

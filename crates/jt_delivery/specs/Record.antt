@@ -6,7 +6,9 @@ use Rattle.jt_store.specs.declared.row.Row.{Row}
 use Rattle.jt_platform.specs.declared.request.Entry.{Entry}
 use Rattle.jt_platform.specs.History.{live, closed, holder}
 use Rattle.jt_platform.specs.Laws.{shelf_of}
-use Rattle.jt_delivery.specs.World.{Up, Authentication, OtherMessage, Sending, Down, Admission, Acceptance, OtherAnswer, Line, World, IsOpened, number_at, past_accepted, fixes_in, IsPrefixOf, WasSent, HasAdmission}
+use Rattle.jt_delivery.specs.World.{Up, Authentication, OtherMessage, Sending, Down, Admission, Acceptance, OtherAnswer, Line, World, IsOpened, number_at, WasSent, HasAdmission}
+use mathlib.Core.List.{IsPrefix}
+use Rattle.jt_store.specs.Units.{past_accepted, fixes_in}
 use Rattle.jt_delivery.specs.Claim.{NoneRenumbered}
 
 -- ---- what was sent on a line
@@ -212,5 +214,5 @@ pub record Stands (w : World) : Type 0 where
   pub told : All (λ (place : ℕ). place < length w.keeper.rows) w.told
   pub answers : NoneRenumbered w.history
   pub keeper : w.keeper ≡ shelf_of w.key w.began w.history
-  pub fixes : IsPrefixOf (fixes_in w.units) w.recorded
+  pub fixes : IsPrefix (fixes_in w.units) w.recorded
   pub just : JustOk w.units w.accepted (length w.keeper.rows) w.using (w.lines w.count) w.just

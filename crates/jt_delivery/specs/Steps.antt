@@ -1,8 +1,8 @@
 -- What may happen, and what it leaves (this project's own). To be believed.
-use Rattle.std.specs.Prelude.{◌≡◌, ◌≢◌, ℕ, ◌+◌, ◌<◌, ◌≤◌, suc, List, [], ◌∷◌, ◌++◌, length, All, Bool, true, false, if◌then◌else◌, Option, Some, None}
+use Rattle.std.specs.Prelude.{◌≡◌, ℕ, ◌<◌, ◌≤◌, suc, List, [], ◌∷◌, ◌++◌, length, All, Bool, true, false, if◌then◌else◌, Option, Some, None}
 use Rattle.jt_value.specs.Serials.{serial_of}
 use Rattle.jt_value.specs.Sameness.{key_of}
-use Rattle.jt_position.specs.Fixes.{IsFix, fixes_of}
+use Rattle.jt_position.specs.Fixes.{IsFix}
 use Rattle.jt_store.specs.declared.row.Row.{Row}
 use Rattle.jt_platform.specs.declared.request.Request.{Request}
 use Rattle.jt_platform.specs.declared.request.Request.TheVariants as ask
@@ -12,7 +12,8 @@ use Rattle.jt_platform.specs.declared.request.Entry.{Entry}
 use Rattle.jt_platform.specs.History.{takes}
 use Rattle.jt_platform.specs.Allowed.{Allowed, makes_entry}
 use Rattle.jt_platform.specs.Laws.{shelf_of}
-use Rattle.jt_delivery.specs.World.{Up, Authentication, OtherMessage, Sending, Down, Admission, Acceptance, OtherAnswer, Line, World, new_line, put, IsOpened, opening, row_at, number_at, past_accepted, carried, fixes_in, IsPrefixOf, WasSent, HasAdmission}
+use Rattle.jt_delivery.specs.World.{Up, Authentication, OtherMessage, Sending, Down, Admission, Acceptance, OtherAnswer, Line, World, new_line, put, IsOpened, opening, row_at, number_at, WasSent, HasAdmission}
+use Rattle.jt_store.specs.Units.{MayForm}
 
 -- how a session goes on at a message, and what it writes
 pub data Outcome : Type 0 where
@@ -50,16 +51,6 @@ pub data Event : Type 0 where
   RestartsPlatform : Event
 
 -- ---- the terminal
-
--- The unit's number is above those of all units and of the last accepted one, and at most 32,766 above the latter. Its body fits one
--- packet and has the next fixes, one or more.
-pub record MayForm (w : World) (unit : Row) : Type 0 where
-  pub above : All (λ (older : Row). older.number < unit.number) w.units
-  pub after_accepted : past_accepted w.units w.accepted ≤ unit.number
-  pub near : unit.number < past_accepted w.units w.accepted + 32766
-  pub short : length unit.body ≤ 1023
-  pub some : fixes_of (carried unit) ≢ []
-  pub next : IsPrefixOf (fixes_in w.units ++ fixes_of (carried unit)) w.recorded
 
 -- A unit that is not accepted may be sent once the acceptance of a 0x0102 was read on the line in use, and after each older one that is
 -- not accepted.
@@ -141,7 +132,7 @@ pub record MayTake (w : World) (number : ℕ) (message : Up) (rest : List Up) : 
 
 abbrev pub May : World → Event → Type 0
 May w (Records fix) = IsFix fix
-May w (Forms unit) = MayForm w unit
+May w (Forms unit) = MayForm w.units w.accepted w.recorded unit
 May w Opens = Unit {0}
 May w (Sends place) = MaySend w place
 May w (Says message) = (w.using ≡ true) × IsNoUnit message

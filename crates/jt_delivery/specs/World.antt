@@ -1,6 +1,5 @@
 -- A terminal and a platform with any number of lines between them, in whole messages: what there is (this project's own). To be believed.
-use Rattle.std.specs.Prelude.{◌≡◌, ◌⊎◌, ℕ, zero, suc, ◌+◌, List, [], ◌∷◌, ◌++◌, map, Bool, true, false, if◌then◌else◌, ◌==◌, ◌≤◌, Option, Some}
-use Rattle.jt_position.specs.Fixes.{fixes}
+use Rattle.std.specs.Prelude.{◌≡◌, ◌⊎◌, ℕ, zero, suc, List, [], ◌∷◌, Bool, true, false, if◌then◌else◌, ◌==◌, ◌≤◌, Option, Some}
 use Rattle.jt_store.specs.declared.row.Row.{Row}
 use Rattle.jt_store.specs.Verdicts.{Shelf, alone, row_of}
 use Rattle.jt_platform.specs.declared.request.Fleet.{Fleet}
@@ -109,23 +108,6 @@ row_at (row ∷ rows) (suc place) = row_at rows place
 
 abbrev pub number_at : List Row → ℕ → ℕ
 number_at rows place = (row_at rows place).number
-
--- one past the number of the last accepted unit, 0 without one
-abbrev pub past_accepted : List Row → ℕ → ℕ
-past_accepted units zero = 0
-past_accepted units (suc last) = number_at units last + 1
-
--- id and body, which tell the fixes of a unit or a row
-abbrev pub carried : Row → ℕ × List ℕ
-carried row = (row.id, row.body)
-
--- the fixes in these units or rows, in order
-abbrev pub fixes_in : List Row → List (List ℕ)
-fixes_in rows = fixes (map carried rows)
-
--- a list begins with another
-abbrev pub IsPrefixOf : {A : Type 0} → List A → List A → Type 0
-IsPrefixOf {A} xs ys = (rest : List A) × (ys ≡ xs ++ rest)
 
 -- ---- what was written
 

@@ -5,6 +5,7 @@ ghost use Rattle.std.specs.Simd.Lanes.{zip2};
 ghost use Rattle.jt_escape.specs.Frame.{check_of, framed};
 
 use arrayvec::ArrayVec;
+use jt_value::limits::FRAME_LIMIT;
 use std::simd::prelude::*;
 
 /// Opens and closes a frame.
@@ -15,13 +16,6 @@ pub const ESCAPE: u8 = 0x7D;
 pub const ESCAPE_CODE: u8 = 0x01;
 /// The code of a flag.
 pub const FLAG_CODE: u8 = 0x02;
-
-/// The octets that a body has at most (the standard's header counts them in ten bits).
-pub const BODY_LIMIT: usize = 1023;
-/// The octets that a content has at most: a header of 21, a body, and the check octet.
-pub const CONTENT_LIMIT: usize = 21 + BODY_LIMIT + 1;
-/// The octets that the frame of such a content has at most: each escaped, between two flags.
-pub const FRAME_LIMIT: usize = 2 * CONTENT_LIMIT + 2;
 
 // Octets that are taken together into a check octet.
 const LANES: usize = 16;

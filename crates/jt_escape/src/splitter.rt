@@ -7,8 +7,9 @@ ghost use Rattle.jt_escape.specs.Span.{Ends, HasNoFlag, IsContent, refusal_at};
 ghost use Rattle.jt_escape.specs.Scan.{State, opening, passing, passing_all, keeping, keeping_all, gathering, standing, lending, after_in, after, events_in, events_of, end_in, IsPlain, Runs, RunsInPlace, StandsAtFront};
 ghost use Rattle.jt_escape.specs.Splitter.{StandsFor, Continues, Takes, TakesInPlace, IsSilent, IsSilentInPlace, told, lent, told_in_place};
 
-use crate::framing::{CONTENT_LIMIT, ESCAPE, ESCAPE_CODE, FLAG, FLAG_CODE};
+use crate::framing::{ESCAPE, ESCAPE_CODE, FLAG, FLAG_CODE};
 use arrayvec::ArrayVec;
+use jt_value::limits::CONTENT_LIMIT;
 use jt_value::{Refusal, Why};
 use memchr::{memchr, memchr2};
 use std::hint::select_unpredictable;

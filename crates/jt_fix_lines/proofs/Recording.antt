@@ -1,13 +1,12 @@
 -- How the recording of lines goes on, and how it ends.
-use Rattle.std.proofs.Math.Dec.{leb}
-use Rattle.std.proofs.lemmas.Bool.{leb-true}
-use Rattle.std.proofs.Common.{◌≤◌, ◌&&◌, inl, inr, Bool, ◌≡◌, ◌++◌, ◌+◌, ℕ, true, false, List, [], ◌∷◌, length, Option, Result, Ok, Err, IsTrue, refl, sym, ap, subst, ◌∙◌, append_assoc, append-nil, length-append, arith}
+use Rattle.std.proofs.Common.{◌≤◌, inl, inr, Bool, ◌≡◌, ◌++◌, ◌+◌, ℕ, true, false, List, [], ◌∷◌, length, Option, Result, Ok, Err, IsTrue, refl, sym, ap, subst, ◌∙◌, append_assoc, append-nil, length-append, arith}
 use Rattle.std.specs.Io.KnownBytes.{Consumes}
 use Rattle.std.proofs.KnownBytes.{Consumes-trans}
-use Rattle.jt_io.specs.Count.{Rose}
+use Rattle.jt_value.specs.Counts.{Rose}
 use Rattle.jt_runner.specs.Answer.{HoldsOf}
-use Rattle.jt_script.specs.Text.{Cuts, lines_of, is_within}
+use Rattle.jt_script.specs.Text.{lines_of, is_within}
 use Rattle.jt_script.specs.Cutter.{begun_of}
+use Rattle.jt_lines.proofs.Fronts.{FrontLaw, lines_on}
 use Rattle.jt_lines.specs.Lines.{Reading, HasTold, Goes}
 use Rattle.jt_lines.specs.declared.line_reader.NextLine.TheVariants as next
 use Rattle.jt_store.specs.Vaults.{Held, Notes, changed}
@@ -105,17 +104,6 @@ goes_on old now number left mid left_now a b c limit h goes notes = record {
 pub at_line : {T : Type 0} (answer : Result T FixesError) (most number : ℕ) (line held : List ℕ) (b c : Noting) → line ≡ held → NotesLine answer most number line b c
     → NotesLine answer most number held b c
 at_line answer most number line held b c same notes = subst (λ (l : List ℕ). NotesLine answer most number l b c) same notes
-
--- the lines of a text that was cut, and of what follows it
-abbrev pub FrontLaw : Type 0
-FrontLaw = (text rest begun : List ℕ) (lines : List (List ℕ)) → Cuts text lines begun → lines_of (text ++ rest) ≡ lines ++ lines_of (begun ++ rest)
-
--- the lines of a text of which these were told, and of what follows it
-lines_on : FrontLaw → (reading : Reading) (text : List ℕ) (lines : List (List ℕ)) → HasTold reading text lines → (rest : List ℕ)
-    → lines_of (text ++ rest) ≡ lines ++ lines_of (begun_of reading.held ++ (reading.ahead ++ rest))
-lines_on law reading text lines told rest =
-    ap (λ (t : List ℕ). lines_of (t ++ rest)) told.whole ∙ ap lines_of (append_assoc told.front reading.ahead rest)
-    ∙ law told.front (reading.ahead ++ rest) (begun_of reading.held) lines told.cuts
 
 -- what holds whatever follows
 whatever : (Holds : List ℕ → Type 0) (left : Option (List ℕ)) (text : List ℕ) → ((rest : List ℕ) → Holds (text ++ rest)) → HoldsOf Holds left text
@@ -259,11 +247,3 @@ ends_failed law limit old now number left mid left_now a b h goes =
       lines = lines_on law now (h.text ++ goes.more) h.lines goes.tells rest;
       good = h.good;
     }))
-
-first_holds : (a b : Bool) → (a && b) ≡ true → a ≡ true
-first_holds true b h = refl
-first_holds false b h = h
-
--- lines within the limits are few
-pub few_lines : (number : ℕ) (line : List ℕ) → IsTrue (is_within number line) → number ≤ 10000000
-few_lines number line within = leb-true number 10000000 (first_holds (leb number 10000000) (leb (length line) 4096) within)

@@ -1,7 +1,7 @@
 -- What recording a line does, and how the lines go on. Step functions for the proofs.
 use Rattle.std.specs.Prelude.{◌≡◌, ◌≤◌, ℕ, ◌+◌, Bool, true, false, List, length, Option, Result, Ok, Err, IsErrOf}
 use Rattle.std.specs.Io.KnownBytes.{Consumes}
-use Rattle.jt_io.specs.Count.{Rose}
+use Rattle.jt_value.specs.Counts.{Rose}
 use Rattle.jt_lines.specs.Lines.{Reading, HasTold}
 use Rattle.jt_store.specs.Tables.{Told}
 use Rattle.jt_store.specs.Vaults.{unsettled}

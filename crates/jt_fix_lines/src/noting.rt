@@ -1,7 +1,7 @@
 //! The fixes of a source's lines, each recorded as it is read.
 
 ghost use Rattle.std.specs.Prelude.{◌≡◌, ◌≤◌, ℕ, List, false, IsErrOf};
-ghost use Rattle.jt_io.specs.Count.{Rose};
+ghost use Rattle.jt_value.specs.Counts.{Rose};
 ghost use Rattle.jt_report.specs.FixLines.{Says};
 ghost use Rattle.jt_report.specs.declared.line.FixLine.TheVariants.{Fix as FixOf};
 ghost use Rattle.jt_fix_lines.specs.Noting.{noting};

@@ -1,11 +1,10 @@
 -- How the reading of a fleet goes on, and how it ends.
-use Rattle.std.proofs.Math.Dec.{leb}
-use Rattle.std.proofs.lemmas.Bool.{leb-true}
-use Rattle.std.proofs.Common.{◌≤◌, ◌&&◌, inl, inr, Bool, ◌≡◌, ◌++◌, ◌+◌, ℕ, true, false, List, [], ◌∷◌, length, Option, Some, None, IsTrue, refl, sym, ap, subst, ◌∙◌, append_assoc, append-nil, length-append, arith}
+use Rattle.std.proofs.Common.{inl, inr, Bool, ◌≡◌, ◌++◌, ◌+◌, ℕ, true, false, List, [], ◌∷◌, Option, Some, None, IsTrue, refl, sym, ap, subst, ◌∙◌, append_assoc, append-nil, length-append, arith}
 use Rattle.std.specs.Io.KnownBytes.{Consumes, IsAtEnd}
 use Rattle.std.proofs.KnownBytes.{Consumes-trans}
-use Rattle.jt_script.specs.Text.{Cuts, lines_of, is_within}
+use Rattle.jt_script.specs.Text.{lines_of, is_within}
 use Rattle.jt_script.specs.Cutter.{begun_of}
+use Rattle.jt_lines.proofs.Fronts.{FrontLaw, lines_on}
 use Rattle.jt_lines.specs.Lines.{Reading, HasTold, Goes}
 use Rattle.jt_lines.specs.declared.line_reader.NextLine.TheVariants as next
 use Rattle.jt_fleet.specs.FleetLines.{said_by}
@@ -55,17 +54,6 @@ bad_from : (named : Named) (number : ℕ) (lines : List (List ℕ)) (line : List
     → ((more : List (List ℕ)) → fleet_from nothing_named 1 (lines ++ more) ≡ fleet_from named number more) → named_with named number line ≡ None
     → (more : List (List ℕ)) → fleet_from nothing_named 1 (lines ++ line ∷ more) ≡ BadLine number
 bad_from named number lines line stands said more = from_here named number lines line more None stands said
-
--- the lines of a text that was cut, and of what follows it
-abbrev pub FrontLaw : Type 0
-FrontLaw = (text rest begun : List ℕ) (lines : List (List ℕ)) → Cuts text lines begun → lines_of (text ++ rest) ≡ lines ++ lines_of (begun ++ rest)
-
--- the lines of a text of which these were told, and of what follows it
-lines_on : FrontLaw → (reading : Reading) (text : List ℕ) (lines : List (List ℕ)) → HasTold reading text lines → (rest : List ℕ)
-    → lines_of (text ++ rest) ≡ lines ++ lines_of (begun_of reading.held ++ (reading.ahead ++ rest))
-lines_on law reading text lines told rest =
-    ap (λ (t : List ℕ). lines_of (t ++ rest)) told.whole ∙ ap lines_of (append_assoc told.front reading.ahead rest)
-    ∙ law told.front (reading.ahead ++ rest) (begun_of reading.held) lines told.cuts
 
 fleet_is : (text : List ℕ) (lines : List (List ℕ)) → lines_of text ≡ lines → fleet_in text ≡ fleet_from nothing_named 1 lines
 unfolding fleet_in
@@ -162,14 +150,6 @@ pub ends_last_memory : (old now : Reading) (named : Named) (number : ℕ) (left 
     → (goes : Goes next.Last now mid left_now h.text h.lines) → ReadsFleet told.Memory left left_now
 ends_last_memory old now named number left mid left_now h goes =
     record { taken = h.text ++ goes.more; consumed = Consumes-trans left mid left_now h.text goes.more h.consumed goes.consumed; answers = tt }
-
-first_holds : (a b : Bool) → (a && b) ≡ true → a ≡ true
-first_holds true b h = refl
-first_holds false b h = h
-
--- lines within the limits are few
-pub few_lines : (number : ℕ) (line : List ℕ) → IsTrue (is_within number line) → number ≤ 10000000
-few_lines number line within = leb-true number 10000000 (first_holds (leb number 10000000) (leb (length line) 4096) within)
 
 -- what a line that was heard named, by the line itself
 pub good_is : (good : Bool) (old now : Named) (said line : List ℕ) → good ≡ true → said ≡ line → IsNamed good old (said_by said) now

@@ -1,7 +1,7 @@
 //! The fleet that the text of a source names.
 
 ghost use Rattle.std.specs.Prelude.{◌≡◌, ◌≤◌, IfOk};
-ghost use Rattle.jt_io.specs.Count.{Rose};
+ghost use Rattle.jt_value.specs.Counts.{Rose};
 ghost use Rattle.jt_fleet.specs.FleetLines.{said_by};
 ghost use Rattle.jt_fleet.specs.FleetText.{nothing_named, at_end};
 ghost use Rattle.jt_fleet.specs.Naming.{IsNamed, Ends};

@@ -7,6 +7,5 @@ mod reading;
 mod writing;
 
 pub use header::{Header, Packet};
-pub use jt_escape::BODY_LIMIT;
 pub use reading::{law_of_contents, read_header};
 pub use writing::write_header;

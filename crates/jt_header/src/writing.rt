@@ -6,8 +6,8 @@ ghost use Rattle.jt_header.specs.Content.{IsHeader, header_len, header_octets};
 use crate::attributes::Attributes;
 use crate::header::Header;
 use arrayvec::ArrayVec;
-use jt_escape::CONTENT_LIMIT;
 use jt_value::Edition;
+use jt_value::limits::CONTENT_LIMIT;
 
 /// Writes the header before a body of `body_len` octets, at most 1,023, into an empty `out` (the standard's header). The
 /// header is of either edition, with a phone of that edition, version 0 in 2013, and a packet number from 1 to the total.

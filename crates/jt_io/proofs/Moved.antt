@@ -6,7 +6,7 @@ use Rattle.std.proofs.Math.Seq.{take-add}
 use Rattle.std.proofs.lemmas.Bool.Decides.{Decides-eqb}
 use Rattle.std.proofs.lemmas.List.{take-append-drop, take_all, drop-drop}
 use Rattle.std.specs.Io.KnownBytes.{Appends}
-use Rattle.jt_io.specs.Count.{Counts}
+use Rattle.jt_value.specs.Counts.{Counts}
 use Rattle.jt_io.specs.Sink.{WritesAll}
 
 -- one more write, of what a slice from here on begins with

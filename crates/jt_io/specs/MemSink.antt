@@ -2,7 +2,7 @@
 use Rattle.std.specs.Prelude.{◌≡◌, ℕ, ◌-◌, ◌≤◌, ◌↔◌, ◌⊎◌, min, List, ◌++◌, length, take, Contains}
 use Rattle.jt_io.specs.declared.sink.Put.{Put}
 use Rattle.jt_io.specs.declared.sink.Put.TheVariants.{Count, Failed}
-use Rattle.jt_io.specs.Count.{counted}
+use Rattle.jt_value.specs.Counts.{counted}
 use Rattle.jt_io.specs.Sink.{faults_after}
 
 pub record SinkState : Type 0 where

@@ -2,7 +2,7 @@
 use Rattle.std.specs.Prelude.{◌≡◌, ℕ, ◌↔◌, min, List, [], ◌++◌, length, take, Contains}
 use Rattle.jt_io.specs.declared.source.Got.{Got}
 use Rattle.jt_io.specs.declared.source.Got.TheVariants.{Bytes, End, Failed}
-use Rattle.jt_io.specs.Count.{counted}
+use Rattle.jt_value.specs.Counts.{counted}
 use Rattle.jt_io.specs.Source.{faults_after}
 
 pub record SourceState : Type 0 where

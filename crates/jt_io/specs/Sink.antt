@@ -3,7 +3,7 @@ use Rattle.std.specs.Prelude.{◌≡◌, ℕ, ◌-◌, ◌^◌, ◌<◌, ◌≤�
 use Rattle.std.specs.Io.KnownBytes.{Appends, Keeps}
 use Rattle.jt_io.specs.declared.sink.Put.{Put}
 use Rattle.jt_io.specs.declared.sink.Put.TheVariants.{Count, Failed}
-use Rattle.jt_io.specs.Count.{counted, Rose}
+use Rattle.jt_value.specs.Counts.{counted, Rose}
 
 -- octets that a write took came behind what was written, and a failure takes none
 abbrev pub TakesOctets : Option (List ℕ) → Option (List ℕ) → Put → List ℕ → Type 0

@@ -3,7 +3,7 @@ use Rattle.std.specs.Prelude.{◌≡◌, ℕ, ◌-◌, ◌^◌, ◌<◌, ◌≤�
 use Rattle.std.specs.Io.KnownBytes.{Consumes, Keeps, IsAtEnd}
 use Rattle.jt_io.specs.declared.source.Got.{Got}
 use Rattle.jt_io.specs.declared.source.Got.TheVariants.{Bytes, End, Failed}
-use Rattle.jt_io.specs.Count.{counted, Rose}
+use Rattle.jt_value.specs.Counts.{counted, Rose}
 
 -- octets that a read gave came off the front of what was left, the end comes only where nothing is left, and neither
 -- the end nor a failure takes an octet

@@ -2,7 +2,7 @@
 
 ghost use Rattle.std.specs.Prelude.{◌≡◌, ◌<◌, ◌≤◌, List, ℕ, Option, length, take};
 ghost use Rattle.std.specs.Io.KnownBytes.{Appends};
-ghost use Rattle.jt_io.specs.Count.{Counts, Rose};
+ghost use Rattle.jt_value.specs.Counts.{Counts, Rose};
 ghost use Rattle.jt_io.specs.Inbound.{Inbound, unread};
 ghost use Rattle.jt_io.specs.Sink.{TakesOctets, WriteHasCause, WritesAll, WriteAllHasCause};
 

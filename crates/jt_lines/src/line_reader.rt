@@ -1,7 +1,7 @@
 //! A reader of lines.
 
 ghost use Rattle.std.specs.Prelude.{◌≡◌, ◌≢◌, ◌≤◌, ◌+◌, [], ℕ, List, drop, take, length};
-ghost use Rattle.jt_io.specs.Count.{Rose};
+ghost use Rattle.jt_value.specs.Counts.{Rose};
 ghost use Rattle.jt_io.specs.Source.{ReadHasCause};
 ghost use Rattle.jt_lines.specs.Lines.{HasTold, Goes};
 ghost use Rattle.jt_lines.specs.Cutting.{CutsOn, Ends, PutsAhead};

@@ -1,7 +1,7 @@
 -- What a read does to a link. To be believed.
 use Rattle.std.specs.Prelude.{◌≡◌, ℕ, ◌-◌, ◌^◌, ◌<◌, ◌≤◌, List, Option, length, take}
 use Rattle.std.specs.Io.KnownBytes.{Appends, Consumes, Keeps, IsAtEnd}
-use Rattle.jt_io.specs.Count.{counted, Rose, Counts}
+use Rattle.jt_value.specs.Counts.{counted, Rose, Counts}
 use Rattle.jt_io.specs.Inbound.{Inbound}
 use Rattle.jt_link.specs.declared.link.LinkGot.{LinkGot}
 use Rattle.jt_link.specs.declared.link.LinkGot.TheVariants.{Bytes, Quiet, End, Failed}

@@ -1,6 +1,6 @@
 -- What contracts see of a dial and a listener in memory, and what their calls do. To be believed.
 use Rattle.std.specs.Prelude.{◌≡◌, ℕ, ◌↔◌, ◌⊎◌, Bool, true, false, List, [], Contains, Option, Some, None, if◌then◌else◌}
-use Rattle.jt_io.specs.Count.{counted}
+use Rattle.jt_value.specs.Counts.{counted}
 use Rattle.jt_link.specs.ScriptLink.{LinkState}
 use Rattle.jt_link.specs.ScriptPool.{PoolState, GivesFirst}
 use Rattle.jt_link.specs.declared.listen.Accepted.{Accepted as AcceptedOf}

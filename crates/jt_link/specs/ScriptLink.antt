@@ -1,6 +1,6 @@
 -- What contracts see of a link in memory, and what its calls do. To be believed.
 use Rattle.std.specs.Prelude.{◌≡◌, ℕ, ◌+◌, ◌-◌, ◌^◌, ◌≤◌, ◌↔◌, ◌⊎◌, min, List, [], ◌∷◌, ◌++◌, length, take, drop, replicate, Contains, Option, Some, None}
-use Rattle.jt_io.specs.Count.{counted}
+use Rattle.jt_value.specs.Counts.{counted}
 use Rattle.jt_io.specs.Inbound.{Inbound}
 use Rattle.jt_io.specs.declared.sink.Put.{Put}
 use Rattle.jt_io.specs.declared.sink.Put.TheVariants as puts

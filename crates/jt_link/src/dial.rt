@@ -2,7 +2,7 @@
 
 ghost use Rattle.std.specs.Prelude.{◌≡◌, ◌<◌, ℕ, IfSome, IsNone};
 ghost use Rattle.std.specs.Prelude.{option_map};
-ghost use Rattle.jt_io.specs.Count.{Rose, Counts};
+ghost use Rattle.jt_value.specs.Counts.{Rose, Counts};
 ghost use Rattle.jt_link.specs.Link.{wire_of};
 ghost use Rattle.jt_link.specs.Pool.{Pool, GivesLink, taken_back};
 

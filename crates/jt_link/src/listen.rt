@@ -1,7 +1,7 @@
 //! Listeners: who gives links as they come.
 
 ghost use Rattle.std.specs.Prelude.{◌≡◌, ◌<◌, ℕ, false, IfSome};
-ghost use Rattle.jt_io.specs.Count.{Rose, Counts};
+ghost use Rattle.jt_value.specs.Counts.{Rose, Counts};
 ghost use Rattle.jt_link.specs.Link.{wire_of};
 ghost use Rattle.jt_link.specs.Pool.{Pool, taken_back};
 ghost use Rattle.jt_link.specs.Accepted.{Accepts};

@@ -2,7 +2,7 @@
 
 ghost use Rattle.std.specs.Prelude.{◌≡◌, ◌<◌, [], Some, IfOk, IfSome, IsNone};
 ghost use Rattle.std.specs.Prelude.{option_map};
-ghost use Rattle.jt_io.specs.Count.{Rose, Counts};
+ghost use Rattle.jt_value.specs.Counts.{Rose, Counts};
 ghost use Rattle.jt_link.specs.Pool.{GivesLink, taken_back};
 ghost use Rattle.jt_link.specs.ScriptLink.{AreUntouched};
 ghost use Rattle.jt_link.specs.ScriptPool.{pool_of, wire, with_back};

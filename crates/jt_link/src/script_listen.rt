@@ -1,7 +1,7 @@
 //! A listener in memory, for tests.
 
 ghost use Rattle.std.specs.Prelude.{◌≡◌, ◌<◌, [], Some, IfOk, IfSome, false};
-ghost use Rattle.jt_io.specs.Count.{Rose, Counts};
+ghost use Rattle.jt_value.specs.Counts.{Rose, Counts};
 ghost use Rattle.jt_link.specs.Pool.{taken_back};
 ghost use Rattle.jt_link.specs.Accepted.{Accepts};
 ghost use Rattle.jt_link.specs.declared.listen.Accepted.TheVariants.{Failed};

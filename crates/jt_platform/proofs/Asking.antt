@@ -1,7 +1,7 @@
 use Rattle.std.proofs.Common.{◌≡◌, ℕ, List, [], ◌∷◌, ◌++◌, map, Bool, true, false, if◌then◌else◌, subst, refl, sym, ap}
 use Rattle.std.proofs.lemmas.List.{append-nil, map-append}
 use Rattle.jt_turn.specs.Histories.{entry_if}
-use Rattle.jt_store.specs.Tables.{Rose}
+use Rattle.jt_value.specs.Counts.{Rose}
 use Rattle.jt_platform.specs.declared.request.Request.{Request}
 use Rattle.jt_platform.specs.declared.request.Request.TheVariants as ask
 use Rattle.jt_platform.specs.declared.request.Reply.{Reply}

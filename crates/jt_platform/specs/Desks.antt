@@ -1,7 +1,7 @@
 -- A hub's history as that of a desk, and which replies it may give there (this project's own). To be believed.
 use Rattle.std.specs.Prelude.{◌≡◌, ℕ, List, map, false}
 use Rattle.jt_turn.specs.declared.entry.Entry.{Entry as Turned}
-use Rattle.jt_store.specs.Tables.{Rose}
+use Rattle.jt_value.specs.Counts.{Rose}
 use Rattle.jt_platform.specs.declared.request.Request.{Request}
 use Rattle.jt_platform.specs.declared.request.Request.TheVariants as ask
 use Rattle.jt_platform.specs.declared.request.Reply.{Reply}

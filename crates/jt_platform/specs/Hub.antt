@@ -1,6 +1,7 @@
 -- What contracts see of a hub (this project's own). To be believed.
 use Rattle.std.specs.Prelude.{◌≡◌, ◌≢◌, ◌≤◌, ℕ, List, [], ◌∷◌, ◌++◌, Bool, false, Option, if◌then◌else◌}
-use Rattle.jt_store.specs.Tables.{Tables, Rose}
+use Rattle.jt_store.specs.Tables.{Tables}
+use Rattle.jt_value.specs.Counts.{Rose}
 use Rattle.jt_platform.specs.declared.request.Fleet.{Fleet}
 use Rattle.jt_platform.specs.declared.request.Request.{Request}
 use Rattle.jt_platform.specs.declared.request.Reply.{Reply}

@@ -1,6 +1,6 @@
 -- Why a run of `platform` ends with a status.
 use Rattle.std.proofs.Common.{◌≡◌, ◌≢◌, ◌≤◌, ◌+◌, ◌⊎◌, inl, inr, ℕ, Bool, true, false, if◌then◌else◌, List, [], ◌∷◌, length, Option, Some, None, refl, sym, subst, ◌∙◌, arith}
-use Rattle.jt_io.specs.Count.{Rose, RoseBy}
+use Rattle.jt_value.specs.Counts.{Rose, RoseBy}
 use Rattle.jt_link.specs.Pool.{Pool}
 use Rattle.jt_runner.specs.Answer.{IsFault}
 use Rattle.jt_runner.specs.declared.status.Status.{Status}

@@ -1,7 +1,7 @@
 -- What a run of `platform` does, and what came of it. To be believed.
 use Rattle.std.specs.Prelude.{◌≡◌, ◌⊎◌, ◌<◌, ℕ, List, [], length, map, Option}
 use Rattle.std.specs.Io.KnownBytes.{Consumes, IsAtEnd}
-use Rattle.jt_io.specs.Count.{Rose, RoseBy}
+use Rattle.jt_value.specs.Counts.{Rose, RoseBy}
 use Rattle.jt_link.specs.Pool.{Pool}
 use Rattle.jt_store.specs.Tables.{Tables}
 use Rattle.jt_turn.specs.Histories.{entries_of}

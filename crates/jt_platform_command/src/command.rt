@@ -2,7 +2,7 @@
 
 ghost use Rattle.std.specs.Prelude.{◌≡◌, ◌≢◌, ◌≤◌, ◌⊎◌, [], Some, None, Option};
 ghost use Rattle.std.specs.Io.KnownBytes.{IsAtEnd};
-ghost use Rattle.jt_io.specs.Count.{Rose};
+ghost use Rattle.jt_value.specs.Counts.{Rose};
 ghost use Rattle.jt_platform.specs.History.{newest, tables_after};
 ghost use Rattle.jt_platform.specs.declared.desk.HubOpening.{HubOpening};
 ghost use Rattle.jt_platform_command.specs.Platform.{first_limit};

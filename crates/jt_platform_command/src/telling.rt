@@ -1,7 +1,7 @@
 //! What `platform` writes of what came of it.
 
 ghost use Rattle.std.specs.Prelude.{◌≡◌, ◌≢◌, ◌⊎◌, ◌++◌, string_bytes, OnOk, if◌then◌else◌};
-ghost use Rattle.jt_io.specs.Count.{Rose};
+ghost use Rattle.jt_value.specs.Counts.{Rose};
 ghost use Rattle.jt_runner.specs.Answer.{Answers, IsFault};
 ghost use Rattle.jt_runner.specs.declared.status.Status.TheVariants.{Memory};
 ghost use Rattle.jt_platform_command.specs.Platform.{BadLine, NoListener, Served, is_memory, last_reply, platform_text, some_end};

@@ -7,12 +7,10 @@ ghost use Rattle.jt_position.specs.Positions.{position};
 use crate::fixed::Fixed;
 use crate::position::{Position, write_position};
 use crate::position_view::view_position;
+use jt_value::limits::BODY_LIMIT;
 use jt_value::{Memory, Octets, Refusal, Seq};
 use std::alloc::{AllocError, Global};
 use std::marker::Model;
-
-/// The most octets of a fix (this project's own limit: the body of one packet).
-const FIX_LIMIT: usize = 1023;
 
 /// The octets of a position, at most 1,023.
 #[derive(Drop)]
@@ -69,7 +67,7 @@ impl Fix {
     pub fn read(alloc: Global, octets: &[u8]) -> Result<Fix, FixError>
         ensures { FixAnswer octets.now result }
     {
-        if octets.len() > FIX_LIMIT {
+        if octets.len() > BODY_LIMIT {
             return Err(FixError::Long(octets.len() as u64));
         }
         view_position(octets)?;

@@ -1,7 +1,7 @@
 -- How the parts of a run make one.
 use Rattle.std.proofs.Common.{◌≡◌, ◌≢◌, ◌≤◌, ◌⊎◌, inl, inr, ℕ, List, [], Option, Ok, Err, IsErrOf, refl, sym, ap, subst, ◌∙◌, arith}
 use Rattle.std.proofs.KnownBytes.{Appends-nil, Consumes-nil}
-use Rattle.jt_io.specs.Count.{Rose}
+use Rattle.jt_value.specs.Counts.{Rose}
 use Rattle.jt_link.specs.Pool.{Pool}
 use Rattle.jt_link.specs.Time.{Time}
 use Rattle.jt_script.specs.Text.{lines_of}

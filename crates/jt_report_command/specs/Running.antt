@@ -1,7 +1,7 @@
 -- What a run of `report` does, and what came of it. To be believed.
 use Rattle.std.specs.Prelude.{◌≡◌, ◌≢◌, ◌≤◌, ◌⊎◌, ℕ, false, List, [], Option}
 use Rattle.std.specs.Io.KnownBytes.{Consumes, IsAtEnd}
-use Rattle.jt_io.specs.Count.{Rose, RoseBy}
+use Rattle.jt_value.specs.Counts.{Rose, RoseBy}
 use Rattle.jt_link.specs.Pool.{Pool}
 use Rattle.jt_link.specs.Time.{Time}
 use Rattle.jt_script.specs.Text.{lines_of}

@@ -1,6 +1,6 @@
 -- What the parts of a run do. Step functions for the proofs.
 use Rattle.std.specs.Prelude.{◌≡◌, ◌≤◌, ◌⊎◌, ℕ, Bool, false, List, Option}
-use Rattle.jt_io.specs.Count.{RoseBy}
+use Rattle.jt_value.specs.Counts.{RoseBy}
 use Rattle.jt_agent.specs.Tries.{Between, Reports, dials_in, ends_told}
 use Rattle.jt_agent.specs.declared.reporting.Outcome.{Outcome}
 use Rattle.jt_fix_lines.specs.declared.noting.FixesError.{FixesError}

@@ -1,7 +1,7 @@
 //! What `report` writes of what came of it.
 
 ghost use Rattle.std.specs.Prelude.{◌≡◌, ◌≢◌, ◌⊎◌, ◌++◌, string_bytes, OnOk};
-ghost use Rattle.jt_io.specs.Count.{Rose};
+ghost use Rattle.jt_value.specs.Counts.{Rose};
 ghost use Rattle.jt_runner.specs.Answer.{Answers};
 ghost use Rattle.jt_report_command.specs.Came.{BadLine, BeyondLimits, Reported, VaultFailed, VaultFull, full_line, report_text};
 ghost use Rattle.jt_report_command.specs.Report.{outcome_reply};

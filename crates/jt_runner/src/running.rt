@@ -2,7 +2,7 @@
 
 ghost use Rattle.std.specs.Prelude.{◌≡◌, ◌≢◌, ◌⊎◌, ◌<◌, ◌≤◌, ◌+◌, ◌^◌, ℕ, List, [], Some, None, Option, length, string_bytes, IfOk, IfSome};
 ghost use Rattle.std.specs.Io.KnownBytes.{IsAtEnd};
-ghost use Rattle.jt_io.specs.Count.{Rose};
+ghost use Rattle.jt_value.specs.Counts.{Rose};
 ghost use Rattle.jt_runner.specs.Answer.{AnswersWhole, EndsEarly, PrintsTaken, ReadsNoFurther, RunsTelling, StopsAtWrite};
 ghost use Rattle.jt_runner.specs.Running.{Advances, Finishes, Writes};
 ghost use Rattle.jt_runner.specs.Telling.{SomeStands};

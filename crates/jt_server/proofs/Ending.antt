@@ -5,7 +5,7 @@ use Rattle.std.proofs.lemmas.List.{length-map, length-reverse}
 use lib.ListN.{get_elem?}
 use mathlib.Core.List.{IsPrefix}
 use mathlib.Core.Option.{some}
-use Rattle.jt_io.specs.Count.{Counts}
+use Rattle.jt_value.specs.Counts.{Counts}
 use Rattle.jt_link.specs.Link.{Wire}
 use Rattle.jt_link.specs.Pool.{Pool, Used, used_of}
 use Rattle.jt_store.specs.Tables.{Tables}

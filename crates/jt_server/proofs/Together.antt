@@ -5,7 +5,7 @@ use Rattle.std.proofs.lemmas.List.{append-nil, length-map, length-reverse, rever
 use lib.ListN.{get_elem?}
 use mathlib.Core.List.{IsPrefix}
 use mathlib.Core.Option.{some, some-ne-none}
-use Rattle.jt_io.specs.Count.{Rose, RoseBy}
+use Rattle.jt_value.specs.Counts.{Rose, RoseBy}
 use Rattle.jt_link.specs.Link.{Wire}
 use Rattle.jt_link.specs.Pool.{Pool, Script, Used, IsNew, used_of}
 use Rattle.jt_turn.specs.declared.entry.Entry.{Entry as Turned}

@@ -14,7 +14,7 @@ use Rattle.jt_platform.specs.declared.request.Reply.{Reply}
 use Rattle.jt_session.specs.declared.report.Report.{Report}
 use Rattle.jt_session.specs.Hearing.{IsSamePass}
 use Rattle.jt_session.specs.Serving.{Serves}
-use Rattle.jt_io.specs.Count.{Counts, RoseBy}
+use Rattle.jt_value.specs.Counts.{Counts, RoseBy}
 use Rattle.jt_turn.specs.Histories.{entries_of}
 use Rattle.jt_platform.specs.Allowed.{Legal}
 use Rattle.jt_platform.specs.Desks.{as_ask}

@@ -5,7 +5,7 @@ use lib.ListN.{get_elem?}
 use mathlib.Core.Option.{some}
 use Rattle.jt_value.specs.Sameness.{key_of}
 use Rattle.jt_value.specs.declared.phone.Phone.{Phone}
-use Rattle.jt_io.specs.Count.{Rose}
+use Rattle.jt_value.specs.Counts.{Rose}
 use Rattle.jt_link.specs.Link.{Wire}
 use Rattle.jt_link.specs.Pool.{Pool, Script, Used, used_of, IsNew}
 use Rattle.jt_store.specs.Tables.{Told}

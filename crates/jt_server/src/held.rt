@@ -1,7 +1,7 @@
 //! A listener that was lent, as a value: so contracts know what became of it in a scope of threads.
 
 ghost use Rattle.std.specs.Prelude.{◌≡◌, ℕ};
-ghost use Rattle.jt_io.specs.Count.{Counts, Rose};
+ghost use Rattle.jt_value.specs.Counts.{Counts, Rose};
 ghost use Rattle.jt_link.specs.Accepted.{Accepts};
 ghost use Rattle.jt_link.specs.Link.{wire_of};
 ghost use Rattle.jt_link.specs.Pool.{Pool};

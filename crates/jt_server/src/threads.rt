@@ -2,7 +2,7 @@
 
 ghost use Rattle.std.specs.Prelude.{◌≡◌, ◌≢◌, ◌≤◌, ◌<◌, ◌+◌, ◌-◌, ◌^◌, ◌++◌, ◌⊎◌, ℕ, List, [], map, max, reverse, length, Option, Some, IfOk, IfSome, IsSomeAnd, MatchResult, option_map};
 ghost use Rattle.std.specs.Thread.{IsSync};
-ghost use Rattle.jt_io.specs.Count.{Counts, RoseBy};
+ghost use Rattle.jt_value.specs.Counts.{Counts, RoseBy};
 ghost use Rattle.jt_link.specs.Link.{wire_of};
 ghost use Rattle.jt_link.specs.Pool.{Script, used_of};
 ghost use Rattle.jt_turn.specs.Passes.{TurnId};

@@ -8,7 +8,8 @@ use mathlib.Core.Logic.{dite}
 use native.Mathlib.Decide.{ℕ_discrete}
 use Rattle.jt_value.specs.Sameness.{key_of}
 use Rattle.jt_value.specs.declared.phone.Phone.{Phone}
-use Rattle.jt_store.specs.Tables.{Tables, Told, Rose}
+use Rattle.jt_store.specs.Tables.{Tables, Told}
+use Rattle.jt_value.specs.Counts.{Rose}
 use Rattle.jt_turn.specs.declared.entry.Entry.{Entry as Turned}
 use Rattle.jt_turn.specs.Histories.{entry_if}
 use Rattle.jt_turn.specs.Passes.{PassState}

@@ -6,7 +6,7 @@ use Rattle.std.proofs.KnownBytes.{Appends-nil, Appends-trans, Appends-kept, Cons
 use Rattle.std.specs.Io.KnownBytes.{Appends}
 use mathlib.Core.List.{IsPrefix}
 use Rattle.jt_value.specs.Octets.{AreOctets}
-use Rattle.jt_io.specs.Count.{Counts, Rose, RoseBy, counted}
+use Rattle.jt_value.specs.Counts.{Counts, Rose, RoseBy, counted}
 use Rattle.jt_io.specs.Inbound.{Inbound}
 use Rattle.jt_link.specs.Link.{Gives, GivesNone, ReadHasCause, Reads, Wire}
 use Rattle.jt_link.specs.declared.link.LinkGot.TheVariants.{Bytes, Quiet, End, Failed}

@@ -3,6 +3,7 @@ use Rattle.std.specs.Prelude.{◌≡◌, ◌≢◌, ◌⊎◌, ℕ, ◌<◌, ◌
 use Rattle.jt_value.specs.Octets.{AreOctets}
 use Rattle.jt_value.specs.Sameness.{key_of}
 use Rattle.jt_value.specs.declared.phone.Phone.{Phone}
+use Rattle.jt_value.specs.declared.ids.TheConstants.{AUTH, DEREGISTER, PLATFORM_ACK, REGISTER, REGISTER_REPLY, RESEND}
 use Rattle.jt_header.specs.Content.{IsHeader}
 use Rattle.jt_header.specs.declared.header.Header.{Header}
 use Rattle.jt_stream.specs.Unplaced.{Unplaced, Message as Frame}
@@ -28,17 +29,17 @@ IsOf key (Some phone) = key_of phone ≡ key
 
 -- an id of none of the messages that ask something of their own
 pub record IsOtherId (id : ℕ) : Type 0 where
-  pub register : id ≢ 0x0100
-  pub auth : id ≢ 0x0102
-  pub deregister : id ≢ 0x0003
+  pub register : id ≢ REGISTER
+  pub auth : id ≢ AUTH
+  pub deregister : id ≢ DEREGISTER
   pub unit : IsUnitId id → ⊥
 
 -- what a message of this phone and id may ask: always of its own phone
 abbrev pub MayAsk : Phone → ℕ → Request → Type 0
-MayAsk own id (ask.Register phone register) = (phone ≡ own) × (id ≡ 0x0100)
-MayAsk own id (ask.Auth phone code) = (phone ≡ own) × (id ≡ 0x0102)
+MayAsk own id (ask.Register phone register) = (phone ≡ own) × (id ≡ REGISTER)
+MayAsk own id (ask.Auth phone code) = (phone ≡ own) × (id ≡ AUTH)
 MayAsk own id (ask.Unit phone serial asked octets) = (phone ≡ own) × (asked ≡ id) × IsUnitId id
-MayAsk own id (ask.Deregister phone) = (phone ≡ own) × (id ≡ 0x0003)
+MayAsk own id (ask.Deregister phone) = (phone ≡ own) × (id ≡ DEREGISTER)
 MayAsk own id (ask.Other phone asked) = (phone ≡ own) × (asked ≡ id) × IsOtherId id
 MayAsk own id ask.Close = ⊥
 
@@ -61,7 +62,7 @@ pub record IsAnswer (h : Header) (said : Header × List ℕ) : Type 0 where
   pub phone : said.0.phone ≡ h.phone
   pub whole : said.0.packet ≡ None
   pub short : length said.1 < 2 ^ 10
-  pub id : (said.0.id ≡ 0x8001) ⊎ ((said.0.id ≡ 0x8100) ⊎ (said.0.id ≡ 0x8003))
+  pub id : (said.0.id ≡ PLATFORM_ACK) ⊎ ((said.0.id ≡ REGISTER_REPLY) ⊎ (said.0.id ≡ RESEND))
 
 -- no message that tells a terminal of success
 abbrev pub IsNoSuccess : Message → Type 0
@@ -84,7 +85,7 @@ pub record AnswersAre : Type 0 where
   -- where nothing was asked no success is told
   pub no_success : (s : State) (item : Unplaced) → IfSome (quiet s item).says SaysNoSuccess
   -- an accepted authentication is told its acceptance
-  pub entered : (s : State) (h : Header) (octets : List ℕ) (m : Header × List ℕ) → message_of s h octets h.packet ≡ Some m → m.0.id ≡ 0x0102
+  pub entered : (s : State) (h : Header) (octets : List ℕ) (m : Header × List ℕ) → message_of s h octets h.packet ≡ Some m → m.0.id ≡ AUTH
       → (told s (Frame h octets) say.Accepted).says ≡ Some (message_to (reads_on s h octets h.packet) m.0 (ack m.0 0))
   -- a message that stands in a row is told its acceptance
   pub stored : (s : State) (h : Header) (octets : List ℕ) (m : Header × List ℕ) (r : Reply) → message_of s h octets h.packet ≡ Some m → is_stored r ≡ true
@@ -94,6 +95,6 @@ pub record AnswersAre : Type 0 where
   pub unit_alone : (h : Header) (r : Reply) (serial id result : ℕ) → IsUnitId h.id → answer_to h r ≡ Some (message.PlatformAck serial id result) → (result ≡ 0) ⊎ (result ≡ 4) → is_stored r ≡ true
   -- Of the replies that a history allows to an authentication, and of faults and want of memory, it is told one at Accepted alone. At
   -- any reply at all it is told one at no other but those to a unit that stands in a row, which no history allows to it.
-  pub auth_alone : (o : Opening) (past : List Entry) (session : ℕ) (phone : Phone) (code : List ℕ) (h : Header) (r : Reply) (serial id result : ℕ) → h.id ≡ 0x0102 → (is_trouble r ≡ false → Allowed o past session (ask.Auth phone code) r)
+  pub auth_alone : (o : Opening) (past : List Entry) (session : ℕ) (phone : Phone) (code : List ℕ) (h : Header) (r : Reply) (serial id result : ℕ) → h.id ≡ AUTH → (is_trouble r ≡ false → Allowed o past session (ask.Auth phone code) r)
       → answer_to h r ≡ Some (message.PlatformAck serial id result) → (result ≡ 0) ⊎ (result ≡ 4) → r ≡ say.Accepted
-  pub auth_unstored : (h : Header) (r : Reply) (serial id result : ℕ) → h.id ≡ 0x0102 → is_stored r ≡ false → answer_to h r ≡ Some (message.PlatformAck serial id result) → (result ≡ 0) ⊎ (result ≡ 4) → r ≡ say.Accepted
+  pub auth_unstored : (h : Header) (r : Reply) (serial id result : ℕ) → h.id ≡ AUTH → is_stored r ≡ false → answer_to h r ≡ Some (message.PlatformAck serial id result) → (result ≡ 0) ⊎ (result ≡ 4) → r ≡ say.Accepted

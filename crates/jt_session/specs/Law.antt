@@ -1,5 +1,6 @@
 -- The laws of talks and of answers (this project's own). To be believed.
 use Rattle.std.specs.Prelude.{◌≡◌, ◌≢◌, ◌⊎◌, ℕ, List, [], ◌∷◌, ◌++◌, length, Bool, true, false, if◌then◌else◌, Option, None, Some}
+use Rattle.jt_value.specs.declared.ids.TheConstants.{BATCH, POSITION}
 use Rattle.jt_header.specs.declared.header.Header.{Header}
 use Rattle.jt_codec.specs.declared.message.Message.TheVariants as message
 use Rattle.jt_platform.specs.declared.request.Request.{Request}
@@ -38,7 +39,7 @@ IsOneTalk =
 
 -- a unit is one message of positions
 abbrev pub IsUnitId : ℕ → Type 0
-IsUnitId id = (id ≡ 0x0200) ⊎ (id ≡ 0x0704)
+IsUnitId id = (id ≡ POSITION) ⊎ (id ≡ BATCH)
 
 -- the unit stands in a row
 abbrev pub is_stored : Reply → Bool

@@ -3,7 +3,7 @@ use Rattle.std.specs.Prelude.{◌≡◌, ◌≢◌, ◌≤◌, ◌*◌, ◌⊎�
 use Rattle.jt_value.specs.Octets.{AreOctets}
 use Rattle.std.specs.Io.KnownBytes.{Appends, IsAtEnd}
 use mathlib.Core.List.{IsPrefix}
-use Rattle.jt_io.specs.Count.{Counts, Rose, RoseBy}
+use Rattle.jt_value.specs.Counts.{Counts, Rose, RoseBy}
 use Rattle.jt_link.specs.Link.{Wire, Gives}
 use Rattle.jt_turn.specs.declared.entry.Entry.{Entry as Turned}
 use Rattle.jt_turn.specs.Passes.{PassState}

@@ -5,7 +5,7 @@ use Rattle.jt_value.specs.Octets.{AreOctets}
 use Rattle.jt_escape.specs.Scan.{State as Splitting}
 use Rattle.jt_escape.specs.Splitter.{StandsFor}
 use Rattle.jt_stream.specs.Unplaced.{Unplaced, items}
-use Rattle.jt_store.specs.Tables.{Rose}
+use Rattle.jt_value.specs.Counts.{Rose}
 use Rattle.jt_platform.specs.declared.request.Request.{Request}
 use Rattle.jt_platform.specs.declared.request.Reply.{Reply}
 use Rattle.jt_platform.specs.declared.request.Reply.TheVariants as say

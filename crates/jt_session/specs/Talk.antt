@@ -6,6 +6,7 @@ use Rattle.jt_value.specs.declared.phone.Phone.{Phone}
 use Rattle.jt_value.specs.declared.phone.Edition.{Edition}
 use Rattle.jt_value.specs.declared.phone.Edition.TheVariants.{E2013, E2019}
 use Rattle.jt_value.specs.declared.refusal.Refusal.{Refusal}
+use Rattle.jt_value.specs.declared.ids.TheConstants.{AUTH, DEREGISTER, HEARTBEAT, PARAMS, POSITION_REPLY, REGISTER, TERMINAL_ACK}
 use Rattle.jt_escape.specs.Frame.{framed}
 use Rattle.jt_header.specs.Content.{content_of}
 use Rattle.jt_header.specs.declared.header.Header.{Header}
@@ -148,11 +149,11 @@ quiet s (Frame h octets) =
 
 -- the ids of messages that the terminal answers with, which are not answered themselves
 abbrev pub is_answer : ℕ → Bool
-is_answer id = (id == 0x0001) || (id == 0x0104) || (id == 0x0201)
+is_answer id = (id == TERMINAL_ACK) || (id == PARAMS) || (id == POSITION_REPLY)
 
 -- the result that an accepted message is answered with: 3 where the platform does nothing with messages of the id
 abbrev pub accepted_result : ℕ → ℕ
-accepted_result id = if (id == 0x0102) || (id == 0x0003) || (id == 0x0002) then 0 else 3
+accepted_result id = if (id == AUTH) || (id == DEREGISTER) || (id == HEARTBEAT) then 0 else 3
 
 abbrev pub register_reply : Header → ℕ → List ℕ → Message
 register_reply h result code = message.RegisterReply (record { reply = h.serial; result = result; code = code })
@@ -160,7 +161,7 @@ register_reply h result code = message.RegisterReply (record { reply = h.serial;
 -- what is written at a reply to the message's request
 abbrev pub answer_to : Header → Reply → Option Message
 answer_to h (say.Registered code) = Some (register_reply h 0 code)
-answer_to h (say.Denied n) = Some (if h.id == 0x0100 then register_reply h n [] else ack h 1)
+answer_to h (say.Denied n) = Some (if h.id == REGISTER then register_reply h n [] else ack h 1)
 answer_to h say.Accepted = if is_answer h.id then None else Some (ack h (accepted_result h.id))
 answer_to h (say.Stored n) = Some (ack h 0)
 answer_to h (say.Repeat n) = Some (ack h 0)

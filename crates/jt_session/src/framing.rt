@@ -5,18 +5,9 @@ ghost use Rattle.jt_escape.specs.Frame.{escaped_octet, framed};
 ghost use Rattle.jt_header.specs.Content.{IsHeader, content_of};
 
 use arrayvec::ArrayVec;
-use jt_escape::check;
+use jt_escape::{ESCAPE, ESCAPE_CODE, FLAG, FLAG_CODE, check};
 use jt_header::{Header, write_header};
 use jt_value::Buffer;
-
-/// The octets of the standard's framing.
-const FLAG: u8 = 0x7e;
-
-const ESCAPE: u8 = 0x7d;
-
-const ESCAPE_CODE: u8 = 0x01;
-
-const FLAG_CODE: u8 = 0x02;
 
 // Puts an octet for which there is room.
 fn put(out: &mut Buffer<u8>, octet: u8)

@@ -13,44 +13,21 @@ ghost use Rattle.jt_session.specs.Replies.{HasRoomFor};
 use crate::framing::put_frame;
 use arrayvec::ArrayVec;
 use jt_codec::law_of_acks;
-use jt_header::{BODY_LIMIT, Header};
+use jt_header::Header;
 use jt_platform::Reply;
 use jt_subpacket::Assembler;
+use jt_value::ids::{
+    AUTH, DEREGISTER, HEARTBEAT, PARAMS, PLATFORM_ACK, POSITION_REPLY, REGISTER, REGISTER_REPLY,
+    TERMINAL_ACK,
+};
+use jt_value::limits::BODY_LIMIT;
+use jt_value::results::{FAILURE, NOT_SUPPORTED, SUCCESS};
 use jt_value::{Buffer, Phone};
 use std::alloc::Global;
 use std::marker::Model;
 
-/// The ids of what the platform writes (the standard's message bodies).
-const PLATFORM_ACK: u16 = 0x8001;
-
-const REGISTER_REPLY: u16 = 0x8100;
-
-/// The ids of what a terminal sends that are answered each in a way of its own (the standard's message bodies).
-const TERMINAL_ACK: u16 = 0x0001;
-
-const HEARTBEAT: u16 = 0x0002;
-
-const DEREGISTER: u16 = 0x0003;
-
-const REGISTER: u16 = 0x0100;
-
-const AUTH: u16 = 0x0102;
-
-const PARAMS: u16 = 0x0104;
-
-const POSITION_REPLY: u16 = 0x0201;
-
 /// The octets of a general response's body (the standard's message body of it).
 const ACK_LENGTH: usize = 5;
-
-/// The results of a general response (the standard's message body of it).
-const SUCCESS: u8 = 0;
-
-pub(crate) const FAILURE: u8 = 1;
-
-pub(crate) const MESSAGE_ERROR: u8 = 2;
-
-const NOT_SUPPORTED: u8 = 3;
 
 /// What a session keeps between items.
 #[derive(Drop)]

@@ -13,19 +13,18 @@ ghost use Rattle.jt_session.specs.Talk.{answers_packet, asked_by, first_phone, f
 ghost use Rattle.jt_session.specs.Talk as talk;
 ghost use Rattle.jt_session.specs.Reading.{AreBelow, CameTo, FrameCame, IsOneMore, OctetsCame, joined, takes_in};
 
-use crate::kept::{FAILURE, Kept, MESSAGE_ERROR};
+use crate::kept::Kept;
 use crate::request::request_of;
 use crate::step::Came;
 use arrayvec::ArrayVec;
-use jt_escape::FRAME_LIMIT;
-use jt_header::{BODY_LIMIT, Header};
+use jt_header::Header;
 use jt_stream::{Stream, StreamItem, law_items, law_one_list};
 use jt_subpacket::{Fate, PartKey, Taken};
+use jt_value::ids::RESEND;
+use jt_value::limits::{BODY_LIMIT, FRAME_LIMIT};
+use jt_value::results::{FAILURE, MESSAGE_ERROR};
 use jt_value::{Buffer, Edition, Memory, Phone};
 use std::alloc::Global;
-
-/// The id of a request to send packets again (the standard's message bodies).
-const RESEND: u16 = 0x8003;
 
 /// The most octets of a frame (the standard's framing).
 const MOST_IN_A_FRAME: u64 = FRAME_LIMIT as u64;

@@ -7,9 +7,10 @@ ghost use Rattle.jt_session.specs.Talk as talk;
 ghost use Rattle.jt_platform.specs.declared.request.Request.TheVariants as ask;
 
 use jt_codec::{Message, MessageView, law_of_bodies, read_body, view_message};
-use jt_header::{BODY_LIMIT, Header};
+use jt_header::Header;
 use jt_platform::Request;
 use jt_register::Auth;
+use jt_value::limits::BODY_LIMIT;
 use jt_value::{CodecError, Memory, Octets};
 use std::alloc::Global;
 

@@ -1,7 +1,8 @@
 //! What a store answers, and its count of faults.
 
 ghost use Rattle.std.specs.Prelude.{◌≡◌, ◌≤◌, ◌-◌, ◌^◌, ℕ, List, None, Ok, IfOk, length, true};
-ghost use Rattle.jt_store.specs.Tables.{HasCause, IsSteady, Rose, Tables, Writes, WritesWithin};
+ghost use Rattle.jt_store.specs.Tables.{HasCause, IsSteady, Tables, Writes, WritesWithin};
+ghost use Rattle.jt_value.specs.Counts.{Rose};
 ghost use Rattle.jt_store.specs.Vaults.{Held, unsettled};
 ghost use Rattle.jt_sql.specs.Untold.{IsNotFull};
 

@@ -10,7 +10,7 @@ use Rattle.jt_value.specs.Serials.{gap_of, serial_of}
 use Rattle.jt_store.specs.declared.unit.Unit.{Unit as OneUnit}
 use Rattle.jt_store.specs.Memory.{IsStock}
 use Rattle.jt_position.specs.Fixes.{fixes_of}
-use Rattle.jt_store.specs.Vaults.{Held, Forms, AreInOrder, Gaps, IsUnit, IsWhole, MayForm, carried, fixes_in_units, formed, gap_after, held_by, last_serial, pending}
+use Rattle.jt_store.specs.Vaults.{Held, Forms, AreInOrder, Gaps, IsUnit, IsWhole, MayCommit, fixes_carried, fixes_in_units, formed, gap_after, held_by, last_serial, pending}
 
 -- ---- gaps
 
@@ -67,13 +67,13 @@ order_formed mark next u units code m is from near one =
     record { gaps = gaps-push mark 1 units u is.gaps (omega arith) near one; behind = omega arith; near = omega arith; short = is.short }
 
 -- what one unit more carries, and some of the units
-carried-push : (units : List OneUnit) (u : OneUnit) → carried (units ++ u ∷ []) ≡ carried units + u.count
+carried-push : (units : List OneUnit) (u : OneUnit) → fixes_carried (units ++ u ∷ []) ≡ fixes_carried units + u.count
 carried-push units u = let sum = sum_by-append (λ (x : OneUnit). x.count) units (u ∷ []) in omega (arith, sum)
 
-carried-le : (n : ℕ) (units : List OneUnit) → carried (take n units) ≤ carried units
+carried-le : (n : ℕ) (units : List OneUnit) → fixes_carried (take n units) ≤ fixes_carried units
 carried-le n units =
-    let sum : carried (take n units ++ drop n units) ≡ carried (take n units) + carried (drop n units) = sum_by-append (λ (x : OneUnit). x.count) (take n units) (drop n units) in
-    let same : carried (take n units ++ drop n units) ≡ carried units = ap carried (take-append-drop n units) in
+    let sum : fixes_carried (take n units ++ drop n units) ≡ fixes_carried (take n units) + fixes_carried (drop n units) = sum_by-append (λ (x : OneUnit). x.count) (take n units) (drop n units) in
+    let same : fixes_carried (take n units ++ drop n units) ≡ fixes_carried units = ap fixes_carried (take-append-drop n units) in
     omega arith
 
 -- ---- units carry the first fixes
@@ -91,12 +91,12 @@ fixes_formed h u are is =
     ∙ ap (λ (xs : List (List ℕ)). take (formed h) h.recorded ++ xs) (append-nil (fixes_of (u.id, u.body)) ∙ is)
     ∙ sym (take-add (formed h) u.count h.recorded)
 
-pub stock_formed : (h : Held) (in_units accepted limit : ℕ) (u : OneUnit) → IsStock h in_units accepted limit → h.mark < 65536 → IsUnit u → MayForm h u → IsStock (held_by (Forms u) h) (in_units + u.count) accepted limit
+pub stock_formed : (h : Held) (in_units accepted limit : ℕ) (u : OneUnit) → IsStock h in_units accepted limit → h.mark < 65536 → IsUnit u → MayCommit h u → IsStock (held_by (Forms u) h) (in_units + u.count) accepted limit
 stock_formed h in_units accepted limit u is m one may =
-    let more : carried (h.units ++ u ∷ []) ≡ carried h.units + u.count = carried-push h.units u in
+    let more : fixes_carried (h.units ++ u ∷ []) ≡ fixes_carried h.units + u.count = carried-push h.units u in
     let w = is.whole in
     let first : take h.accepted (h.units ++ u ∷ []) ≡ take h.accepted h.units = take-append-le h.accepted h.units (u ∷ []) w.known in
-    let front : carried (take h.accepted (h.units ++ u ∷ [])) ≡ carried (take h.accepted h.units) = ap carried first in
+    let front : fixes_carried (take h.accepted (h.units ++ u ∷ [])) ≡ fixes_carried (take h.accepted h.units) = ap fixes_carried first in
     let rest : drop h.accepted (h.units ++ u ∷ []) ≡ drop h.accepted h.units ++ u ∷ [] = drop-append-le h.accepted h.units (u ∷ []) w.known in
     let enough = may.enough in
     let known = w.known in
@@ -120,12 +120,12 @@ stock_formed h in_units accepted limit u is m one may =
 
 -- the oldest pending unit
 pub one_more : (units : List OneUnit) (n : ℕ) (u : OneUnit) → slice_get units n ≡ Some u
-    → (carried (take (n + 1) units) ≡ carried (take n units) + u.count) × (drop n units ≡ u ∷ drop (n + 1) units) × (n < length units) × (last_serial 65535 (take (n + 1) units) ≡ u.serial)
+    → (fixes_carried (take (n + 1) units) ≡ fixes_carried (take n units) + u.count) × (drop n units ≡ u ∷ drop (n + 1) units) × (n < length units) × (last_serial 65535 (take (n + 1) units) ≡ u.serial)
 one_more units n u at =
     let within = slice_get_within units n u at in
     let here = get_or_from_slice_get units n u u at in
-    let more : carried (take (n + 1) units) ≡ carried (take n units ++ get_or units n u ∷ []) = ap carried (take_more units n u within) in
-    let sum : carried (take n units ++ get_or units n u ∷ []) ≡ carried (take n units) + (get_or units n u).count = carried-push (take n units) (get_or units n u) in
+    let more : fixes_carried (take (n + 1) units) ≡ fixes_carried (take n units ++ get_or units n u ∷ []) = ap fixes_carried (take_more units n u within) in
+    let sum : fixes_carried (take n units ++ get_or units n u ∷ []) ≡ fixes_carried (take n units) + (get_or units n u).count = carried-push (take n units) (get_or units n u) in
     let count : (get_or units n u).count ≡ u.count = ap (λ (x : OneUnit). x.count) here in
     let next : suc n ≡ n + 1 = omega arith in
     let last : last_serial 65535 (take (n + 1) units) ≡ (get_or units n u).serial = ap (last_serial 65535) (take_more units n u within) ∙ last_serial-push 65535 (take n units) (get_or units n u) in

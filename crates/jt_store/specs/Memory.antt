@@ -10,7 +10,8 @@ use Rattle.jt_store.specs.declared.error.StoreError.{StoreError}
 use Rattle.jt_store.specs.declared.error.StoreError.TheVariants.{Failed}
 use Rattle.jt_store.specs.declared.row.Registered.{Registered}
 use Rattle.jt_store.specs.declared.row.Row.{Row}
-use Rattle.jt_store.specs.Tables.{Tables, counted}
+use Rattle.jt_store.specs.Tables.{Tables}
+use Rattle.jt_value.specs.Counts.{counted}
 use Rattle.jt_store.specs.Vaults.{Held, IsWhole, formed, settled, unsettled}
 
 -- what a list of pairs has under some octets

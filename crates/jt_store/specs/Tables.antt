@@ -1,8 +1,9 @@
 -- What a keeper holds, and what its calls say of it (this project's own). To be believed.
-use Rattle.std.specs.Prelude.{ℕ, ◌≡◌, ◌≢◌, ◌+◌, ◌*◌, ◌-◌, ◌^◌, ◌<◌, ◌≤◌, ◌⊎◌, min, List, [], ◌∷◌, ◌++◌, length, Bool, false, Option, None, Some, Result, Ok, Err, if◌then◌else◌, IsErrOf, IfSome, IsSomeAnd}
+use Rattle.std.specs.Prelude.{ℕ, ◌≡◌, ◌≢◌, ◌+◌, ◌*◌, ◌-◌, ◌^◌, ◌<◌, ◌≤◌, ◌⊎◌, List, [], ◌∷◌, ◌++◌, length, Bool, false, Option, None, Some, Result, Ok, Err, if◌then◌else◌, IsErrOf, IfSome, IsSomeAnd}
 use Rattle.jt_value.specs.declared.phone.Phone.{Phone}
 use Rattle.jt_value.specs.declared.phone.Edition.TheVariants.{E2019}
 use Rattle.jt_value.specs.Sameness.{key_of, same_key}
+use Rattle.jt_value.specs.Counts.{Rose}
 use Rattle.jt_store.specs.declared.row.Row.{Row}
 use Rattle.jt_store.specs.declared.row.Registered.{Registered}
 use Rattle.jt_store.specs.declared.error.StoreError.{StoreError}
@@ -107,14 +108,6 @@ registered_set key registered None = None
 registered_set key registered (Some t) = Some (record { registered = λ q. if same_key key q then registered else t.registered q; rows = t.rows })
 
 -- ---- calls
-
--- one more, up to 2^64 - 1
-abbrev pub counted : ℕ → ℕ
-counted n = min (n + 1) (2 ^ 64 - 1)
-
--- the count rose, or stands at its end
-abbrev pub Rose : ℕ → ℕ → Type 0
-Rose before now = counted before ≤ now
 
 -- the count of faults never falls, and rose where the call failed
 pub record HasCause {T : Type 0} (before now : ℕ) (result : Result T StoreError) : Type 0 where

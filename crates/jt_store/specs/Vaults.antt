@@ -2,6 +2,8 @@
 use Rattle.std.specs.Prelude.{ℕ, ◌≡◌, ◌+◌, ◌-◌, ◌≤◌, ◌⊎◌, List, [], ◌∷◌, ◌++◌, length, take, drop, sum_by, flat_map, Option, None, Some, Result, IfSome, slice_get}
 use denote.Bor.{Bor}
 use Rattle.jt_value.specs.Serials.{gap_of, serial_of}
+use Rattle.jt_value.specs.declared.ids.TheConstants.{POSITION, BATCH}
+use Rattle.jt_value.specs.declared.limits.TheConstants.{BODY_LIMIT, CODE_LIMIT, UNIT_WINDOW}
 use Rattle.jt_position.specs.Fixes.{fixes_of}
 use Rattle.jt_store.specs.declared.unit.Unit.{Unit as OneUnit}
 use Rattle.jt_store.specs.declared.unit.Loaded.{Loaded}
@@ -19,16 +21,16 @@ pub record Held : Type 0 where
   pub code : Option (List ℕ)
 
 -- how many fixes some units carry
-abbrev pub carried : List OneUnit → ℕ
-carried units = sum_by (λ u. u.count) units
+abbrev pub fixes_carried : List OneUnit → ℕ
+fixes_carried units = sum_by (λ u. u.count) units
 
 -- how many fixes are in units
 abbrev pub formed : Held → ℕ
-formed h = carried h.units
+formed h = fixes_carried h.units
 
 -- how many fixes are accepted, and how many are not
 abbrev pub settled : Held → ℕ
-settled h = carried (take h.accepted h.units)
+settled h = fixes_carried (take h.accepted h.units)
 
 abbrev pub unsettled : Held → ℕ
 unsettled h = length h.recorded - settled h
@@ -39,14 +41,14 @@ pending h = drop h.accepted h.units
 
 -- a unit of at least one fix whose message fits one packet
 pub record IsUnit (u : OneUnit) : Type 0 where
-  pub id : (u.id ≡ 0x0200) ⊎ (u.id ≡ 0x0704)
-  pub short : length u.body ≤ 1023
+  pub id : (u.id ≡ POSITION) ⊎ (u.id ≡ BATCH)
+  pub short : length u.body ≤ BODY_LIMIT
   pub some : 1 ≤ u.count
 
 -- the gaps of the units' serials from the mark rise, the first from `low` on and the last up to 32,766
 abbrev pub Gaps : ℕ → ℕ → List OneUnit → Type 0
 Gaps mark low [] = Unit {0}
-Gaps mark low (u ∷ units) = (low ≤ gap_of mark u.serial) × (gap_of mark u.serial ≤ 32766) × IsUnit u × Gaps mark (gap_of mark u.serial + 1) units
+Gaps mark low (u ∷ units) = (low ≤ gap_of mark u.serial) × (gap_of mark u.serial ≤ UNIT_WINDOW) × IsUnit u × Gaps mark (gap_of mark u.serial + 1) units
 
 -- one more than the gap of the last unit, or 1 where there is none
 abbrev pub gap_after : ℕ → ℕ → List OneUnit → ℕ
@@ -57,8 +59,8 @@ gap_after mark low (u ∷ units) = gap_after mark (gap_of mark u.serial + 1) uni
 pub record AreInOrder (mark next : ℕ) (units : List OneUnit) (code : Option (List ℕ)) : Type 0 where
   pub gaps : Gaps mark 1 units
   pub behind : gap_after mark 1 units ≤ gap_of mark next
-  pub near : gap_of mark next ≤ 32767
-  pub short : IfSome code (λ octets. length octets ≤ 255)
+  pub near : gap_of mark next ≤ UNIT_WINDOW + 1
+  pub short : IfSome code (λ octets. length octets ≤ CODE_LIMIT)
 
 -- the serial of the last of some units, or this one where there is none
 abbrev pub last_serial : ℕ → List OneUnit → ℕ
@@ -118,11 +120,11 @@ octets_of None = None
 octets_of (Some code) = Some code.now
 
 -- a unit that may be formed: it carries the next fixes in order, and its serial is the next or a later one near enough to the mark
-pub record MayForm (h : Held) (u : OneUnit) : Type 0 where
+pub record MayCommit (h : Held) (u : OneUnit) : Type 0 where
   pub enough : formed h + u.count ≤ length h.recorded
   pub fixes : fixes_of (u.id, u.body) ≡ take u.count (drop (formed h) h.recorded)
   pub from : gap_of h.mark h.next ≤ gap_of h.mark u.serial
-  pub near : gap_of h.mark u.serial ≤ 32766
+  pub near : gap_of h.mark u.serial ≤ UNIT_WINDOW
 
 -- a call that changes the vault so, or leaves it as it was
 abbrev pub Changes : {T : Type 0} → Change → Option Held → Option Held → Result T StoreError → Type 0

@@ -1,5 +1,6 @@
 -- The serial verdict over the rows of a phone, and the numbers of a terminal's units (this project's own). To be believed.
 use Rattle.std.specs.Prelude.{ℕ, ◌≡◌, ◌<◌, ◌≤◌, ◌+◌, List, [], ◌∷◌, Option, None, Some, if◌then◌else◌}
+use Rattle.jt_value.specs.declared.limits.TheConstants.{UNIT_WINDOW}
 use Rattle.jt_value.specs.Sameness.{same_key}
 use Rattle.jt_value.specs.Serials.{IsVerdict, Verdict, New, Repeat, next_with, serial_of}
 use Rattle.jt_store.specs.declared.row.Registered.{Registered}
@@ -39,7 +40,7 @@ pub record VerdictsNear : Type 0 where
   -- without rows a unit is new under its serial
   pub first : (serial id : ℕ) (body : List ℕ) (v : Verdict) → IsVerdictOn [] serial id body v → v ≡ New serial
   -- a number at most 32,766 above the last row's is new
-  pub new : (rows : List Row) (last n id : ℕ) (body : List ℕ) (v : Verdict) → last_of rows ≡ Some last → last < n → n ≤ last + 32766 → IsVerdictOn rows (serial_of n) id body v → v ≡ New n
+  pub new : (rows : List Row) (last n id : ℕ) (body : List ℕ) (v : Verdict) → last_of rows ≡ Some last → last < n → n ≤ last + UNIT_WINDOW → IsVerdictOn rows (serial_of n) id body v → v ≡ New n
   -- a row at most 32,765 below the last one is repeated by a unit with its id and body
   pub again : (rows : List Row) (last n id : ℕ) (body : List ℕ) (v : Verdict) → last_of rows ≡ Some last → n ≤ last → last ≤ n + 32765 → IsRow rows (row_of n id body) → IsVerdictOn rows (serial_of n) id body v → v ≡ Repeat n
   -- the units of a terminal have numbers that rise

@@ -1,7 +1,7 @@
 //! Which calls of a store in memory fail.
 
 ghost use Rattle.std.specs.Prelude.{◌≡◌, ◌≤◌, ◌↔◌, false, Contains, if◌then◌else◌};
-ghost use Rattle.jt_store.specs.Tables.{counted, Rose};
+ghost use Rattle.jt_value.specs.Counts.{counted, Rose};
 
 use jt_value::Seq;
 

@@ -3,7 +3,7 @@
 ghost use Rattle.std.specs.Prelude.{◌≡◌, ◌<◌, ◌≤◌, None, Some, [], IfOk, IfSome, length};
 ghost use Rattle.jt_store.specs.Memory.{is_listed, InOrder};
 ghost use Rattle.jt_store.specs.Tables.{HasCause, IsSteady, Reads};
-ghost use Rattle.jt_store.specs.Vaults.{Accepts, AreInOrder, Changes, Forms, IsLoaded, IsUnit, IsWhole, MayForm, Records, Sets, octets_of};
+ghost use Rattle.jt_store.specs.Vaults.{Accepts, AreInOrder, Changes, Forms, IsLoaded, IsUnit, IsWhole, MayCommit, Records, Sets, octets_of};
 
 use crate::calls::Calls;
 use crate::error::StoreError;
@@ -142,7 +142,7 @@ impl Vault for MemVault {
 
     fn form(&mut self, _alloc: Global, unit: &Unit) -> Result<(), StoreError>
         requires unit { IsUnit unit.now }
-        requires may { MayForm self.old.held unit.now }
+        requires may { MayCommit self.old.held unit.now }
         ensures answer { Changes (Forms unit.now) (Some self.old.held) (Some self.new.held) result }
         ensures limit { self.new.limit ≡ self.old.limit }
         ensures bound { self.old.limit ≤ 100000 }

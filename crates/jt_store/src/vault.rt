@@ -2,7 +2,7 @@
 
 ghost use Rattle.std.specs.Prelude.{◌≡◌, ◌<◌, ◌≤◌, ℕ, Bool, Option, IfOk, IfSome, length};
 ghost use Rattle.jt_store.specs.Tables.{HasCause, IsSteady, Reads, Told};
-ghost use Rattle.jt_store.specs.Vaults.{Accepts, AreInOrder, Changes, Forms, Held, IsLoaded, IsUnit, IsWhole, MayForm, Records, Sets, octets_of};
+ghost use Rattle.jt_store.specs.Vaults.{Accepts, AreInOrder, Changes, Forms, Held, IsLoaded, IsUnit, IsWhole, MayCommit, Records, Sets, octets_of};
 
 use crate::error::StoreError;
 use crate::unit::{Loaded, Unit};
@@ -51,7 +51,7 @@ pub trait Vault {
     /// most 32,766. The serial behind it is then next.
     fn form(&mut self, alloc: Global, unit: &Unit) -> Result<(), StoreError>
         requires unit { IsUnit unit.now }
-        requires may { Told (holds self.old) (λ held. MayForm held unit.now) }
+        requires may { Told (holds self.old) (λ held. MayCommit held unit.now) }
         ensures answer { Changes (Forms unit.now) (holds self.old) (holds self.new) result }
         ensures limit { limit self.new ≡ limit self.old }
         ensures bound { limit self.old ≤ 100000 }

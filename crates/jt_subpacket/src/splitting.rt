@@ -5,7 +5,8 @@ ghost use Rattle.jt_subpacket.specs.Parts.{Parts, packet_header};
 ghost use Rattle.jt_subpacket.specs.Steps.{front, packets_of, piece_of};
 ghost use Rattle.jt_subpacket.specs.declared.splitting.SplitError.TheVariants.{Memory as NoMemory, TooLarge};
 
-use jt_header::{BODY_LIMIT, Header, Packet};
+use jt_header::{Header, Packet};
+use jt_value::limits::BODY_LIMIT;
 use jt_value::{Memory, Octets, Seq};
 use std::alloc::{AllocError, AllocFailed, Global};
 

@@ -1,6 +1,6 @@
 -- What contracts see of the adapters over std: their counts alone. To be believed.
 use Rattle.std.specs.Prelude.{ℕ, List, Option, None}
-use Rattle.jt_io.specs.Count.{counted}
+use Rattle.jt_value.specs.Counts.{counted}
 use Rattle.jt_io.specs.Inbound.{Inbound}
 use Rattle.jt_io.specs.declared.sink.Put.{Put}
 use Rattle.jt_io.specs.declared.sink.Put.TheVariants as puts

@@ -2,7 +2,7 @@
 
 ghost use Rattle.std.specs.Prelude.{◌≡◌, ◌<◌, None, IfSome, IsNone};
 ghost use Rattle.std.specs.Prelude.{option_map};
-ghost use Rattle.jt_io.specs.Count.{Rose, Counts};
+ghost use Rattle.jt_value.specs.Counts.{Rose, Counts};
 ghost use Rattle.jt_link.specs.Pool.{GivesLink, taken_back};
 ghost use Rattle.jt_tcp.specs.Adapters.{untold, wire};
 

@@ -1,7 +1,7 @@
 //! TCP connections that come.
 
 ghost use Rattle.std.specs.Prelude.{◌≡◌, ◌<◌, false, IfSome};
-ghost use Rattle.jt_io.specs.Count.{Rose, Counts};
+ghost use Rattle.jt_value.specs.Counts.{Rose, Counts};
 ghost use Rattle.jt_link.specs.Pool.{taken_back};
 ghost use Rattle.jt_link.specs.Accepted.{Accepts};
 ghost use Rattle.jt_link.specs.declared.listen.Accepted.TheVariants.{Failed};

@@ -13,7 +13,7 @@ use Rattle.jt_store.specs.Verdicts.{number_after, numbered}
 use Rattle.jt_store.specs.Vaults.{Held, AreInOrder, IsLoaded, IsWhole, fixes_in_units, formed, last_serial, settled}
 use Rattle.jt_terminal_rule.specs.declared.settings.Settings.{Settings}
 use Rattle.jt_terminal_rule.specs.Messages.{AreSettings}
-use Rattle.jt_terminal_rule.specs.Steps.{fixes_in, past, past_accepted}
+use Rattle.jt_store.specs.Units.{fixes_in, past, past_accepted}
 use Rattle.jt_terminal_rule.specs.Rule.{started}
 use Rattle.jt_terminal_rule.specs.Machines.{Agrees, AreSerials, mark_of}
 use Rattle.jt_terminal_steps.specs.Running.{Counts, IsSound}

@@ -10,7 +10,7 @@ use Rattle.jt_store.specs.Verdicts.{numbered}
 use Rattle.jt_terminal_rule.specs.declared.state.State.{State}
 use Rattle.jt_terminal_rule.specs.Machines.{Agrees, AreSerials, IsInOrder, IsPhase}
 use Rattle.jt_terminal_rule.specs.Messages.{AreSettings}
-use Rattle.jt_terminal_rule.specs.Steps.{fixes_in}
+use Rattle.jt_store.specs.Units.{fixes_in}
 use Rattle.jt_terminal_steps.specs.AfterError.{Lists, lists_of}
 use Rattle.jt_terminal_steps.specs.Running.{Counts, IsDown, IsSound}
 

@@ -2,7 +2,8 @@
 
 ghost use Rattle.std.specs.Prelude.{ℕ, [], ◌+◌, ◌≡◌, ◌≤◌, ◌<◌, ◌^◌, ◌↔◌, false, Bool, IfErr, IfOk, IsErrOf, IsOk, IsTrue, None, OnErr, OnOk, Some, length};
 ghost use Rattle.std.specs.Option.{option_to_list};
-ghost use Rattle.jt_store.specs.Tables.{HasCause, IsSteady, Rose, Told};
+ghost use Rattle.jt_store.specs.Tables.{HasCause, IsSteady, Told};
+ghost use Rattle.jt_value.specs.Counts.{Rose};
 ghost use Rattle.jt_store.specs.Vaults.{Held, Notes, Records, settled};
 ghost use Rattle.jt_terminal_rule.specs.Messages.{AreSettings};
 ghost use Rattle.jt_terminal_rule.specs.Rule as rule;

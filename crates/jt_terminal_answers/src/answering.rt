@@ -17,11 +17,12 @@ ghost use Rattle.jt_terminal_answers.specs.Answering.{AllOrNothing};
 use crate::params::{set_params_of, tell_all, tell_some};
 use crate::position::tell_position;
 use crate::regions::change_regions;
-use crate::saying::{MESSAGE_ERROR, NOT_SUPPORTED, SUCCESS, respond, say_answer};
+use crate::saying::{respond, say_answer};
 use jt_codec::{Message, Resend, write_body};
 use jt_header::Header;
 use jt_regions::{Circle, Polygon, Rectangle, RegionChange, RegionKind, Route};
 use jt_terminal_rule::{AnswerKind, State};
+use jt_value::results::{MESSAGE_ERROR, NOT_SUPPORTED, SUCCESS};
 use jt_value::{Edition, Memory, Octets, Seq};
 use std::alloc::Global;
 

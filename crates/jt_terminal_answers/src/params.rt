@@ -12,11 +12,12 @@ ghost use Rattle.jt_terminal_rule.specs.Rule as rule;
 ghost use Rattle.jt_terminal_rule.specs.Tables.{params_after, set_params};
 ghost use Rattle.jt_terminal_answers.specs.Answering.{AllOrNothing, TookParams};
 
-use crate::saying::{FAILURE, SUCCESS, respond, say_answer};
+use crate::saying::{respond, say_answer};
 use jt_codec::{Message, write_body};
 use jt_header::Header;
 use jt_params::{Param, ParamError, ParamTable, ParamValue};
 use jt_terminal_rule::{AnswerKind, Settings, State, Timing};
+use jt_value::results::{FAILURE, SUCCESS};
 use jt_value::{Edition, Memory, Octets, Seq};
 use std::alloc::Global;
 

@@ -6,15 +6,14 @@ ghost use Rattle.jt_terminal_rule.specs.Messages.{AreSettings, BeginsWith};
 ghost use Rattle.jt_terminal_rule.specs.Answers as table;
 ghost use Rattle.jt_terminal_rule.specs.Rule as rule;
 
-use crate::saying::{FAILURE, respond, say_answer};
+use crate::saying::{respond, say_answer};
 use jt_header::Header;
 use jt_layout::Writer;
 use jt_terminal_rule::{AnswerKind, State};
+use jt_value::limits::BODY_LIMIT;
+use jt_value::results::FAILURE;
 use jt_value::{Memory, Octets, Seq};
 use std::alloc::Global;
-
-/// The most octets of a body in one packet.
-const BODY_LIMIT: usize = 1_023;
 
 // The octets of the serial that is answered.
 const SERIAL_LEN: usize = 2;

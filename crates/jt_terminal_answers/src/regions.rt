@@ -7,10 +7,11 @@ ghost use Rattle.jt_terminal_rule.specs.Answers as table;
 ghost use Rattle.jt_terminal_rule.specs.Rule as rule;
 ghost use Rattle.jt_terminal_answers.specs.Answering.{AllOrNothing, TookChange};
 
-use crate::saying::{FAILURE, SUCCESS, respond};
+use crate::saying::respond;
 use jt_header::Header;
 use jt_regions::{RegionChange, RegionError};
 use jt_terminal_rule::State;
+use jt_value::results::{FAILURE, SUCCESS};
 use jt_value::{Memory, Octets, Seq};
 use std::alloc::Global;
 

@@ -13,26 +13,18 @@ use jt_codec::{Message, write_body};
 use jt_header::Header;
 use jt_subpacket::{SplitError, split};
 use jt_terminal_rule::{AnswerKind, State, after_packets, frame, header};
+use jt_value::ids::{PARAMS, POSITION_REPLY, TERMINAL_ACK, TERMINAL_RESEND};
 use jt_value::{Edition, Memory, Octets, Seq};
 use std::alloc::Global;
-
-/// Results of a general response (the standard's).
-pub(crate) const SUCCESS: u8 = 0;
-
-pub(crate) const FAILURE: u8 = 1;
-
-pub(crate) const MESSAGE_ERROR: u8 = 2;
-
-pub(crate) const NOT_SUPPORTED: u8 = 3;
 
 fn id_of(kind: AnswerKind) -> u16
     ensures { result ≡ table.id_of_answer kind }
 {
     match kind {
-        AnswerKind::General => 0x0001,
-        AnswerKind::Parameters => 0x0104,
-        AnswerKind::Position => 0x0201,
-        AnswerKind::Packets => 0x0005,
+        AnswerKind::General => TERMINAL_ACK,
+        AnswerKind::Parameters => PARAMS,
+        AnswerKind::Position => POSITION_REPLY,
+        AnswerKind::Packets => TERMINAL_RESEND,
     }
 }
 

@@ -8,7 +8,8 @@ use Rattle.jt_store.specs.Vaults.{Held, Gaps, gap_after, AreInOrder, serial_or, 
 use Rattle.jt_terminal_rule.specs.declared.state.Phase.TheVariants.{Live}
 use Rattle.jt_terminal_rule.specs.declared.state.Acknowledgement.{Acknowledgement}
 use Rattle.jt_terminal_rule.specs.Messages.{is_acceptance}
-use Rattle.jt_terminal_rule.specs.Steps.{past, past_accepted, is_named}
+use Rattle.jt_terminal_rule.specs.Steps.{is_named}
+use Rattle.jt_store.specs.Units.{past, past_accepted}
 use Rattle.jt_terminal_rule.specs.declared.state.State.{State}
 use Rattle.jt_terminal_rule.specs.Rule.{accepted, names}
 use Rattle.jt_terminal_rule.specs.Rule as rule

@@ -13,7 +13,8 @@ use Rattle.jt_position.specs.declared.batch.Batch.{Batch}
 use Rattle.jt_position.specs.Positions.{position, batch}
 use Rattle.jt_position.specs.Fixes.{IsFix, FixesAre, fixes_of}
 use Rattle.jt_store.specs.Vaults.{IsUnit}
-use Rattle.jt_terminal_rule.specs.Forming.{body_limit, in_batch, batch_of, fitting, fitting_behind, batch_unit, position_unit, unit_of}
+use Rattle.jt_terminal_rule.specs.Forming.{in_batch, batch_of, fitting, fitting_behind, batch_unit, position_unit, unit_of}
+use Rattle.jt_value.specs.declared.limits.TheConstants.{BODY_LIMIT}
 use Rattle.jt_terminal_rule.specs.Law.{FittingIsGreatest, UnitCarriesFirstFixes}
 
 -- ---- lengths
@@ -43,7 +44,7 @@ batch_len fixes =
 
 fitting_within : (used : ℕ) (fixes : List (List ℕ)) → fitting_behind used fixes ≤ length fixes
 fitting_within used [] = omega arith
-fitting_within used (fix ∷ more) = by_test (nat_le (used + (2 + length fix)) body_limit) (fitting_within (used + (2 + length fix)) more)
+fitting_within used (fix ∷ more) = by_test (nat_le (used + (2 + length fix)) BODY_LIMIT) (fitting_within (used + (2 + length fix)) more)
   where
     by_test : (b : Bool) → fitting_behind (used + (2 + length fix)) more ≤ length more → cond b (1 + fitting_behind (used + (2 + length fix)) more) 0 ≤ suc (length more)
     by_test true le = omega (arith, le)
@@ -55,21 +56,21 @@ carried_more n fix more = ap (λ (k : ℕ). carried_len (take k (fix ∷ more)))
     one_more : (n : ℕ) → 1 + n ≡ suc n
     one_more n = omega arith
 
-fitting_fits : (used : ℕ) (fixes : List (List ℕ)) → used ≤ body_limit → used + carried_len (take (fitting_behind used fixes) fixes) ≤ body_limit
+fitting_fits : (used : ℕ) (fixes : List (List ℕ)) → used ≤ BODY_LIMIT → used + carried_len (take (fitting_behind used fixes) fixes) ≤ BODY_LIMIT
 fitting_fits used [] le = omega (arith, le)
-fitting_fits used (fix ∷ more) le = by_test (nat_le (used + (2 + length fix)) body_limit) refl (fitting_fits (used + (2 + length fix)) more)
+fitting_fits used (fix ∷ more) le = by_test (nat_le (used + (2 + length fix)) BODY_LIMIT) refl (fitting_fits (used + (2 + length fix)) more)
   where
-    by_test : (b : Bool) → nat_le (used + (2 + length fix)) body_limit ≡ b
-        → (used + (2 + length fix) ≤ body_limit → (used + (2 + length fix)) + carried_len (take (fitting_behind (used + (2 + length fix)) more) more) ≤ body_limit)
-        → used + carried_len (take (cond b (1 + fitting_behind (used + (2 + length fix)) more) 0) (fix ∷ more)) ≤ body_limit
-    by_test true e next = let more_fit = next (leb-true (used + (2 + length fix)) body_limit e) in omega (arith, more_fit, carried_more (fitting_behind (used + (2 + length fix)) more) fix more)
+    by_test : (b : Bool) → nat_le (used + (2 + length fix)) BODY_LIMIT ≡ b
+        → (used + (2 + length fix) ≤ BODY_LIMIT → (used + (2 + length fix)) + carried_len (take (fitting_behind (used + (2 + length fix)) more) more) ≤ BODY_LIMIT)
+        → used + carried_len (take (cond b (1 + fitting_behind (used + (2 + length fix)) more) 0) (fix ∷ more)) ≤ BODY_LIMIT
+    by_test true e next = let more_fit = next (leb-true (used + (2 + length fix)) BODY_LIMIT e) in omega (arith, more_fit, carried_more (fitting_behind (used + (2 + length fix)) more) fix more)
     by_test false e next = omega (arith, le)
 
-fitting_most : (used : ℕ) (fixes : List (List ℕ)) (k : ℕ) → k ≤ length fixes → used + carried_len (take k fixes) ≤ body_limit → k ≤ fitting_behind used fixes
+fitting_most : (used : ℕ) (fixes : List (List ℕ)) (k : ℕ) → k ≤ length fixes → used + carried_len (take k fixes) ≤ BODY_LIMIT → k ≤ fitting_behind used fixes
 fitting_most used fixes zero within le = omega arith
 fitting_most used [] (suc k) within le = absurd (omega (arith, within))
 fitting_most used (fix ∷ more) (suc k) within le =
-    subst (λ (b : Bool). suc k ≤ cond b (1 + fitting_behind (used + (2 + length fix)) more) 0) (sym (le-leb (used + (2 + length fix)) body_limit (omega (arith, le))))
+    subst (λ (b : Bool). suc k ≤ cond b (1 + fitting_behind (used + (2 + length fix)) more) 0) (sym (le-leb (used + (2 + length fix)) BODY_LIMIT (omega (arith, le))))
     (let rest = fitting_most (used + (2 + length fix)) more k (omega (arith, within)) (omega (arith, le)) in omega (arith, rest))
 
 pub fitting_is_greatest : FittingIsGreatest
@@ -127,7 +128,7 @@ module _ (law : FixesAre) (serial : ℕ) (fix : List ℕ) (more : List (List ℕ
   k_len : length (take k (fix ∷ more)) ≡ k
   k_len = length-take-le k (fix ∷ more) (fitting_within 3 (fix ∷ more))
 
-  k_fits : length (batch_of (take k (fix ∷ more))) ≤ body_limit
+  k_fits : length (batch_of (take k (fix ∷ more))) ≤ BODY_LIMIT
   k_fits = let len = batch_len (take k (fix ∷ more)) in let most = fitting_fits 3 (fix ∷ more) (omega arith) in omega (arith, len, most)
 
   k_few : length (take k (fix ∷ more)) < 65536

@@ -108,7 +108,7 @@ and_then_steps m held just r more one two =
           sends_append settings r.steps (more r.state).steps
           ∙ (ap (λ (fs : List (List ℕ)). fs ++ sends settings (more r.state).steps) (one.sent settings own)
           ∙ (ap (λ (fs : List (List ℕ)). frames_by m (as_steps m r.steps) ++ fs) (two.sent settings then_own
-              ∙ ap (λ (n : Machine). frames_by n (as_steps n (more r.state).steps)) (sym one.to))
+          ∙ ap (λ (n : Machine). frames_by n (as_steps n (more r.state).steps)) (sym one.to))
           ∙ (sym (frames_append m (as_steps m r.steps) (as_steps (run m (as_steps m r.steps)) (more r.state).steps)) ∙ ap (frames_by m) (sym parts))));
       in_order = two.in_order;
       agrees = subst (λ (h : Held). Agrees h (more r.state).state) (sym behind) two.agrees;

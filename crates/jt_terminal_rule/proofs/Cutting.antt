@@ -3,7 +3,7 @@ use Rattle.std.proofs.Common.{ℕ, ◌≡◌, ◌+◌, List, [], ◌∷◌, ◌+
 use Rattle.jt_store.specs.declared.row.Row.{Row}
 use Rattle.jt_store.specs.Vaults.{Held, Notes, Forms, Accepts, Sets, held_by}
 use Rattle.jt_terminal_rule.specs.declared.state.Acknowledgement.{Acknowledgement}
-use Rattle.jt_terminal_rule.specs.Steps.{Machine, TerminalStep, MayForm, MayRun, run, stepped, hears}
+use Rattle.jt_terminal_rule.specs.Steps.{Machine, TerminalStep, MayRun, run, stepped, hears}
 use Rattle.jt_terminal_rule.specs.Steps as step
 use Rattle.jt_terminal_rule.specs.declared.state.State.{State}
 use Rattle.jt_terminal_rule.specs.Rule.{Step, Ruled, down}
@@ -17,9 +17,6 @@ use Rattle.jt_terminal_rule.proofs.Composing.{as_steps-append}
 -- the same machine on another line
 abbrev lined : Machine → Bool → List ℕ → Bool → ℕ → Machine
 lined m using auths ready reach = record m { using = using; auths = auths; ready = ready; reach = reach }
-
-form_there : (m : Machine) (using : Bool) (auths : List ℕ) (ready : Bool) (reach : ℕ) (row : Row) → MayForm m row → MayForm (lined m using auths ready reach) row
-form_there m using auths ready reach row f = record { above = f.above; after_accepted = f.after_accepted; near = f.near; short = f.short; some = f.some; next = f.next }
 
 may_front : (m : Machine) (just : Option Acknowledgement) (xs ys : List TerminalStep) → MayRun m just (xs ++ ys) → MayRun m just xs
 may_front m just [] ys may = tt
@@ -36,7 +33,7 @@ changes_may m using auths ready reach just (rule.Loses ∷ steps) may = changes_
 changes_may m using auths ready reach just (rule.Changes (Notes fix) ∷ steps) may = (may.0, changes_may (stepped m (step.Records fix)) using auths ready reach None steps may.1)
 changes_may m using auths ready reach just (rule.Changes (Forms unit) ∷ steps) may =
     let row = row_after (last_number None m.units) unit in
-    (form_there m using auths ready reach row may.0, changes_may (stepped m (step.Forms row)) using auths ready reach None steps may.1)
+    (may.0, changes_may (stepped m (step.Forms row)) using auths ready reach None steps may.1)
 changes_may m using auths ready reach just (rule.Changes Accepts ∷ steps) may = absurd may.0.2
 changes_may m using auths ready reach just (rule.Changes (Sets code) ∷ steps) may = (tt, changes_may (stepped m (step.Codes code)) using auths ready reach None steps may.1)
 

@@ -43,7 +43,7 @@ pub unit_written : (h : Held) (s : State) (u : OneUnit) (older : ℕ) → IsInOr
     → frame_of (header_of settings.phone u.id u.serial) u.body ≡ writes (machine_of h s) (step.Sends (h.accepted + older))
 unit_written h s u older o a there settings own =
     let at : drop (h.accepted + older) h.units ≡ u ∷ drop (suc older) s.units =
-        sym (drop-drop older h.accepted h.units) ∙ (ap (drop older) (sym a.units) ∙ drop_at s.units older u there) in
+    sym (drop-drop older h.accepted h.units) ∙ (ap (drop older) (sym a.units) ∙ drop_at s.units older u there) in
     let row = row_in None h.units (h.accepted + older) u (drop (suc older) s.units) at in
     ap (λ (phone : Phone). frame_of (header_of phone u.id u.serial) u.body) own
     ∙ (ap (λ (serial : ℕ). frame_of (header_of s.settings.phone u.id serial) u.body) (sym (serial_back row.0 u.serial (small_at s.units older u o.serials there)))

@@ -10,12 +10,13 @@ use Rattle.jt_value.specs.Serials.{serial_of, gap_of}
 use Rattle.jt_position.specs.Fixes.{IsFix, fixes_of}
 use Rattle.jt_store.specs.declared.row.Row.{Row}
 use Rattle.jt_store.specs.declared.unit.Unit.{Unit as OneUnit}
-use Rattle.jt_store.specs.Vaults.{Held, Gaps, carried as counts, formed, gap_after, AreInOrder, IsUnit, held_by, Forms}
+use Rattle.jt_store.specs.Vaults.{Held, Gaps, fixes_carried as counts, formed, gap_after, AreInOrder, IsUnit, held_by, Forms}
 use Rattle.jt_store.specs.Vaults as vaults
 use Rattle.std.proofs.Math.Seq.{drop-append_seam}
 use Rattle.jt_terminal_rule.specs.Forming.{unit_of, fitting, batch_unit, position_unit}
 use Rattle.jt_terminal_rule.specs.Law.{AreSteps, UnitCarriesFirstFixes}
-use Rattle.jt_terminal_rule.specs.Steps.{MayForm, IsPrefixOf, fixes_in, carried, past, past_accepted}
+use mathlib.Core.List.{IsPrefix}
+use Rattle.jt_store.specs.Units.{MayForm, fixes_in, carried, past, past_accepted}
 use Rattle.jt_terminal_rule.specs.declared.state.State.{State}
 use Rattle.jt_terminal_rule.specs.Rule as rule
 use Rattle.jt_store.specs.Verdicts.{number_after, numbered}
@@ -93,8 +94,8 @@ module _ (h : Held) (s : State) (o : IsInOrder s) (a : Agrees h s) where
       (next_number last (past_number last) 1 s.next s.units o.next refl (omega arith) (subst (λ (m : ℕ). gap_of m s.next ≤ 32767) mark_is near) (subst (λ (m : ℕ). Rising m 1 (gap_of m s.next) s.units) mark_is rises)))
 
   form_may : (u : OneUnit) → u.serial ≡ s.next → gap_of s.mark s.next < 32767 → length u.body ≤ 1023 → fixes_of (u.id, u.body) ≢ []
-      → IsPrefixOf (fixes_in (numbered None h.units) ++ fixes_of (u.id, u.body)) h.recorded
-      → MayForm (machine_of h s) (row_after (last_number None (numbered None h.units)) u)
+      → IsPrefix (fixes_in (numbered None h.units) ++ fixes_of (u.id, u.body)) h.recorded
+      → MayForm (numbered None h.units) h.accepted h.recorded (row_after (last_number None (numbered None h.units)) u)
   form_may u serial near short some next = record {
     above = all_past None h.units number (omega (arith, last_le));
     after_accepted = omega (arith, is, floor_is, low);
@@ -162,8 +163,8 @@ module _ (carries : UnitCarriesFirstFixes) (h : Held) (s : State) (o : IsInOrder
   recorded = a.fixes ∙ (ap (λ (fs : List (List ℕ)). fixes_in (numbered None h.units) ++ fs) (waits ∙ (sym (take-append-drop u.count (fix ∷ more)) ∙ ap (λ (fs : List (List ℕ)). fs ++ drop u.count (fix ∷ more)) (sym has)))
       ∙ sym (append_assoc (fixes_in (numbered None h.units)) (fixes_of (u.id, u.body)) (drop u.count (fix ∷ more))))
 
-  may : MayForm (machine_of h s) row
-  may = form_may h s o a u serial near is_unit.short (λ e. taken_not_nil u.count fix more is_unit.some (sym has ∙ e)) (drop u.count (fix ∷ more), recorded)
+  may : MayForm (numbered None h.units) h.accepted h.recorded row
+  may = form_may h s o a u serial near is_unit.short (λ e. taken_not_nil u.count fix more is_unit.some (sym has ∙ e)) (drop u.count (fix ∷ more), sym recorded)
 
   gap_is : gap_of s.mark (serial_of (s.next + 1)) ≡ gap_of s.mark s.next + 1
   gap_is = next_gap s.mark s.next o.mark o.next near
@@ -194,7 +195,7 @@ module _ (carries : UnitCarriesFirstFixes) (h : Held) (s : State) (o : IsInOrder
       let there = ap (λ (fs : List (List ℕ)). length fs) waits in
       omega (arith, sum, left, within, all, there)
 
-  vault_may : vaults.MayForm h u
+  vault_may : vaults.MayCommit h u
   vault_may =
       let all = a.formed in
       let there = ap (λ (fs : List (List ℕ)). length fs) waits in

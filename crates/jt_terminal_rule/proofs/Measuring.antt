@@ -4,7 +4,8 @@ use Rattle.std.specs.Prelude.{nat_le}
 use Rattle.std.specs.List.{flat_map}
 use Rattle.std.proofs.lemmas.List.{append-nil, append_assoc}
 use Rattle.std.proofs.lemmas.Bool.{leb-true, leb-false}
-use Rattle.jt_terminal_rule.specs.Forming.{in_batch, fitting_behind, body_limit}
+use Rattle.jt_terminal_rule.specs.Forming.{in_batch, fitting_behind}
+use Rattle.jt_value.specs.declared.limits.TheConstants.{BODY_LIMIT}
 use Rattle.jt_terminal_rule.specs.Rule.{wait_behind}
 
 -- ---- the fixes of a batch
@@ -41,7 +42,7 @@ get_at [] place x lt is = absurd (omega (arith, lt))
 get_at (y ∷ xs) zero x lt is = ap (λ z. Some z) (sym is)
 get_at (y ∷ xs) (suc place) x lt is = get_at xs place x (omega (arith, lt)) is
 
-by_room : (used : ℕ) (fix : List ℕ) (more : List (List ℕ)) (b : Bool) → nat_le (used + (2 + length fix)) body_limit ≡ b
+by_room : (used : ℕ) (fix : List ℕ) (more : List (List ℕ)) (b : Bool) → nat_le (used + (2 + length fix)) BODY_LIMIT ≡ b
     → fitting_behind used (fix ∷ more) ≡ cond b (1 + fitting_behind (used + (2 + length fix)) more) 0
 by_room used fix more b e = ap (λ (c : Bool). cond c (1 + fitting_behind (used + (2 + length fix)) more) 0) e
 

@@ -6,7 +6,7 @@ use Rattle.jt_value.specs.Serials.{gap_of}
 use Rattle.jt_store.specs.declared.row.Row.{Row}
 use Rattle.jt_store.specs.declared.unit.Unit.{Unit as OneUnit}
 use Rattle.jt_store.specs.Vaults.{gap_after, Gaps}
-use Rattle.jt_terminal_rule.specs.Steps.{past, past_accepted}
+use Rattle.jt_store.specs.Units.{past, past_accepted}
 use Rattle.jt_store.specs.Verdicts.{number_after, numbered}
 use Rattle.jt_terminal_rule.specs.Machines.{row_after, mark_of, last_number, AreSerials}
 

@@ -8,7 +8,7 @@ use Rattle.jt_position.specs.Fixes.{IsFix}
 use Rattle.jt_store.specs.declared.unit.Unit.{Unit as OneUnit}
 use Rattle.jt_store.specs.Vaults.{gap_after}
 use Rattle.jt_store.specs.Verdicts.{numbered}
-use Rattle.jt_terminal_rule.specs.Steps.{fixes_in}
+use Rattle.jt_store.specs.Units.{fixes_in}
 use Rattle.jt_terminal_rule.specs.Rule.{started}
 use Rattle.jt_terminal_rule.specs.Machines.{machine_of, AreSerials}
 use Rattle.jt_terminal_rule.proofs.Forming.{waiting_is}

@@ -17,15 +17,16 @@ use Rattle.jt_terminal_rule.specs.declared.state.State.{State}
 use Rattle.jt_terminal_rule.specs.declared.state.Timing.{Timing}
 use Rattle.jt_terminal_rule.specs.declared.state.AnswerKind.{AnswerKind}
 use Rattle.jt_terminal_rule.specs.declared.state.AnswerKind.TheVariants.{General, Parameters, Position, Packets}
-use Rattle.jt_terminal_rule.specs.Forming.{body_limit}
+use Rattle.jt_value.specs.declared.limits.TheConstants.{BODY_LIMIT}
+use Rattle.jt_value.specs.declared.ids.TheConstants.{PARAMS, POSITION_REPLY, TERMINAL_ACK, TERMINAL_RESEND}
 use Rattle.jt_terminal_rule.specs.Tables.{params_after, regions_after}
 
 -- the id of a message that a terminal answers with
 abbrev pub id_of_answer : AnswerKind → ℕ
-id_of_answer General = 0x0001
-id_of_answer Parameters = 0x0104
-id_of_answer Position = 0x0201
-id_of_answer Packets = 0x0005
+id_of_answer General = TERMINAL_ACK
+id_of_answer Parameters = PARAMS
+id_of_answer Position = POSITION_REPLY
+id_of_answer Packets = TERMINAL_RESEND
 
 -- the terminal's times and tables afterwards, and the message and the body that it answers with, if it answers
 pub record Answer : Type 0 where
@@ -77,7 +78,7 @@ tells_params s h params = only_says s (Some (Parameters, body_octets s.settings.
 abbrev pub tells_position : State → Header → Option (List ℕ) → Answer
 tells_position s h None = responds s h 1
 tells_position s h (Some fix) =
-    if nat_le (2 + length fix) body_limit then only_says s (Some (Position, to_be_bytes w16 h.serial ++ fix)) else responds s h 1
+    if nat_le (2 + length fix) BODY_LIMIT then only_says s (Some (Position, to_be_bytes w16 h.serial ++ fix)) else responds s h 1
 
 -- ---- regions
 

@@ -2,11 +2,9 @@
 use Rattle.std.specs.Prelude.{ℕ, ◌+◌, nat_le, if◌then◌else◌, List, [], ◌∷◌, ◌++◌, length, take, Option, None, Some}
 use Rattle.std.specs.List.{flat_map}
 use Rattle.std.specs.Int.{w8, w16, to_be_bytes}
+use Rattle.jt_value.specs.declared.limits.TheConstants.{BODY_LIMIT}
+use Rattle.jt_value.specs.declared.ids.TheConstants.{BATCH, POSITION}
 use Rattle.jt_store.specs.declared.unit.Unit.{Unit as OneUnit}
-
--- the most octets of a body in one packet
-abbrev pub body_limit : ℕ
-body_limit = 1023
 
 -- a fix as a batch carries it, behind its length
 abbrev pub in_batch : List ℕ → List ℕ
@@ -19,17 +17,17 @@ batch_of fixes = to_be_bytes w16 (length fixes) ++ (to_be_bytes w8 1 ++ flat_map
 -- how many fixes, from the first on, go behind so many octets of a body
 abbrev pub fitting_behind : ℕ → List (List ℕ) → ℕ
 fitting_behind used [] = 0
-fitting_behind used (fix ∷ more) = if nat_le (used + (2 + length fix)) body_limit then 1 + fitting_behind (used + (2 + length fix)) more else 0
+fitting_behind used (fix ∷ more) = if nat_le (used + (2 + length fix)) BODY_LIMIT then 1 + fitting_behind (used + (2 + length fix)) more else 0
 
 -- how many fixes, from the first on, one 0x0704 may carry; its count and its kind are three octets
 abbrev pub fitting : List (List ℕ) → ℕ
 fitting fixes = fitting_behind 3 fixes
 
 abbrev pub batch_unit : ℕ → List (List ℕ) → ℕ → OneUnit
-batch_unit serial fixes count = record { serial = serial; id = 0x0704; body = batch_of (take count fixes); count = count }
+batch_unit serial fixes count = record { serial = serial; id = BATCH; body = batch_of (take count fixes); count = count }
 
 abbrev pub position_unit : ℕ → List ℕ → OneUnit
-position_unit serial fix = record { serial = serial; id = 0x0200; body = fix; count = 1 }
+position_unit serial fix = record { serial = serial; id = POSITION; body = fix; count = 1 }
 
 -- the unit of this serial that is formed of fixes that wait, the first of which is named: a 0x0704 of as many as it may carry, or a
 -- 0x0200 where these are fewer than two

@@ -8,7 +8,9 @@ use Rattle.jt_position.specs.Fixes.{IsFix, fixes_of}
 use Rattle.jt_store.specs.Vaults.{AreInOrder, Held, IsLoaded, IsUnit, Notes, Accepts}
 use Rattle.jt_store.specs.declared.unit.Loaded.{Loaded}
 use Rattle.jt_terminal_rule.specs.declared.settings.Settings.{Settings}
-use Rattle.jt_terminal_rule.specs.Forming.{batch_of, body_limit, fitting, unit_of}
+use Rattle.jt_terminal_rule.specs.Forming.{batch_of, fitting, unit_of}
+use Rattle.jt_value.specs.declared.limits.TheConstants.{BODY_LIMIT}
+use Rattle.jt_value.specs.declared.ids.TheConstants.{HEARTBEAT, POSITION, REGISTER}
 use Rattle.jt_header.specs.declared.header.Header.{Header}
 use Rattle.jt_codec.specs.Bodies.{body_octets}
 use Rattle.jt_codec.specs.declared.message.Message.TheVariants as message
@@ -26,9 +28,9 @@ use Rattle.jt_terminal_rule.specs.Machines.{machine_of, as_steps, frames_by, hel
 
 -- a batch may have at most 1,023 octets where it has at most so many fixes, and only there
 pub record FittingIsGreatest : Type 0 where
-  pub fits : (fixes : List (List ℕ)) → 1 ≤ fitting fixes → length (batch_of (take (fitting fixes) fixes)) ≤ body_limit
+  pub fits : (fixes : List (List ℕ)) → 1 ≤ fitting fixes → length (batch_of (take (fitting fixes) fixes)) ≤ BODY_LIMIT
   pub within : (fixes : List (List ℕ)) → fitting fixes ≤ length fixes
-  pub greatest : (fixes : List (List ℕ)) (k : ℕ) → 1 ≤ k → k ≤ length fixes → length (batch_of (take k fixes)) ≤ body_limit → k ≤ fitting fixes
+  pub greatest : (fixes : List (List ℕ)) (k : ℕ) → 1 ≤ k → k ≤ length fixes → length (batch_of (take k fixes)) ≤ BODY_LIMIT → k ≤ fitting fixes
 
 -- a unit that is formed carries the first fixes that wait, one or more, in a body that fits one packet
 pub record UnitCarriesFirstFixes : Type 0 where
@@ -138,20 +140,20 @@ told_at_each s (event ∷ events) = (sends s.settings (rule s event).steps, (rul
 abbrev pub WaitsGrow : Type 0
 WaitsGrow = (settings : Settings) →
     let set = record settings { heartbeat = 60; answer = 10; repeats = 3 } in
-    let frame = frame_of (header_of set.phone 0x0100 0) (register_octets set) in
+    let frame = frame_of (header_of set.phone REGISTER 0) (register_octets set) in
     told_at_each (started set nothing_loaded) (Opened ∷ Tick 10000 ∷ Tick 30000 ∷ Tick 90000 ∷ Tick 329999 ∷ Tick 330000 ∷ [])
     ≡ (frame ∷ [], None) ∷ (frame ∷ [], None) ∷ (frame ∷ [], None) ∷ (frame ∷ [], None) ∷ ([], None) ∷ ([], Some (TimedOut 0 330000)) ∷ []
 
 -- a Live terminal over the vault of this start, with one unit that was sent on this line: a position report of serial 2
 abbrev pub with_one_sent : Settings → List ℕ → State
-with_one_sent settings body = record (started settings nothing_loaded) { phase = Live 1; units = record { serial = 2; id = 0x0200; body = body; count = 1 } ∷ []; sent = 1; next = 3 }
+with_one_sent settings body = record (started settings nothing_loaded) { phase = Live 1; units = record { serial = 2; id = POSITION; body = body; count = 1 } ∷ []; sent = 1; next = 3 }
 
 -- a response that names another id is passed over, one with result 1 denies the unit, and one with result 4 accepts it
 pub record ResponsesNameTheUnit (settings : Settings) (body : List ℕ) (h : Header) : Type 0 where
-  pub passed_over : rule (with_one_sent settings body) (Received h (message.PlatformAck 2 0x0002 0)) ≡ record { state = with_one_sent settings body; steps = []; end = None }
-  pub denied : (rule (with_one_sent settings body) (Received h (message.PlatformAck 2 0x0200 1))).end ≡ Some (Denied (body_octets h.edition (message.PlatformAck 2 0x0200 1)))
-  pub down : (rule (with_one_sent settings body) (Received h (message.PlatformAck 2 0x0200 1))).steps ≡ Loses ∷ []
-  pub accepted : (rule (with_one_sent settings body) (Received h (message.PlatformAck 2 0x0200 4))).steps ≡ Changes Accepts ∷ []
+  pub passed_over : rule (with_one_sent settings body) (Received h (message.PlatformAck 2 HEARTBEAT 0)) ≡ record { state = with_one_sent settings body; steps = []; end = None }
+  pub denied : (rule (with_one_sent settings body) (Received h (message.PlatformAck 2 POSITION 1))).end ≡ Some (Denied (body_octets h.edition (message.PlatformAck 2 POSITION 1)))
+  pub down : (rule (with_one_sent settings body) (Received h (message.PlatformAck 2 POSITION 1))).steps ≡ Loses ∷ []
+  pub accepted : (rule (with_one_sent settings body) (Received h (message.PlatformAck 2 POSITION 4))).steps ≡ Changes Accepts ∷ []
 
 -- what happens leaves the settings
 pub record RuleKeepsSettings : Type 0 where

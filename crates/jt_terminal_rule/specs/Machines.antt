@@ -9,7 +9,8 @@ use Rattle.jt_store.specs.Vaults as vaults
 use Rattle.jt_store.specs.Verdicts.{row_of, number_after, numbered}
 use Rattle.jt_terminal_rule.specs.declared.state.Phase.{Phase}
 use Rattle.jt_terminal_rule.specs.declared.state.Phase.TheVariants.{Down, Registering, Authenticating, Live}
-use Rattle.jt_terminal_rule.specs.Steps.{Machine, TerminalStep, stepped, writes, past_accepted, fixes_in}
+use Rattle.jt_terminal_rule.specs.Steps.{Machine, TerminalStep, stepped, writes}
+use Rattle.jt_store.specs.Units.{past_accepted, fixes_in}
 use Rattle.jt_terminal_rule.specs.Steps as step
 use Rattle.jt_terminal_rule.specs.declared.state.State.{State}
 use Rattle.jt_terminal_rule.specs.Rule.{Step}
@@ -97,7 +98,7 @@ held_after (rule.Loses ∷ steps) held = held_after steps held
 -- what a vault asks of a change
 abbrev pub MayChange : Held → Change → Type 0
 MayChange held (Notes fix) = IsFix fix
-MayChange held (Forms unit) = IsUnit unit × vaults.MayForm held unit
+MayChange held (Forms unit) = IsUnit unit × vaults.MayCommit held unit
 MayChange held Accepts = held.accepted < length held.units
 MayChange held (Sets code) = IfSome code (λ octets. length octets ≤ 255)
 

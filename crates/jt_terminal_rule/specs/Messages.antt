@@ -1,5 +1,6 @@
 -- The messages of a terminal, and the platform's responses. To be believed. Headers and bodies are the standard's.
 use Rattle.std.specs.Prelude.{ℕ, ◌≡◌, ◌==◌, ◌||◌, ◌≤◌, Bool, false, List, length, take, None}
+use Rattle.jt_value.specs.declared.results.TheConstants.{ALARM_HANDLED, SUCCESS}
 use Rattle.jt_value.specs.declared.phone.Edition.{Edition}
 use Rattle.jt_value.specs.declared.phone.Edition.TheVariants.{E2013, E2019}
 use Rattle.jt_value.specs.declared.phone.Phone.{Phone}
@@ -41,7 +42,7 @@ pub record AreSettings (settings : Settings) : Type 0 where
 
 -- success, or an alarm that is handled
 abbrev pub is_acceptance : Acknowledgement → Bool
-is_acceptance ack = (ack.result == 0) || (ack.result == 4)
+is_acceptance ack = (ack.result == SUCCESS) || (ack.result == ALARM_HANDLED)
 
 -- the list now begins with what it was
 abbrev pub BeginsWith : {A : Type 0} → List A → List A → Type 0

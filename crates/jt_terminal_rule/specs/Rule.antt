@@ -4,6 +4,7 @@ use Rattle.std.specs.Prelude.{ℕ, zero, suc, ◌+◌, ◌-◌, ◌*◌, ◌^◌
 use Rattle.std.specs.FinMap.{empty}
 use Rattle.std.specs.Option.{option_map, unwrap_or}
 use Rattle.jt_value.specs.Serials.{gap_of, serial_of}
+use Rattle.jt_value.specs.declared.ids.TheConstants.{AUTH, HEARTBEAT, REGISTER}
 use Rattle.jt_header.specs.declared.header.Header.{Header}
 use Rattle.jt_register.specs.declared.reply.RegisterReply.{RegisterReply}
 use Rattle.jt_codec.specs.Bodies.{body_octets}
@@ -182,14 +183,14 @@ spoken s p w = record s { phase = p; wait = w; said = s.time; next = after_contr
 abbrev pub registers : State → Ruled
 registers s = record {
   state = record s { phase = Registering s.next; wait = begun s; said = s.time; next = after_control s };
-  steps = Says (header_of s.settings.phone 0x0100 s.next) (register_octets s.settings) ∷ [];
+  steps = Says (header_of s.settings.phone REGISTER s.next) (register_octets s.settings) ∷ [];
   end = None;
 }
 
 abbrev pub authenticates : State → List ℕ → Ruled
 authenticates s code = record {
   state = record s { phase = Authenticating s.next; wait = begun s; said = s.time; next = after_control s };
-  steps = Says (header_of s.settings.phone 0x0102 s.next) (auth_octets s.settings code) ∷ [];
+  steps = Says (header_of s.settings.phone AUTH s.next) (auth_octets s.settings code) ∷ [];
   end = None;
 }
 
@@ -290,7 +291,7 @@ answered s (unit ∷ more) ack octets =
 abbrev pub responded : Phase → State → Acknowledgement → List ℕ → Ruled
 responded Down s ack octets = stays s
 responded (Registering serial) s ack octets = stays s
-responded (Authenticating serial) s ack octets = if (ack.id == 0x0102) && (ack.reply == serial) then authenticated s serial ack.result octets else stays s
+responded (Authenticating serial) s ack octets = if (ack.id == AUTH) && (ack.reply == serial) then authenticated s serial ack.result octets else stays s
 responded (Live serial) s ack octets = answered s s.units ack octets
 
 -- a reply to a registration, by the phase
@@ -361,7 +362,7 @@ heard s (TooMany h) = answers_if_live s.phase s (answer_to_refused s h)
 abbrev pub beats : State → Ruled
 beats s = record {
   state = record s { said = s.time; next = after_control s };
-  steps = Says (header_of s.settings.phone 0x0002 s.next) [] ∷ [];
+  steps = Says (header_of s.settings.phone HEARTBEAT s.next) [] ∷ [];
   end = None;
 }
 
@@ -386,8 +387,8 @@ oldest_again (unit ∷ more) = Sends 0 unit ∷ []
 
 abbrev pub again : State → Phase → List Step
 again s Down = []
-again s (Registering serial) = Says (header_of s.settings.phone 0x0100 serial) (register_octets s.settings) ∷ []
-again s (Authenticating serial) = Says (header_of s.settings.phone 0x0102 serial) (auth_octets s.settings (unwrap_or s.code [])) ∷ []
+again s (Registering serial) = Says (header_of s.settings.phone REGISTER serial) (register_octets s.settings) ∷ []
+again s (Authenticating serial) = Says (header_of s.settings.phone AUTH serial) (auth_octets s.settings (unwrap_or s.code [])) ∷ []
 again s (Live serial) = oldest_again s.units
 
 abbrev pub repeats : State → Ruled

@@ -1,14 +1,16 @@
 -- What any terminal may do, whoever built it: its steps, with numbers that do not wrap. To be believed.
-use Rattle.std.specs.Prelude.{◌≡◌, ◌≢◌, ◌⊎◌, not, ℕ, zero, suc, ◌+◌, ◌-◌, ◌<◌, ◌≤◌, ◌^◌, max, ◌==◌, ◌&&◌, ◌||◌, Bool, true, false, if◌then◌else◌, List, [], ◌∷◌, ◌++◌, length, map, slice_get, Option, None, Some, IsTrue, All}
+use Rattle.std.specs.Prelude.{◌≡◌, ◌≢◌, ◌⊎◌, not, ℕ, zero, suc, ◌+◌, ◌-◌, ◌<◌, ◌≤◌, ◌^◌, max, ◌==◌, ◌&&◌, ◌||◌, Bool, true, false, if◌then◌else◌, List, [], ◌∷◌, ◌++◌, length, slice_get, Option, None, Some, IsTrue}
 use Rattle.std.specs.List.{list_any}
 use Rattle.jt_value.specs.Serials.{serial_of}
 use Rattle.jt_value.specs.declared.phone.Phone.{Phone}
 use Rattle.jt_value.specs.Sameness.{key_of}
+use Rattle.jt_value.specs.declared.results.TheConstants.{SUCCESS}
+use Rattle.jt_value.specs.declared.ids.TheConstants.{AUTH, BATCH, DEREGISTER, POSITION, REGISTER}
 use Rattle.jt_header.specs.Content.{IsHeader, IsPhone}
 use Rattle.jt_header.specs.declared.header.Header.{Header}
-use Rattle.jt_position.specs.Fixes.{IsFix, fixes, fixes_of}
+use Rattle.jt_position.specs.Fixes.{IsFix}
 use Rattle.jt_store.specs.declared.row.Row.{Row}
-use Rattle.jt_terminal_rule.specs.Forming.{body_limit}
+use Rattle.jt_store.specs.Units.{MayForm}
 use Rattle.jt_terminal_rule.specs.declared.state.Acknowledgement.{Acknowledgement}
 use Rattle.jt_terminal_rule.specs.Messages.{is_acceptance, header_of, frame_of}
 
@@ -49,46 +51,16 @@ pub data TerminalStep : Type 0 where
   -- the code is set or removed
   Codes : Option (List ℕ) → TerminalStep
 
--- a list begins with another
-abbrev pub IsPrefixOf : {A : Type 0} → List A → List A → Type 0
-IsPrefixOf {A} xs ys = (rest : List A) × (ys ≡ xs ++ rest)
-
-abbrev pub carried : Row → ℕ × List ℕ
-carried row = (row.id, row.body)
-
--- the fixes in these units, in order
-abbrev pub fixes_in : List Row → List (List ℕ)
-fixes_in rows = fixes (map carried rows)
-
-abbrev pub past : Option Row → ℕ
-past None = 0
-past (Some unit) = unit.number + 1
-
--- one past the number of the last accepted unit, 0 without one
-abbrev pub past_accepted : List Row → ℕ → ℕ
-past_accepted units zero = 0
-past_accepted units (suc last) = past (slice_get units last)
-
--- The unit's number is above those of all units and of the last accepted one, and at most 32,766 above the latter. Its body fits one
--- packet and has the next fixes, one or more.
-pub record MayForm (m : Machine) (unit : Row) : Type 0 where
-  pub above : All (λ (older : Row). older.number < unit.number) m.units
-  pub after_accepted : past_accepted m.units m.accepted ≤ unit.number
-  pub near : unit.number < past_accepted m.units m.accepted + 32766
-  pub short : length unit.body ≤ body_limit
-  pub some : fixes_of (carried unit) ≢ []
-  pub next : IsPrefixOf (fixes_in m.units ++ fixes_of (carried unit)) m.recorded
-
 -- The message has the terminal's phone, and is no unit and no deregistration. Before the terminal is ready it is a registration or an
 -- authentication, and later it is no authentication.
 pub record MaySay (m : Machine) (h : Header) (body : List ℕ) : Type 0 where
   pub header : IsHeader h
   pub short : length body < 2 ^ 10
   pub own : h.phone ≡ m.phone
-  pub no_unit : (h.id ≢ 0x0200) × (h.id ≢ 0x0704)
-  pub no_deregistration : h.id ≢ 0x0003
-  pub before : m.ready ≡ false → (h.id ≡ 0x0100) ⊎ (h.id ≡ 0x0102)
-  pub after : h.id ≡ 0x0102 → m.ready ≡ false
+  pub no_unit : (h.id ≢ POSITION) × (h.id ≢ BATCH)
+  pub no_deregistration : h.id ≢ DEREGISTER
+  pub before : m.ready ≡ false → (h.id ≡ REGISTER) ⊎ (h.id ≡ AUTH)
+  pub after : h.id ≡ AUTH → m.ready ≡ false
 
 -- the response names the unit
 abbrev pub is_named : Acknowledgement → Option Row → Bool
@@ -104,7 +76,7 @@ names_oldest m (Some ack) = IsTrue (is_acceptance ack && is_named ack (slice_get
 -- starts again has the same twenty digits, in either edition.
 abbrev pub MayStep : Machine → Option Acknowledgement → TerminalStep → Type 0
 MayStep m just (Records fix) = IsFix fix
-MayStep m just (Forms unit) = MayForm m unit
+MayStep m just (Forms unit) = MayForm m.units m.accepted m.recorded unit
 MayStep m just (Sends place) = (m.using ≡ true) × (m.ready ≡ true) × (m.accepted ≤ place) × (place ≤ m.reach) × (place < length m.units)
 MayStep m just (Says h body) = (m.using ≡ true) × MaySay m h body
 MayStep m just Accepts = (m.using ≡ true) × (m.accepted < m.reach) × names_oldest m just
@@ -118,7 +90,7 @@ is_in serials serial = list_any (λ other. serial == other) serials
 
 -- the serials of authentications, each once
 abbrev pub auths_by : List ℕ → Header → List ℕ
-auths_by auths h = if (h.id == 0x0102) && not (is_in auths h.serial) then auths ++ h.serial ∷ [] else auths
+auths_by auths h = if (h.id == AUTH) && not (is_in auths h.serial) then auths ++ h.serial ∷ [] else auths
 
 abbrev pub without_line : Machine → Machine
 without_line m = record m { using = false; auths = []; ready = false; reach = m.accepted }
@@ -137,7 +109,7 @@ stepped m (Codes code) = record m { code = code }
 
 -- the response accepts an authentication of this line
 abbrev pub lets_in : List ℕ → Acknowledgement → Bool
-lets_in auths ack = (ack.result == 0) && ((ack.id == 0x0102) && is_in auths ack.reply)
+lets_in auths ack = (ack.result == SUCCESS) && ((ack.id == AUTH) && is_in auths ack.reply)
 
 -- the terminal once it read this response, if it read one
 abbrev pub hears : Machine → Option Acknowledgement → Machine

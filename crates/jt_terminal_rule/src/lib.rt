@@ -13,7 +13,7 @@ mod waits;
 pub use laws::{law_examples, law_forming, law_rule, law_unsaid, law_waits};
 pub use queue::Queue;
 pub use saying::{
-    AUTH, beats, beats_if_silent, frame, header, lose, now_in, opened, repeats, say_auth, say_unit,
+    beats, beats_if_silent, frame, header, lose, now_in, opened, repeats, say_auth, say_unit,
 };
 pub use settings::Settings;
 pub use state::{Acknowledgement, AnswerKind, Event, GiveUp, Phase, State, Timing, Wait};

@@ -13,14 +13,9 @@ use jt_codec::frame_into;
 use jt_header::Header;
 use jt_register::{Auth, write_auth, write_register};
 use jt_store::Unit;
+use jt_value::ids::{AUTH, HEARTBEAT, REGISTER};
 use jt_value::{Edition, Memory, Octets, Phone, Seq};
 use std::alloc::Global;
-
-pub(crate) const HEARTBEAT: u16 = 0x0002;
-
-pub(crate) const REGISTER: u16 = 0x0100;
-
-pub const AUTH: u16 = 0x0102;
 
 /// The header of a message of this id in one packet.
 pub fn header(phone: &Phone, id: u16, serial: u16) -> Header

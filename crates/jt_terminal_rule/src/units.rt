@@ -8,18 +8,13 @@ use crate::queue::Queue;
 use jt_layout::Writer;
 use jt_position::Fix;
 use jt_store::Unit;
+use jt_value::ids::{BATCH, POSITION};
+use jt_value::limits::BODY_LIMIT;
 use jt_value::{Memory, Octets};
 use std::alloc::Global;
 
-const POSITION: u16 = 0x0200;
-
-const BATCH: u16 = 0x0704;
-
 // The kind of a batch of positions that could not be sent when they were taken.
 const BLIND_AREA: u8 = 1;
-
-// The most octets of a body in one packet.
-const BODY_LIMIT: usize = 1_023;
 
 // How many octets of a batch stand before its positions, and before each of them.
 const BATCH_FRONT: usize = 3;

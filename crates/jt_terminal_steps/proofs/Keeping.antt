@@ -9,7 +9,7 @@ use Rattle.jt_value.specs.Serials.{serial_of, gap_of}
 use Rattle.jt_position.specs.Fixes.{IsFix, FixesAre}
 use Rattle.jt_store.specs.declared.unit.Unit.{Unit as OneUnit}
 use Rattle.jt_store.specs.Tables.{Told}
-use Rattle.jt_store.specs.Vaults.{Held, Change, Notes, Forms, Accepts, Sets, held_by, changed, settled, carried, AreInOrder, Gaps, IsUnit, gap_after}
+use Rattle.jt_store.specs.Vaults.{Held, Change, Notes, Forms, Accepts, Sets, held_by, changed, settled, fixes_carried, AreInOrder, Gaps, IsUnit, gap_after}
 use Rattle.jt_store.specs.Vaults as vaults
 use Rattle.jt_terminal_rule.specs.declared.state.Phase.{Phase}
 use Rattle.jt_terminal_rule.specs.declared.state.Phase.TheVariants.{Down, Registering, Authenticating}
@@ -125,7 +125,7 @@ module _ (carries : UnitCarriesFirstFixes) (s : State) (o : IsInOrder s) (fix : 
   formed_order = record { order = order; serials = serials_push s.units u o.serials (let lt = o.next in omega (arith, serial, lt)); phase = o.phase; mark = o.mark; next = omega arith; sent = let le = o.sent in omega (arith, length-append s.units (u ∷ []), le) }
 
 settled_formed : (h : Held) (u : OneUnit) → h.accepted ≤ length h.units → settled (held_by (Forms u) h) ≡ settled h
-settled_formed h u le = ap carried (take-append-le h.accepted h.units (u ∷ []) le)
+settled_formed h u le = ap fixes_carried (take-append-le h.accepted h.units (u ∷ []) le)
 
 abbrev formed_by : State → OneUnit → State
 formed_by s unit = record s { units = s.units ++ unit ∷ []; waiting = drop unit.count s.waiting; next = serial_of (s.next + 1) }
@@ -171,20 +171,20 @@ pub sound_sent : (held : Option Held) (s : State) (unit : OneUnit) → slice_get
 sound_sent held s unit there sound = sent_sound held s (slice_get_within s.units s.sent unit there) sound
 
 may_form : UnitCarriesFirstFixes → (held : Option Held) (s : State) (fixes : List (List ℕ)) (unit : OneUnit) → s.waiting ≡ fixes → Some unit ≡ unit_from s.next fixes → gap_of s.mark s.next < 32767 → IsSound held s
-    → IsUnit unit × Told held (λ h. vaults.MayForm h unit)
+    → IsUnit unit × Told held (λ h. vaults.MayCommit h unit)
 may_form carries held s [] unit waits is near sound = absurd cc
 may_form carries held s (fix ∷ more) unit waits is near sound =
     let u = unit_of s.next fix (fix ∷ more) in
     let same = some_is unit u is in
     let are = subst (All IsFix) waits sound.fixes in
-    subst (λ (x : OneUnit). IsUnit x × Told held (λ h. vaults.MayForm h x)) (sym same) (
+    subst (λ (x : OneUnit). IsUnit x × Told held (λ h. vaults.MayCommit h x)) (sym same) (
       carries.unit s.next fix more are,
-      told_map held (AgreesWhole s) (λ h. vaults.MayForm h u) (λ h t. (form_steps carries h s sound.order t.0 fix more waits near).commits.0.1) sound.agrees,
+      told_map held (AgreesWhole s) (λ h. vaults.MayCommit h u) (λ h t. (form_steps carries h s sound.order t.0 fix more waits near).commits.0.1) sound.agrees,
     )
 
 -- the vault takes the unit
 pub form_is_good : FixesAre → (held : Option Held) (s : State) (unit : OneUnit) → Some unit ≡ unit_from s.next s.waiting → nat_lt (gap_of s.mark s.next) 32767 ≡ true → IsSound held s
-    → IsUnit unit × Told held (λ h. vaults.MayForm h unit)
+    → IsUnit unit × Told held (λ h. vaults.MayCommit h unit)
 form_is_good fixes_are held s unit is near sound = may_form (unit_carries fixes_are) held s s.waiting unit refl is (ltb-true (gap_of s.mark s.next) 32767 near) sound
 
 -- ---- the oldest unit is accepted
@@ -193,7 +193,7 @@ risen_on : (a n by : ℕ) → a ≡ min n (2 ^ 64 - 1) → risen a by ≡ min (n
 risen_on a n by e = grind arith
 
 settled_accepted : (h : Held) (u : OneUnit) → slice_get h.units h.accepted ≡ Some u → settled (held_by Accepts h) ≡ settled h + u.count
-settled_accepted h u there = ap carried (take_at h.units h.accepted u there) ∙ counts_push (take h.accepted h.units) u
+settled_accepted h u there = ap fixes_carried (take_at h.units h.accepted u there) ∙ counts_push (take h.accepted h.units) u
 
 pub sound_accepted : (held : Option Held) (s : State) (u : OneUnit) (more : List OneUnit) → s.units ≡ u ∷ more → IsSound held s → IsSound (changed Accepts held) (accepted s u more)
 sound_accepted held s u more is sound = record {

@@ -21,7 +21,8 @@ use Rattle.jt_terminal_rule.specs.declared.state.Phase.{Phase}
 use Rattle.jt_terminal_rule.specs.declared.state.Phase.TheVariants.{Down, Registering, Authenticating, Live}
 use Rattle.jt_terminal_rule.specs.declared.state.State.{State}
 use Rattle.jt_terminal_rule.specs.Answers.{Answer, answer_to, answer_to_lack, id_of_answer, only_says, responds, takes_regions, tells_position}
-use Rattle.jt_terminal_rule.specs.Forming.{body_limit, unit_of}
+use Rattle.jt_terminal_rule.specs.Forming.{unit_of}
+use Rattle.jt_value.specs.declared.limits.TheConstants.{BODY_LIMIT}
 use Rattle.jt_terminal_rule.specs.Messages.{header_of}
 use Rattle.jt_terminal_rule.specs.Rule.{Step, Ruled, accepted, accepts, after_packets, and_then, answer_packets, answers, beats, beats_if_silent, changed_by, fill, fills, forms_one, message_limit, next_one, one_sent, or_stays, repeats, says_answer, says_each, says_packets, sends_one, stays, window}
 use Rattle.jt_terminal_rule.specs.Rule as rule
@@ -373,7 +374,7 @@ same_regions s h (Some regions) = record { timing = refl; params = refl }
 
 same_position : (s : State) (h : Header) (fix : Option (List ℕ)) → SameInAnswer s (tells_position s h fix)
 same_position s h None = record { timing = refl; params = refl }
-same_position s h (Some fix) = by (nat_le (2 + length fix) body_limit) (Some (Position, to_be_bytes w16 h.serial ++ fix))
+same_position s h (Some fix) = by (nat_le (2 + length fix) BODY_LIMIT) (Some (Position, to_be_bytes w16 h.serial ++ fix))
   where
     by : (b : Bool) (says : Option (AnswerKind × List ℕ)) → SameInAnswer s (cond b (only_says s says) (responds s h 1))
     by true says = record { timing = refl; params = refl }

@@ -6,7 +6,8 @@ use Rattle.jt_position.specs.Fixes.{IsFix}
 use Rattle.jt_store.specs.declared.unit.Unit.{Unit as OneUnit}
 use Rattle.jt_store.specs.declared.error.StoreError.{StoreError}
 use Rattle.jt_store.specs.declared.error.StoreError.TheVariants.{Failed, Full}
-use Rattle.jt_store.specs.Tables.{Told, Rose}
+use Rattle.jt_store.specs.Tables.{Told}
+use Rattle.jt_value.specs.Counts.{Rose}
 use Rattle.jt_store.specs.declared.unit.Loaded.{Loaded}
 use Rattle.jt_store.specs.Vaults.{Held, AreInOrder, IsLoaded, changed, settled}
 use Rattle.jt_terminal_rule.specs.declared.state.Phase.TheVariants.{Down}

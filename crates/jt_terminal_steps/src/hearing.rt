@@ -18,14 +18,12 @@ use jt_header::Header;
 use jt_register::RegisterReply;
 use jt_store::{Unit, Vault};
 use jt_terminal_answers::{answer, answer_lack, answer_refused};
-use jt_terminal_rule::{
-    AUTH, Acknowledgement, GiveUp, Phase, State, begun, lose, now_in, say_auth,
-};
+use jt_terminal_rule::{Acknowledgement, GiveUp, Phase, State, begun, lose, now_in, say_auth};
+use jt_value::ids::AUTH;
+use jt_value::limits::CODE_LIMIT;
+use jt_value::results::{ALARM_HANDLED, SUCCESS};
 use jt_value::{Edition, Memory, Octets, Seq};
 use std::alloc::Global;
-
-/// The most octets of a code.
-const CODE_LIMIT: usize = 255;
 
 // The line is given up, since the platform answered so.
 fn denied(
@@ -179,7 +177,7 @@ pub fn names(ack: Acknowledgement, unit: &Unit) -> bool
 pub fn is_acceptance(ack: Acknowledgement) -> bool
     ensures { result ≡ messages.is_acceptance ack }
 {
-    ack.result == 0 || ack.result == 4
+    ack.result == SUCCESS || ack.result == ALARM_HANDLED
 }
 
 // Whether the response names the oldest unit, which was sent on this line.

@@ -2,7 +2,7 @@
 
 ghost use Rattle.std.specs.Prelude.{◌≡◌, ◌<◌, ◌≤◌, ◌^◌, ◌++◌, ◌∷◌, [], None, Some, length, OnOk, OnErr, IfOk, if◌then◌else◌, ◌==◌};
 ghost use Rattle.jt_store.specs.Tables.{Told};
-ghost use Rattle.jt_store.specs.Vaults.{Forms, IsUnit, MayForm, changed};
+ghost use Rattle.jt_store.specs.Vaults.{Forms, IsUnit, MayCommit, changed};
 ghost use Rattle.jt_terminal_rule.specs.Rule as rule;
 ghost use Rattle.jt_terminal_steps.specs.AfterError.{AreSameTables, CutLists, lists_of};
 ghost use Rattle.jt_terminal_steps.specs.Running.{CutShort, IsSame, IsSound, MayBeCut, Outside, Ran, Went};
@@ -45,7 +45,7 @@ fn commit<V: Vault>(
     unit: &Unit,
 ) -> Result<(), TerminalError>
     requires unit { IsUnit unit.now }
-    requires may { Told (V.holds vault.old) (λ held. MayForm held unit.now) }
+    requires may { Told (V.holds vault.old) (λ held. MayCommit held unit.now) }
     ensures ok { OnOk result ((V.holds vault.new ≡ changed (Forms unit.now) (V.holds vault.old)) × (units.new ≡ units.old ++ unit.now ∷ [])) }
     ensures err { OnErr result ((V.holds vault.new ≡ V.holds vault.old) × (units.new ≡ units.old)) }
     ensures outside { Outside (V.faults vault.old) (V.faults vault.new) (V.limit vault.old) (V.limit vault.new) (V.may_fail vault.old) (V.may_fail vault.new) result }

@@ -12,6 +12,12 @@ use crate::fields::push_fields;
 use crate::line::Line;
 use jt_codec::Message;
 use jt_header::{Header, Packet};
+use jt_value::ids::{
+    AUTH, BATCH, CIRCLES, CONTROL, DELETE_CIRCLES, DELETE_POLYGONS, DELETE_RECTANGLES,
+    DELETE_ROUTES, DEREGISTER, HEARTBEAT, PARAMS, PLATFORM_ACK, POLYGON, POSITION, POSITION_REPLY,
+    QUERY_PARAMS, QUERY_POSITION, QUERY_SOME, RECTANGLES, REGISTER, REGISTER_REPLY, RESEND, ROUTE,
+    SET_PARAMS, TERMINAL_ACK, TERMINAL_RESEND, TEXT, TRACK,
+};
 use jt_value::{Edition, Memory, Octets, Phone};
 use std::alloc::{AllocError, Global};
 
@@ -22,34 +28,34 @@ pub(crate) fn id_name(edition: Edition, id: u16) -> &'static str
     ensures short { length result.now ≤ 17 }
 {
     match (edition, id) {
-        (_, 0x0001) => "terminal-ack",
-        (_, 0x8001) => "platform-ack",
-        (_, 0x0002) => "heartbeat",
-        (_, 0x0003) => "deregister",
-        (_, 0x8003) => "resend",
-        (_, 0x0100) => "register",
-        (_, 0x8100) => "register-reply",
-        (_, 0x0102) => "auth",
-        (_, 0x8103) => "set-params",
-        (_, 0x8104) => "query-params",
-        (_, 0x8106) => "query-some",
-        (_, 0x0104) => "params",
-        (_, 0x0200) => "position",
-        (_, 0x0201) => "position-reply",
-        (_, 0x8201) => "query-position",
-        (_, 0x8202) => "track",
-        (_, 0x0704) => "batch",
-        (_, 0x8300) => "text",
-        (_, 0x8105) => "control",
-        (_, 0x8601) => "delete-circles",
-        (_, 0x8603) => "delete-rectangles",
-        (_, 0x8605) => "delete-polygons",
-        (_, 0x8607) => "delete-routes",
-        (Edition::E2019, 0x0005) => "terminal-resend",
-        (Edition::E2013, 0x8600) => "circles",
-        (Edition::E2013, 0x8602) => "rectangles",
-        (Edition::E2013, 0x8604) => "polygon",
-        (Edition::E2013, 0x8606) => "route",
+        (_, TERMINAL_ACK) => "terminal-ack",
+        (_, PLATFORM_ACK) => "platform-ack",
+        (_, HEARTBEAT) => "heartbeat",
+        (_, DEREGISTER) => "deregister",
+        (_, RESEND) => "resend",
+        (_, REGISTER) => "register",
+        (_, REGISTER_REPLY) => "register-reply",
+        (_, AUTH) => "auth",
+        (_, SET_PARAMS) => "set-params",
+        (_, QUERY_PARAMS) => "query-params",
+        (_, QUERY_SOME) => "query-some",
+        (_, PARAMS) => "params",
+        (_, POSITION) => "position",
+        (_, POSITION_REPLY) => "position-reply",
+        (_, QUERY_POSITION) => "query-position",
+        (_, TRACK) => "track",
+        (_, BATCH) => "batch",
+        (_, TEXT) => "text",
+        (_, CONTROL) => "control",
+        (_, DELETE_CIRCLES) => "delete-circles",
+        (_, DELETE_RECTANGLES) => "delete-rectangles",
+        (_, DELETE_POLYGONS) => "delete-polygons",
+        (_, DELETE_ROUTES) => "delete-routes",
+        (Edition::E2019, TERMINAL_RESEND) => "terminal-resend",
+        (Edition::E2013, CIRCLES) => "circles",
+        (Edition::E2013, RECTANGLES) => "rectangles",
+        (Edition::E2013, POLYGON) => "polygon",
+        (Edition::E2013, ROUTE) => "route",
         _ => "opaque",
     }
 }

@@ -2,10 +2,13 @@
 #![tactic(auto)]
 
 mod buffer;
+pub mod ids;
+pub mod limits;
 mod memory;
 mod phone;
 mod placing;
 mod refusal;
+pub mod results;
 mod seq;
 mod serials;
 

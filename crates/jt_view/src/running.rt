@@ -2,7 +2,7 @@
 
 ghost use Rattle.std.specs.Prelude.{◌≡◌, ◌≢◌, ◌⊎◌, ◌≤◌, ◌^◌, IfSome};
 ghost use Rattle.std.specs.Io.KnownBytes.{IsAtEnd, Appends};
-ghost use Rattle.jt_io.specs.Count.{Rose};
+ghost use Rattle.jt_value.specs.Counts.{Rose};
 ghost use Rattle.jt_runner.specs.Answer.{IsFault, PrintsTaken, ReadsNoFurther, Runs, StopsAtWrite};
 ghost use Rattle.jt_view.specs.Answer.{IsOpen};
 ghost use Rattle.jt_view.specs.Report.{answer_of};

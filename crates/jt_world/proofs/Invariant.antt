@@ -6,7 +6,8 @@ use Rattle.jt_world.specs.declared.row.Row.{Row}
 use Rattle.jt_world.specs.declared.acknowledgement.Acknowledgement.{Acknowledgement}
 use Rattle.jt_world.specs.Messages.{unit_header, unit_content, answer_content, is_named}
 use Rattle.jt_world.specs.World.{World, fixes_in}
-use Rattle.jt_world.specs.Events.{IsPrefixOf, was_sent}
+use Rattle.jt_world.specs.Events.{was_sent}
+use mathlib.Core.List.{IsPrefix}
 use Rattle.jt_world.proofs.View.{View}
 use Rattle.jt_world.proofs.Meaning.{IsGood}
 
@@ -49,7 +50,7 @@ pub record UnitsOk (units : List Row) : Type 0 where
 pub record Inv (w : World) : Type 0 where
   pub units : UnitsOk w.units
   pub fixes : All IsFix w.recorded
-  pub recorded : IsPrefixOf (fixes_in w.units) w.recorded
+  pub recorded : IsPrefix (fixes_in w.units) w.recorded
   pub stored : length w.rows ≤ length w.units
   pub first_units : w.rows ≡ take (length w.rows) w.units
   pub accepted : w.accepted ≤ length w.rows

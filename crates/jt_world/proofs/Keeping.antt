@@ -18,8 +18,10 @@ use Rattle.jt_world.specs.declared.row.Row.{Row}
 use Rattle.jt_world.specs.declared.acknowledgement.Acknowledgement.{Acknowledgement}
 use Rattle.jt_world.specs.Messages.{serial_of, unit_header, unit_content, unit_frame, answer_header, answer, ack_octets, answer_frame, is_named, is_acceptance}
 use Rattle.jt_world.specs.World.{World, Line, written, moved, completed, carried, fixes_in, empty}
-use Rattle.jt_world.specs.Events.{Event, Record, Form, Send, Up, Down, Accept, IsPrefixOf, MayForm, MaySend, MayCome, after, was_sent, frame_at, is_accepted_by, accepted_by, oldest_by, may_accept, told_of, heard, sent, answered, is_above, is_new, stored, seen, unit_taken, moved_up, moved_down}
-use Rattle.jt_world.specs.Reaching.{MayAll, after_all, Reached}
+use Rattle.jt_world.specs.Events.{Event, Record, Form, Send, Up, Down, Accept, MayForm, MaySend, MayCome, after, was_sent, frame_at, is_accepted_by, accepted_by, oldest_by, may_accept, told_of, heard, sent, answered, is_above, is_new, stored, seen, unit_taken, moved_up, moved_down}
+use mathlib.Core.List.{IsPrefix}
+use Rattle.jt_value.specs.Reaching.{MayAll, after_all}
+use Rattle.jt_world.specs.Reaching.{Reached}
 use Rattle.jt_world.specs.Claim.{Kept}
 use Rattle.jt_world.proofs.Lists.{some_is, none_some, heads, tails, get_left, get_push, get_pushed, get_within, get_has, get_take, take_next, and_left, and_right, filter_passes}
 use Rattle.jt_world.proofs.View.{Laws, View, Comes, view_silent, view_written, view_moved}
@@ -74,15 +76,15 @@ fixes_push are units unit good =
     one : fixes (carried unit ∷ []) ≡ unit.body ∷ []
     one = append-nil (fixes_of (carried unit)) ∙ (ap (λ (id : ℕ). fixes_of (id, unit.body)) good.position ∙ fix_one are unit.body good.fix)
 
-fixes_first : (units : List Row) (n : ℕ) → IsPrefixOf (fixes_in (take n units)) (fixes_in units)
+fixes_first : (units : List Row) (n : ℕ) → IsPrefix (fixes_in (take n units)) (fixes_in units)
 fixes_first units zero = (fixes_in units, refl)
 fixes_first [] (suc n) = ([], refl)
 fixes_first (unit ∷ units) (suc n) =
     let more = fixes_first units n in
-    (more.0, ap (λ (list : List (List ℕ)). fixes_of (carried unit) ++ list) more.1 ∙ sym (append_assoc (fixes_of (carried unit)) (fixes_in (take n units)) more.0))
+    (more.0, append_assoc (fixes_of (carried unit)) (fixes_in (take n units)) more.0 ∙ ap (λ (list : List (List ℕ)). fixes_of (carried unit) ++ list) more.1)
 
-prefix_in : {A : Type 0} (xs ys : List A) (x : A) → IsPrefixOf (xs ++ x ∷ []) ys → slice_get ys (length xs) ≡ Some x
-prefix_in xs ys x p = ap (λ zs. slice_get zs (length xs)) p.1 ∙ get_left (xs ++ x ∷ []) p.0 (length xs) x (get_pushed xs x)
+prefix_in : {A : Type 0} (xs ys : List A) (x : A) → IsPrefix (xs ++ x ∷ []) ys → slice_get ys (length xs) ≡ Some x
+prefix_in xs ys x p = ap (λ zs. slice_get zs (length xs)) (sym p.1) ∙ get_left (xs ++ x ∷ []) p.0 (length xs) x (get_pushed xs x)
 
 all_at : {A : Type 0} (P : A → Type 0) (xs : List A) (i : ℕ) (x : A) → All P xs → slice_get xs i ≡ Some x → P x
 all_at P xs i x all e = subst P (get_or_from_slice_get xs i x x e) (all i x (get_within xs i x e))
@@ -93,7 +95,7 @@ record_kept : (w : World) (fix : List ℕ) → Inv w → IsFix fix → Inv (afte
 record_kept w fix v is = record {
   units = v.units;
   fixes = All-push IsFix w.recorded fix v.fixes is;
-  recorded = (v.recorded.0 ++ fix ∷ [], ap (λ (list : List (List ℕ)). list ++ fix ∷ []) v.recorded.1 ∙ append_assoc (fixes_in w.units) v.recorded.0 (fix ∷ []));
+  recorded = (v.recorded.0 ++ fix ∷ [], sym (append_assoc (fixes_in w.units) v.recorded.0 (fix ∷ [])) ∙ ap (λ (list : List (List ℕ)). list ++ fix ∷ []) v.recorded.1);
   stored = v.stored;
   first_units = v.first_units;
   accepted = v.accepted;
@@ -128,7 +130,7 @@ form_kept : Below → (w : World) (unit : Row) → Inv w → MayForm w unit → 
 form_kept below w unit v may = record {
   units = units_push w.units unit v.units good may.above;
   fixes = v.fixes;
-  recorded = (may.next.0, may.next.1 ∙ ap (λ (list : List (List ℕ)). list ++ may.next.0) (sym (fixes_push below.fixes w.units unit good)));
+  recorded = (may.next.0, ap (λ (list : List (List ℕ)). list ++ may.next.0) (fixes_push below.fixes w.units unit good) ∙ may.next.1);
   stored = omega (arith, v.stored, length_push w.units unit);
   first_units = v.first_units ∙ sym (take-append-le (length w.rows) w.units (unit ∷ []) v.stored);
   accepted = v.accepted;
@@ -427,7 +429,7 @@ step_kept below w Up v may = up_kept below w v v.queue v.in_order v.sent (view_m
 step_kept below w Down v may = down_kept below w v v.replies v.all_stored (view_moved below.streams w.line.down (map content_replied v.replies) v.down may)
 step_kept below w Accept v may = accept_kept w v may
 
-all_kept : Below → (w : World) (events : List Event) → Inv w → MayAll w events → Inv (after_all w events)
+all_kept : Below → (w : World) (events : List Event) → Inv w → MayAll MayCome after w events → Inv (after_all after w events)
 all_kept below w [] v may = v
 all_kept below w (event ∷ events) v may = all_kept below (after w event) events (step_kept below w event v may.0) may.1
 
@@ -455,12 +457,12 @@ kept_of : (w : World) → Inv w → Kept w
 kept_of w v = record {
   stored = v.stored;
   first_units = v.first_units;
-  recorded = (more.0 ++ v.recorded.0, v.recorded.1 ∙ (ap (λ (list : List (List ℕ)). list ++ v.recorded.0) (more.1 ∙ ap (λ (list : List Row). fixes_in list ++ more.0) (sym v.first_units)) ∙ append_assoc (fixes_in w.rows) more.0 v.recorded.0));
+  recorded = (more.0 ++ v.recorded.0, sym (append_assoc (fixes_in w.rows) more.0 v.recorded.0) ∙ (ap (λ (list : List (List ℕ)). list ++ v.recorded.0) (ap (λ (list : List Row). fixes_in list ++ more.0) v.first_units ∙ more.1) ∙ v.recorded.1));
   told = v.told;
   accepted = v.accepted;
 }
   where
-    more : IsPrefixOf (fixes_in (take (length w.rows) w.units)) (fixes_in w.units)
+    more : IsPrefix (fixes_in (take (length w.rows) w.units)) (fixes_in w.units)
     more = fixes_first w.units (length w.rows)
 
 -- every world that is reached keeps the claim

@@ -9,29 +9,19 @@ use Rattle.jt_world.specs.declared.acknowledgement.Acknowledgement.{Acknowledgem
 use Rattle.jt_world.specs.Messages.{is_unit, unit_of, acknowledgement_in}
 use Rattle.jt_world.specs.World.{World, Wire, moved, completed, empty}
 use Rattle.jt_world.specs.Events.{Event, Record, Form, Send, Up, Down, Accept, is_new, MayCome, after, seen, heard, told_of, unit_taken, moved_up, moved_down, may_accept}
-use Rattle.jt_world.specs.Reaching.{MayAll, after_all, Leads, Reached}
+use Rattle.jt_value.specs.Reaching.{after_all}
+use Rattle.jt_value.proofs.Reaching as any
+use Rattle.jt_world.specs.Reaching.{Leads, Reached}
 use Rattle.jt_world.specs.Script.{taken_up, taken_down, accepting}
 
-may_append : (w : World) (events more : List Event) → MayAll w events → MayAll (after_all w events) more → MayAll w (events ++ more)
-may_append w [] more may after_it = after_it
-may_append w (event ∷ events) more may after_it = (may.0, may_append (after w event) events more may.1 after_it)
-
-after_append : (w : World) (events more : List Event) → after_all w (events ++ more) ≡ after_all (after_all w events) more
-after_append w [] more = refl
-after_append w (event ∷ events) more = after_append (after w event) events more
-
 pub leads_same : (a b : World) → b ≡ a → Leads a b
-leads_same a b e = record { events = []; may = tt; to = sym e }
+leads_same a b e = any.leads_same MayCome after a b e
 
 pub leads_both : (a b c : World) → Leads a b → Leads b c → Leads a c
-leads_both a b c first second = record {
-  events = first.events ++ second.events;
-  may = may_append a first.events second.events first.may (subst (λ (w : World). MayAll w second.events) (sym first.to) second.may);
-  to = after_append a first.events second.events ∙ (ap (λ (w : World). after_all w second.events) first.to ∙ second.to);
-}
+leads_both a b c first second = any.leads_both MayCome after a b c first second
 
 pub leads_one : (a b : World) (event : Event) → MayCome a event → b ≡ after a event → Leads a b
-leads_one a b event may e = record { events = event ∷ []; may = (may, tt); to = sym e }
+leads_one a b event may e = any.leads_one MayCome after a b event may e
 
 pub leads_accepting : (w : World) → Leads w (accepting w)
 leads_accepting w = by (may_accept w) refl
@@ -146,7 +136,7 @@ longer w Up = seen_longer (moved_up w) (completed w.line.up)
 longer w Down = heard_longer (moved_down w) (completed w.line.down)
 longer w Accept = omega arith
 
-all_longer : (w : World) (events : List Event) → length w.rows ≤ length (after_all w events).rows
+all_longer : (w : World) (events : List Event) → length w.rows ≤ length (after_all after w events).rows
 all_longer w [] = omega arith
 all_longer w (event ∷ events) = omega (arith, longer w event, all_longer (after w event) events)
 

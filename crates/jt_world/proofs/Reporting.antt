@@ -129,7 +129,7 @@ may_form t platform up down ok lt = record {
   near = omega (arith, past_is t t.accepted (ok.accepted_formed, ok.formed_recorded), count, lt, ok.limited);
   unwrapped = omega (arith, count, lt, ok.limited);
   position = refl;
-  next = (drop (t.formed + 1) t.recorded, sym (take-append-drop (t.formed + 1) t.recorded) ∙ ap (λ (list : List (List ℕ)). list ++ drop (t.formed + 1) t.recorded) (first_fixes t lt ∙ ap (λ (list : List (List ℕ)). list ++ get_or t.recorded t.formed [] ∷ []) (sym (units_fixes t ok))));
+  next = (drop (t.formed + 1) t.recorded, ap (λ (list : List (List ℕ)). list ++ drop (t.formed + 1) t.recorded) (ap (λ (list : List (List ℕ)). list ++ get_or t.recorded t.formed [] ∷ []) (units_fixes t ok) ∙ sym (first_fixes t lt)) ∙ take-append-drop (t.formed + 1) t.recorded);
 }
   where
     units : List Row

@@ -1,7 +1,7 @@
 -- What is claimed of every world that is reached. To be believed.
 use Rattle.std.specs.Prelude.{◌≡◌, ℕ, ◌<◌, ◌≤◌, length, take, All}
 use Rattle.jt_world.specs.World.{World, fixes_in}
-use Rattle.jt_world.specs.Events.{IsPrefixOf}
+use mathlib.Core.List.{IsPrefix}
 use Rattle.jt_world.specs.Reaching.{Reached}
 
 pub record Kept (w : World) : Type 0 where
@@ -9,7 +9,7 @@ pub record Kept (w : World) : Type 0 where
   pub stored : length w.rows ≤ length w.units
   pub first_units : w.rows ≡ take (length w.rows) w.units
   -- the fixes stored are the first of those recorded
-  pub recorded : IsPrefixOf (fixes_in w.rows) w.recorded
+  pub recorded : IsPrefix (fixes_in w.rows) w.recorded
   -- each unit whose acceptance the terminal received is stored
   pub told : All (λ (place : ℕ). place < length w.rows) w.told
   -- and so is each that it holds as accepted

@@ -2,6 +2,8 @@
 -- it took: the two meet in the line alone.
 use Rattle.std.specs.Prelude.{◌≡◌, ℕ, zero, suc, ◌+◌, ◌-◌, ◌<◌, ◌≤◌, Bool, true, false, ◌&&◌, ◌==◌, nat_lt, nat_le, if◌then◌else◌, IsTrue, List, [], ◌∷◌, ◌++◌, length, Option, Some, None, All, slice_get}
 use Rattle.std.specs.List.{filter, list_any, range_with_len}
+use mathlib.Core.List.{IsPrefix}
+use Rattle.jt_value.specs.declared.ids.TheConstants.{POSITION}
 use Rattle.jt_position.specs.Fixes.{IsFix}
 use Rattle.jt_header.specs.declared.header.Header.{Header}
 use Rattle.jt_stream.specs.Unplaced.{Unplaced, Message, Fault}
@@ -24,10 +26,6 @@ pub data Event : Type 0 where
   -- the terminal takes an acceptance: its oldest unit that is not accepted is accepted
   Accept : Event
 
--- a list begins with another
-abbrev pub IsPrefixOf : {A : Type 0} → List A → List A → Type 0
-IsPrefixOf {A} xs ys = (rest : List A) × (ys ≡ xs ++ rest)
-
 -- ---- the terminal
 
 abbrev pub past : Option Row → ℕ
@@ -46,8 +44,8 @@ pub record MayForm (w : World) (unit : Row) : Type 0 where
   pub after_accepted : past_accepted w.units w.accepted ≤ unit.number
   pub near : unit.number < past_accepted w.units w.accepted + 32766
   pub unwrapped : unit.number < 65536
-  pub position : unit.id ≡ 0x0200
-  pub next : IsPrefixOf (fixes_in w.units ++ unit.body ∷ []) w.recorded
+  pub position : unit.id ≡ POSITION
+  pub next : IsPrefix (fixes_in w.units ++ unit.body ∷ []) w.recorded
 
 -- the unit of this place was sent on the line
 abbrev pub was_sent : Line → ℕ → Bool

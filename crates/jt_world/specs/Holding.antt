@@ -2,6 +2,7 @@
 use Rattle.std.specs.Prelude.{◌≡◌, ℕ, ◌+◌, ◌^◌, ◌<◌, ◌≤◌, Bool, true, false, List, [], ◌∷◌, length, take, drop, Option, Some, None, IsTrue, All, slice_index_or, ◌&&◌, ◌==◌, nat_lt, nat_le, if◌then◌else◌}
 use Rattle.std.specs.List.{range_with_len}
 use Rattle.jt_value.specs.Octets.{AreOctets}
+use Rattle.jt_value.specs.declared.ids.TheConstants.{POSITION}
 use Rattle.jt_escape.specs.Splitter.{StandsFor}
 use Rattle.jt_header.specs.Fields.{header_at, body_at}
 use Rattle.jt_position.specs.Views.{is_position}
@@ -47,7 +48,7 @@ pub record IsRead (octets : List ℕ) (taken : ℕ) (ahead : Bool) (held : Held)
 
 -- the unit of a place, which carries the fix of that place
 abbrev pub unit_at : ℕ → List ℕ → Row
-unit_at place fix = record { number = place; id = 0x0200; body = fix }
+unit_at place fix = record { number = place; id = POSITION; body = fix }
 
 -- units of one fix each, from this place on
 abbrev pub units_from : ℕ → List (List ℕ) → List Row
@@ -103,7 +104,7 @@ pub record IsFormed (w : World) (formed : ℕ) : Type 0 where
 -- an acknowledgement accepts the unit of a place, which it names by its number
 abbrev pub accepts_at : Terminal → Acknowledgement → ℕ → Bool
 accepts_at terminal ack place =
-    is_acceptance ack && (nat_lt place terminal.formed && ((ack.reply == place) && ((ack.id == 0x0200) && nat_le terminal.accepted place)))
+    is_acceptance ack && (nat_lt place terminal.formed && ((ack.reply == place) && ((ack.id == POSITION) && nat_le terminal.accepted place)))
 
 -- the place of the unit that it accepts by its number, if any
 abbrev pub told_by : Terminal → Acknowledgement → List ℕ

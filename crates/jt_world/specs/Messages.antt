@@ -5,6 +5,7 @@ use Rattle.jt_value.specs.declared.phone.Edition.{Edition}
 use Rattle.jt_value.specs.declared.phone.Edition.TheVariants.{E2013}
 use Rattle.jt_value.specs.declared.phone.Phone.{Phone}
 use Rattle.jt_value.specs.declared.refusal.Refusal.{Refusal}
+use Rattle.jt_value.specs.declared.ids.TheConstants.{PLATFORM_ACK, POSITION}
 use Rattle.jt_escape.specs.Frame.{framed}
 use Rattle.jt_header.specs.Content.{content_of}
 use Rattle.jt_header.specs.declared.header.Header.{Header}
@@ -37,7 +38,7 @@ unit_frame unit = framed (unit_content unit)
 
 -- a message carries a unit: it is a position report, in one packet
 abbrev pub is_unit : Header → List ℕ → Bool
-is_unit header body = (header.id == 0x0200) && (is_none header.packet && is_position body)
+is_unit header body = (header.id == POSITION) && (is_none header.packet && is_position body)
 
 -- the unit that a message carries, numbered by its serial: numbers do not wrap in this world
 abbrev pub unit_of : Header → List ℕ → Row
@@ -45,7 +46,7 @@ unit_of header body = record { number = header.serial; id = header.id; body = bo
 
 -- the header of the answer to a message: an acknowledgement to the message's phone under a serial of the platform's own
 abbrev pub answer_header : Header → ℕ → Header
-answer_header header serial = record { edition = header.edition; id = 0x8001; bit15 = false; version = header.version; phone = header.phone; serial = serial; packet = None }
+answer_header header serial = record { edition = header.edition; id = PLATFORM_ACK; bit15 = false; version = header.version; phone = header.phone; serial = serial; packet = None }
 
 -- success, naming the serial and the id of the message that is answered
 abbrev pub answer : Header → Acknowledgement

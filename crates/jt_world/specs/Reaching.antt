@@ -1,23 +1,11 @@
 -- Which worlds steps lead to. To be believed.
-use Rattle.std.specs.Prelude.{◌≡◌, List, [], ◌∷◌}
+use Rattle.jt_value.specs.Reaching.{Leads as LeadsBy}
 use Rattle.jt_world.specs.World.{World, empty}
-use Rattle.jt_world.specs.Events.{Event, MayCome, after}
-
--- each step may come where it stands
-abbrev pub MayAll : World → List Event → Type 0
-MayAll w [] = Unit {0}
-MayAll w (event ∷ events) = MayCome w event × MayAll (after w event) events
-
--- the world after these steps, one after another
-abbrev pub after_all : World → List Event → World
-after_all w [] = w
-after_all w (event ∷ events) = after_all (after w event) events
+use Rattle.jt_world.specs.Events.{MayCome, after}
 
 -- a list of steps leads from one world to another
-pub record Leads (old new : World) : Type 0 where
-  pub events : List Event
-  pub may : MayAll old events
-  pub to : after_all old events ≡ new
+abbrev pub Leads : World → World → Type 0
+Leads old new = LeadsBy MayCome after old new
 
 -- steps lead to the world from the one in which nothing has happened
 abbrev pub Reached : World → Type 0

@@ -1,5 +1,6 @@
 -- The world after a script line, and what the line stored. To be believed.
 use Rattle.std.specs.Prelude.{◌≡◌, ℕ, zero, suc, ◌-◌, ◌<◌, min, if◌then◌else◌, List, [], ◌∷◌, length, map, drop, Option, Some, None}
+use Rattle.jt_value.specs.declared.ids.TheConstants.{POSITION}
 use Rattle.jt_position.specs.Fixes.{position_at}
 use Rattle.jt_position.specs.Positions.{position}
 use Rattle.jt_script.specs.declared.event.WorldEvent.{WorldEvent}
@@ -42,7 +43,7 @@ taken_down (suc count) w = taken_down count (accepting (after w Down))
 
 -- the unit of a fix takes the next serial, from 0 on
 abbrev pub next_unit : World → List ℕ → Row
-next_unit w fix = record { number = length w.units; id = 0x0200; body = fix }
+next_unit w fix = record { number = length w.units; id = POSITION; body = fix }
 
 -- a fix becomes a unit, which is sent
 abbrev pub reported : World → List ℕ → World

@@ -14,19 +14,16 @@ ghost use Rattle.jt_world.specs.World.{fixes_in, written};
 
 use crate::acknowledgement::Acknowledgement;
 use crate::row::Row;
-use crate::terminal::POSITION;
 use crate::wire::Wire;
 use arrayvec::ArrayVec;
 use jt_codec::frame_into;
-use jt_escape::FRAME_LIMIT;
 use jt_header::Header;
 use jt_position::{law_fixes, view_position};
+use jt_value::ids::{PLATFORM_ACK, POSITION};
+use jt_value::limits::FRAME_LIMIT;
 use jt_value::{Memory, Octets};
 use std::alloc::Global;
 use std::marker::Model;
-
-/// The id of the platform's general responses (the standard's message bodies).
-const PLATFORM_ACK: u16 = 0x8001;
 
 /// What the platform holds.
 #[derive(Drop)]

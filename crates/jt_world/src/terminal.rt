@@ -16,15 +16,13 @@ use crate::acknowledgement::Acknowledgement;
 use crate::wire::Wire;
 use arrayvec::ArrayVec;
 use jt_codec::frame_into;
-use jt_escape::FRAME_LIMIT;
 use jt_header::Header;
 use jt_position::{Fix, law_fixes};
+use jt_value::ids::POSITION;
+use jt_value::limits::FRAME_LIMIT;
 use jt_value::{Edition, Memory, Phone};
 use std::alloc::Global;
 use std::marker::Model;
-
-/// The id of a position report.
-pub(crate) const POSITION: u16 = 0x0200;
 
 /// The most fixes that are recorded.
 const FIX_LIMIT: usize = 32_766;

@@ -1,7 +1,7 @@
 use Rattle.std.proofs.Common.{◌≡◌, take}
 use Rattle.std.specs.Io.KnownBytes.{Appends}
 use Rattle.std.specs.List.{flat_map}
-use Rattle.jt_io.specs.Count.{Counts}
+use Rattle.jt_value.specs.Counts.{Counts}
 use Rattle.jt_agent.proofs.moving.write_frames.Given as goal
 
 abbrev pub invariant-loop-frame : goal.invariant-loop-frame

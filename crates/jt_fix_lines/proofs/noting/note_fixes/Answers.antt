@@ -1,6 +1,7 @@
 use Rattle.std.proofs.Common.{◌+◌, length, Ok, Err, arith}
 use Rattle.jt_fix_lines.specs.Noting.{noting}
-use Rattle.jt_fix_lines.proofs.Recording.{at_line, beside_then, ends_beyond, ends_failed, ends_here, ends_last, ends_line, few_lines, goes_on}
+use Rattle.jt_fix_lines.proofs.Recording.{at_line, beside_then, ends_beyond, ends_failed, ends_here, ends_last, ends_line, goes_on}
+use Rattle.jt_lines.proofs.Fronts.{few_lines}
 use Rattle.jt_fix_lines.proofs.noting.note_fixes.Goals as goal
 
 pub overflow_add-number : goal.overflow_add-number

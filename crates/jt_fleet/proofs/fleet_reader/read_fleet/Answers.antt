@@ -1,5 +1,6 @@
 use Rattle.std.proofs.Common.{◌+◌, length, arith}
-use Rattle.jt_fleet.proofs.Hearing.{goes_on, ends_bad, ends_beyond, ends_last, ends_last_bad, ends_here, ends_failed, ends_memory, ends_last_memory, few_lines, good_is, bad_is}
+use Rattle.jt_fleet.proofs.Hearing.{goes_on, ends_bad, ends_beyond, ends_last, ends_last_bad, ends_here, ends_failed, ends_memory, ends_last_memory, good_is, bad_is}
+use Rattle.jt_lines.proofs.Fronts.{few_lines}
 use Rattle.jt_fleet.proofs.fleet_reader.read_fleet.Goals as goal
 
 pub overflow_add-number : goal.overflow_add-number

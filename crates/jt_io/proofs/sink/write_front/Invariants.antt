@@ -1,6 +1,6 @@
 use Rattle.std.proofs.Common.{◌≡◌, ◌≤◌, ◌-◌, length, take}
 use Rattle.std.specs.Io.KnownBytes.{Appends}
-use Rattle.jt_io.specs.Count.{Counts}
+use Rattle.jt_value.specs.Counts.{Counts}
 use Rattle.jt_io.proofs.sink.write_front.Given as goal
 
 abbrev pub invariant-loop-done : goal.invariant-loop-done
