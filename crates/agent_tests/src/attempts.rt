@@ -1,9 +1,9 @@
 ghost use Rattle.std.specs.Prelude.{◌≤◌, ◌^◌};
-ghost use Rattle.jt_link.specs.ScriptClock.{RiseFrom};
+ghost use Rattle.jt_outside.specs.ScriptClock.{RiseFrom};
 
 use crate::setting::{frames, link, ready, told};
 use jt_agent::{attempt, attempt_within};
-use jt_link::{ScriptClock, ScriptLink};
+use jt_outside::{ScriptClock, ScriptLink};
 use jt_value::{Memory, Octets, Seq};
 use std::alloc::Global;
 use std::test::Fail;

@@ -1,6 +1,6 @@
 use crate::setting::{frames, link, ready, told_all};
 use jt_agent::report_all;
-use jt_link::{ScriptClock, ScriptDial};
+use jt_outside::{ScriptClock, ScriptDial};
 use jt_value::{Memory, Seq};
 use std::alloc::Global;
 use std::test::Fail;

@@ -1,12 +1,12 @@
 //! A terminal over a vault in memory, links to it, and what attempts answer, as octets.
 
 ghost use Rattle.std.specs.Prelude.{◌≡◌, IfOk, IfSome};
-ghost use Rattle.jt_link.specs.ScriptLink.{IsUntouched};
+ghost use Rattle.jt_outside.specs.ScriptLink.{IsUntouched};
 ghost use Rattle.jt_terminal_rule.specs.Messages.{AreSettings};
 ghost use Rattle.jt_terminal_steps.specs.Running.{IsDown};
 
 use jt_agent::{AttemptEnd, Attempted, Outcome};
-use jt_link::ScriptLink;
+use jt_outside::ScriptLink;
 use jt_position::Fix;
 use jt_register::Register;
 use jt_store::MemVault;

@@ -1,8 +1,7 @@
 ghost use Rattle.std.specs.Prelude.{◌<◌, ◌≤◌, length};
 
 use jt_cli::{Outside, Status, run_alone};
-use jt_io::{MemSink, MemSource};
-use jt_link::{ScriptClock, ScriptDial};
+use jt_outside::{MemSink, MemSource, ScriptClock, ScriptDial};
 use jt_store::{MemKeeper, MemVault};
 use jt_value::{Memory, Octets, Seq};
 use std::alloc::Global;

@@ -1,5 +1,5 @@
-use jt_fleet::{FleetRead, read_fleet};
-use jt_io::MemSource;
+use jt_outside::MemSource;
+use jt_platform_command::{FleetRead, read_fleet};
 use jt_value::{Memory, Octets, Seq};
 use std::alloc::Global;
 use std::test::Fail;

@@ -1,5 +1,5 @@
-use jt_io::MemSource;
-use jt_lines::{LineReader, NextLine};
+use jt_input::{LineReader, NextLine};
+use jt_outside::MemSource;
 use jt_value::{Octets, Seq};
 use std::test::Fail;
 

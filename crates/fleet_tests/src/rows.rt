@@ -1,10 +1,9 @@
 ghost use Rattle.std.specs.Prelude.{IfOk};
-ghost use Rattle.jt_link.specs.ScriptLink.{IsUntouched};
+ghost use Rattle.jt_outside.specs.ScriptLink.{IsUntouched};
 
-use jt_io::{MemSink, MemSource};
-use jt_link::{ScriptLink, ScriptListen};
+use jt_input::Status;
+use jt_outside::{MemSink, MemSource, ScriptLink, ScriptListen};
 use jt_platform_command::platform;
-use jt_runner::Status;
 use jt_store::MemKeeper;
 use jt_value::{Memory, Octets, Seq};
 use jt_words::PlatformWords;

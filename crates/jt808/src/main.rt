@@ -2,9 +2,8 @@
 #![tactic(auto)]
 
 use jt_cli::{Outside, Status, run};
-use jt_io::{StdSink, StdSource};
+use jt_outside::{StdClock, StdSink, StdSource, TcpDial, TcpListen};
 use jt_sql::{SqlKeeper, SqlVault};
-use jt_tcp::{StdClock, TcpDial, TcpListen};
 use jt_value::Memory;
 use std::alloc::AllocError;
 use std::env::Env;

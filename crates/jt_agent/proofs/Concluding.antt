@@ -5,9 +5,9 @@ use Rattle.std.specs.Io.KnownBytes.{Appends}
 use Rattle.std.specs.List.{flat_map}
 use Rattle.std.proofs.lemmas.Grind.{flat_map-append}
 use Rattle.std.proofs.lemmas.List.{take_more}
-use Rattle.jt_io.specs.Sink.{AppendsPrefix}
-use Rattle.jt_io.proofs.Prefixes.{AppendsPrefix-more, AppendsPrefix-after}
-use Rattle.jt_link.specs.Link.{Wire}
+use Rattle.jt_outside.specs.Sink.{AppendsPrefix}
+use Rattle.jt_outside.proofs.Prefixes.{AppendsPrefix-more, AppendsPrefix-after}
+use Rattle.jt_outside.specs.Link.{Wire}
 use Rattle.jt_store.specs.declared.unit.Unit.{Unit as OneUnit}
 use Rattle.jt_terminal_rule.specs.declared.state.State.{State}
 use Rattle.jt_terminal_rule.specs.declared.state.GiveUp.{GiveUp}

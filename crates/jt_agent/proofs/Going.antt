@@ -5,12 +5,12 @@ use Rattle.std.specs.Io.KnownBytes.{Appends, IsAtEnd}
 use Rattle.std.specs.List.{flat_map}
 use Rattle.std.proofs.lemmas.Grind.{flat_map-append}
 use Rattle.jt_value.specs.Counts.{Rose, RoseBy, Counts, counted}
-use Rattle.jt_io.specs.Inbound.{Inbound}
-use Rattle.jt_io.specs.Sink.{AppendsPrefix}
+use Rattle.jt_outside.specs.Inbound.{Inbound}
+use Rattle.jt_outside.specs.Sink.{AppendsPrefix}
 use Rattle.jt_value.specs.Octets.{AreOctets}
 use Rattle.jt_value.proofs.OctetLists.{AreOctets-nil, AreOctets-append}
-use Rattle.jt_link.specs.Link.{Wire, Gives, GivesNone}
-use Rattle.jt_link.specs.Time.{Time, Tells, TellsAll}
+use Rattle.jt_outside.specs.Link.{Wire, Gives, GivesNone}
+use Rattle.jt_outside.specs.Time.{Time, Tells, TellsAll}
 use Rattle.jt_store.specs.Vaults.{Held}
 use Rattle.jt_terminal_rule.specs.declared.settings.Settings.{Settings}
 use Rattle.jt_terminal_rule.specs.declared.state.State.{State}

@@ -2,10 +2,10 @@
 use Rattle.std.specs.Prelude.{◌≡◌, ℕ, ◌≤◌, ◌⊎◌, List, [], ◌∷◌, ◌++◌, length, Option, Some, Bool, false}
 use Rattle.std.specs.Io.KnownBytes.{Appends, IsAtEnd}
 use Rattle.jt_value.specs.Counts.{Rose, RoseBy, Counts}
-use Rattle.jt_io.specs.Inbound.{Inbound}
+use Rattle.jt_outside.specs.Inbound.{Inbound}
 use Rattle.jt_value.specs.Octets.{AreOctets}
-use Rattle.jt_link.specs.Link.{Wire, Gives}
-use Rattle.jt_link.specs.Time.{Time, TellsAll}
+use Rattle.jt_outside.specs.Link.{Wire, Gives}
+use Rattle.jt_outside.specs.Time.{Time, TellsAll}
 use Rattle.jt_store.specs.Vaults.{Held}
 use Rattle.jt_terminal_rule.specs.declared.state.State.{State}
 use Rattle.jt_terminal_rule.specs.declared.state.Event.TheVariants.{Opened, Tick, Lost}

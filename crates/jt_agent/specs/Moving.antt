@@ -2,11 +2,11 @@
 use Rattle.std.specs.Prelude.{◌≡◌, ℕ, ◌≤◌, ◌⊎◌, List, ◌∷◌, length, Option, None, Some, Bool}
 use Rattle.std.specs.Io.KnownBytes.{Appends}
 use Rattle.jt_value.specs.Counts.{Rose, RoseBy, Counts}
-use Rattle.jt_io.specs.Inbound.{Inbound}
+use Rattle.jt_outside.specs.Inbound.{Inbound}
 use Rattle.jt_value.specs.Octets.{AreOctets}
-use Rattle.jt_io.specs.Sink.{AppendsPrefix}
-use Rattle.jt_link.specs.Link.{Wire, Gives, GivesNone}
-use Rattle.jt_link.specs.Time.{Time, Tells}
+use Rattle.jt_outside.specs.Sink.{AppendsPrefix}
+use Rattle.jt_outside.specs.Link.{Wire, Gives, GivesNone}
+use Rattle.jt_outside.specs.Time.{Time, Tells}
 use Rattle.jt_store.specs.Vaults.{Held}
 use Rattle.jt_terminal_rule.specs.declared.state.State.{State}
 use Rattle.jt_terminal_rule.specs.declared.state.Event.{Event}

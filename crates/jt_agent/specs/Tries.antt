@@ -1,9 +1,9 @@
 -- Attempts one after another, each over a link of its own (this project's own). To be believed.
 use Rattle.std.specs.Prelude.{◌≡◌, ℕ, ◌+◌, ◌^◌, ◌≤◌, ◌<◌, ◌⊎◌, List, [], ◌∷◌, Option, Some, true, false, length}
 use Rattle.jt_value.specs.Counts.{Rose, Counts}
-use Rattle.jt_link.specs.Link.{Wire}
-use Rattle.jt_link.specs.Pool.{Pool, GivesLink, taken_back}
-use Rattle.jt_link.specs.Time.{Time}
+use Rattle.jt_outside.specs.Link.{Wire}
+use Rattle.jt_outside.specs.Pool.{Pool, GivesLink, taken_back}
+use Rattle.jt_outside.specs.Time.{Time}
 use Rattle.jt_store.specs.Vaults.{Held}
 use Rattle.jt_terminal_rule.specs.declared.state.State.{State}
 use Rattle.jt_agent.specs.Course.{is_done}

@@ -3,8 +3,8 @@
 ghost use Rattle.std.specs.Prelude.{◌≡◌, ◌≤◌, ◌<◌, ◌+◌, ◌++◌, ◌^◌, List, ℕ, None, Some, Bool, length};
 ghost use Rattle.std.specs.List.{flat_map};
 ghost use Rattle.jt_value.specs.Counts.{Counts};
-ghost use Rattle.jt_io.specs.Sink.{WritesAll, WriteAllHasCause};
-ghost use Rattle.jt_link.specs.Link.{wire_of};
+ghost use Rattle.jt_outside.specs.Sink.{WritesAll, WriteAllHasCause};
+ghost use Rattle.jt_outside.specs.Link.{wire_of};
 ghost use Rattle.jt_terminal_rule.specs.Rule.{rule};
 ghost use Rattle.jt_terminal_steps.specs.Running.{IsEvent, time_after};
 ghost use Rattle.jt_terminal.specs.Line.{StandsForLine, fed};
@@ -15,8 +15,7 @@ ghost use Rattle.jt_agent.specs.Moving.{Comes, Concludes, LeavesEvent, TicksOnce
 ghost use Rattle.jt_agent.specs.declared.ending.Attempted.TheVariants.{StoreFault};
 
 use crate::ending::{AttemptEnd, Attempted};
-use jt_io::{Sink, write_all};
-use jt_link::{Clock, Link};
+use jt_outside::{Clock, Link, Sink, write_all};
 use jt_store::Vault;
 use jt_terminal::{Actions, Event, GiveUp, Terminal, TerminalError, TerminalLine};
 use jt_value::Octets;

@@ -2,7 +2,7 @@
 
 ghost use Rattle.std.specs.Prelude.{◌≡◌, ◌≤◌};
 ghost use Rattle.jt_value.specs.Counts.{Rose, RoseBy};
-ghost use Rattle.jt_link.specs.Link.{wire_of};
+ghost use Rattle.jt_outside.specs.Link.{wire_of};
 ghost use Rattle.jt_terminal_rule.specs.declared.state.Phase.TheVariants.{Down};
 ghost use Rattle.jt_agent.specs.Attempt.{VaultStays};
 ghost use Rattle.jt_agent.specs.Tries.{IsStoreFault, Reports, TriesOnce, dials_in, ends_told, between};
@@ -10,7 +10,7 @@ ghost use Rattle.jt_agent.specs.declared.ending.Attempted.TheVariants.{StoreFaul
 
 use crate::ending::{AttemptEnd, Attempted};
 use crate::running::attempt;
-use jt_link::{Clock, Dial};
+use jt_outside::{Clock, Dial};
 use jt_store::Vault;
 use jt_terminal::Terminal;
 use jt_value::Seq;

@@ -1,7 +1,7 @@
 //! One attempt over a link.
 
 ghost use Rattle.std.specs.Prelude.{◌≡◌, ◌≤◌, ◌^◌};
-ghost use Rattle.jt_link.specs.Link.{wire_of};
+ghost use Rattle.jt_outside.specs.Link.{wire_of};
 ghost use Rattle.jt_terminal_rule.specs.declared.state.Event.TheVariants.{Lost};
 ghost use Rattle.jt_terminal_rule.specs.declared.state.Phase.TheVariants.{Down};
 ghost use Rattle.jt_terminal_rule.specs.Rule.{rule};
@@ -12,7 +12,7 @@ ghost use Rattle.jt_agent.specs.declared.ending.Attempted.TheVariants.{StoreFaul
 
 use crate::ending::{AttemptEnd, Attempted};
 use crate::moving::{hear, tell, tick};
-use jt_link::{Clock, Link, LinkGot};
+use jt_outside::{Clock, Link, LinkGot};
 use jt_store::Vault;
 use jt_terminal::{Event, Terminal, TerminalLine, law_steps};
 use std::alloc::Global;

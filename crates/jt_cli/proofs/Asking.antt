@@ -1,8 +1,8 @@
 -- Words that ask one thing ask nothing else.
 use Rattle.std.proofs.Common.{◌≡◌, ℕ, List, Option, Some, None, IfSome, MatchOption, ap, sym, subst}
-use Rattle.jt_report.specs.ReportWords.{Told, AreWords as AreReportWords}
-use Rattle.jt_report.specs.Telling.{told_of}
-use Rattle.jt_report.specs.declared.report_words.ReportWords.{ReportWords}
+use Rattle.jt_report_command.specs.ReportWords.{Told, AreWords as AreReportWords}
+use Rattle.jt_report_command.specs.Telling.{told_of}
+use Rattle.jt_report_command.specs.declared.report_words.ReportWords.{ReportWords}
 use Rattle.jt_words.specs.Platform.{PlatformWords as AreWords}
 use Rattle.jt_cli.specs.Ask.{Ask, Act, ReportFixes, ServeLinks, Asks, AskOnly, AskNothing, TakesMemory}
 use Rattle.jt_cli.specs.Words.{words_of_task, AreNoTask, AreNoPlatform, AreNoReport}

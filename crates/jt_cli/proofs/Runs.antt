@@ -1,12 +1,12 @@
 -- What a run did, by what was found in its words.
 use Rattle.std.proofs.Common.{◌≡◌, ℕ, List, [], Option, refl, sym, subst, inl, inr, arith}
 use Rattle.std.proofs.KnownBytes.{Appends-nil}
-use Rattle.jt_report.specs.ReportWords.{Told}
+use Rattle.jt_report_command.specs.ReportWords.{Told}
 use Rattle.jt_report_command.specs.Running.{RunsReport, Scene}
 use Rattle.jt_report_command.specs.Settings.{settings_of}
 use Rattle.jt_terminal_steps.specs.Running.{IsStarted}
 use Rattle.jt_value.specs.declared.phone.Phone.{Phone}
-use Rattle.jt_runner.specs.declared.status.Status.TheVariants as status
+use Rattle.jt_input.specs.declared.status.Status.TheVariants as status
 use Rattle.jt_cli.specs.Ask.{Ask, Act, ReportFixes, ServeLinks, Asks, AskOnly, AskNothing, TakesMemory}
 use Rattle.jt_cli.specs.Running.{Eyes, Does, Ran, Refuses, Reports}
 use Rattle.jt_cli.specs.Usage.{usage, usage_line}

@@ -7,10 +7,10 @@ use Rattle.jt_world.specs.Claim.{Kept}
 use Rattle.jt_world.specs.Rehearsal.{Rehearsal, rehearsal, rehearsal_text, world_of, script_status, script_reply}
 use Rattle.jt_world.specs.Rehearsing.{Rehearses, ending}
 use Rattle.jt_world.specs.Rehearsing as rehearsing
-use Rattle.jt_runner.specs.Answer.{IsFault}
+use Rattle.jt_input.specs.Answer.{IsFault}
 use Rattle.jt_cli.specs.Script.{RunsScript}
-use Rattle.jt_runner.specs.declared.status.Status.{Status}
-use Rattle.jt_runner.specs.declared.status.Status.TheVariants as status
+use Rattle.jt_input.specs.declared.status.Status.{Status}
+use Rattle.jt_input.specs.declared.status.Status.TheVariants as status
 
 -- the statuses of the ways in which a rehearsal ends
 pub record IsStatusOf (result : Rehearsed) (status : Status) : Type 0 where

@@ -8,10 +8,10 @@ use Rattle.jt_view.specs.declared.closing.Closing.TheVariants.{Whole, TooLong, H
 use Rattle.jt_view.specs.declared.command.Command.{Command}
 use Rattle.jt_view.specs.declared.command.Report.{Report}
 use Rattle.jt_view.specs.declared.command.Report.TheVariants.{View, Check}
-use Rattle.jt_runner.specs.Answer.{Answers, IsFault}
-use Rattle.jt_runner.specs.Reply.{Reply}
-use Rattle.jt_runner.specs.declared.status.Status.{Status}
-use Rattle.jt_runner.specs.declared.status.Status.TheVariants as status
+use Rattle.jt_input.specs.Answer.{Answers, IsFault}
+use Rattle.jt_input.specs.Reply.{Reply}
+use Rattle.jt_input.specs.declared.status.Status.{Status}
+use Rattle.jt_input.specs.declared.status.Status.TheVariants as status
 use Rattle.jt_cli.specs.Statuses.{IsAlone}
 
 chosen : (b : Bool) → IsAlone (if b then status.Done else status.Refused)

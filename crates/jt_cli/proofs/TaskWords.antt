@@ -6,7 +6,7 @@ use Rattle.jt_cli.specs.declared.task.Task.{Task}
 use Rattle.jt_cli.specs.declared.task.Task.TheVariants.{Tell, Rehearse}
 use Rattle.jt_cli.specs.Words.{report_word, words_of, words_of_task}
 use Rattle.jt_words.specs.Platform.{PlatformWords as AreWords}
-use Rattle.jt_report.specs.ReportWords.{Told, AreWords as AreReportWords}
+use Rattle.jt_report_command.specs.ReportWords.{Told, AreWords as AreReportWords}
 
 abbrev first_letter : List (List ℕ) → ℕ
 first_letter [] = 0

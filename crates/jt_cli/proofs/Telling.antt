@@ -1,9 +1,9 @@
 -- A task that tells of a stream, by what the report did.
 use Rattle.std.proofs.Common.{◌≡◌, ◌⊎◌, ◌^◌, ℕ, List, Option, IfSome, sym, subst}
 use Rattle.std.specs.Io.KnownBytes.{Appends, IsAtEnd}
-use Rattle.jt_runner.specs.Answer.{IsFault, Runs, ReadsNoFurther, PrintsTaken, StopsAtWrite}
-use Rattle.jt_runner.specs.declared.status.Status.{Status}
-use Rattle.jt_runner.specs.declared.status.Status.TheVariants as status
+use Rattle.jt_input.specs.Answer.{IsFault, Runs, ReadsNoFurther, PrintsTaken, StopsAtWrite}
+use Rattle.jt_input.specs.declared.status.Status.{Status}
+use Rattle.jt_input.specs.declared.status.Status.TheVariants as status
 use Rattle.jt_view.specs.Answer.{IsOpen}
 use Rattle.jt_view.specs.Report.{answer_of}
 use Rattle.jt_view.specs.declared.command.Command.{Command}

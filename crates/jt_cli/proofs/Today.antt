@@ -2,15 +2,15 @@
 use Rattle.std.proofs.Common.{◌≡◌, ◌≢◌, ◌≤◌, ◌⊎◌, ℕ, List, [], Option, None, Some, false, refl, ap, sym, subst, inl, inr, arith}
 use Rattle.std.specs.Io.KnownBytes.{IsAtEnd}
 use Rattle.jt_value.specs.Counts.{Rose}
-use Rattle.jt_link.specs.Pool.{Pool}
+use Rattle.jt_outside.specs.Pool.{Pool}
 use Rattle.jt_platform.specs.History.{newest, tables_after}
 use Rattle.jt_platform_command.specs.Platform.{first_limit}
 use Rattle.jt_store.specs.Tables.{Tables}
-use Rattle.jt_report.specs.ReportWords.{Told, AreWords as AreReportWords}
+use Rattle.jt_report_command.specs.ReportWords.{Told, AreWords as AreReportWords}
 use Rattle.jt_view.specs.declared.command.Command.{Command}
 use Rattle.jt_words.specs.Platform.{PlatformWords as AreWords}
-use Rattle.jt_runner.specs.declared.status.Status.{Status}
-use Rattle.jt_runner.specs.declared.status.Status.TheVariants as status
+use Rattle.jt_input.specs.declared.status.Status.{Status}
+use Rattle.jt_input.specs.declared.status.Status.TheVariants as status
 use Rattle.jt_cli.specs.Acting.{Acts, TellsOf, Plays}
 use Rattle.jt_cli.specs.Ask.{Ask, Act, ReportFixes, ServeLinks, Asks, AskNothing}
 use Rattle.jt_cli.specs.Running.{Eyes, Does, Ran, Refuses, Reports, Serves, Streams}

@@ -1,8 +1,8 @@
 -- What the words of `report` tell, where they were found.
 use Rattle.std.proofs.Common.{◌≡◌, ℕ, List, Option, Some, None, IfSome, MatchOption, subst}
-use Rattle.jt_report.specs.ReportWords.{Told, AreWords as AreReportWords}
-use Rattle.jt_report.specs.Telling.{told_of}
-use Rattle.jt_report.specs.declared.report_words.ReportWords.{ReportWords}
+use Rattle.jt_report_command.specs.ReportWords.{Told, AreWords as AreReportWords}
+use Rattle.jt_report_command.specs.Telling.{told_of}
+use Rattle.jt_report_command.specs.declared.report_words.ReportWords.{ReportWords}
 
 pub is_told : (words : List (List ℕ)) (found : Option ReportWords) (told : ReportWords) → found ≡ Some told
     → IfSome found (λ t. AreReportWords (told_of t) words) → AreReportWords (told_of told) words

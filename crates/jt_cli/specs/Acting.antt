@@ -4,7 +4,7 @@ use Rattle.std.specs.Io.KnownBytes.{Appends, IsAtEnd}
 use Rattle.jt_world.specs.Claim.{Kept}
 use Rattle.jt_world.specs.Rehearsal.{script_reply, world_of}
 use Rattle.jt_world.specs.Rehearsing.{IsHeard}
-use Rattle.jt_runner.specs.Answer.{IsFault, Runs, ReadsNoFurther, PrintsTaken, StopsAtWrite}
+use Rattle.jt_input.specs.Answer.{IsFault, Runs, ReadsNoFurther, PrintsTaken, StopsAtWrite}
 use Rattle.jt_view.specs.Answer.{IsOpen}
 use Rattle.jt_view.specs.Report.{answer_of}
 use Rattle.jt_cli.specs.Script.{RunsScript}
@@ -12,8 +12,8 @@ use Rattle.jt_cli.specs.Statuses.{IsAlone}
 use Rattle.jt_view.specs.declared.command.Command.{Command}
 use Rattle.jt_cli.specs.declared.task.Task.{Task}
 use Rattle.jt_cli.specs.declared.task.Task.TheVariants.{Tell, Rehearse}
-use Rattle.jt_runner.specs.declared.status.Status.{Status}
-use Rattle.jt_runner.specs.declared.status.Status.TheVariants.{Done, ReadFault, WriteFault}
+use Rattle.jt_input.specs.declared.status.Status.{Status}
+use Rattle.jt_input.specs.declared.status.Status.TheVariants.{Done, ReadFault, WriteFault}
 
 -- `view` and `check`: the octets that were taken, what was written of the answer to them, and that
 -- it is the answer to the whole source, whatever else the source has

@@ -1,6 +1,6 @@
 -- What words ask of the program. To be believed.
 use Rattle.std.specs.Prelude.{◌≡◌, ℕ, List}
-use Rattle.jt_report.specs.ReportWords.{Told, AreWords as AreReportWords}
+use Rattle.jt_report_command.specs.ReportWords.{Told, AreWords as AreReportWords}
 use Rattle.jt_words.specs.Platform.{PlatformWords}
 use Rattle.jt_cli.specs.Words.{words_of_task}
 use Rattle.jt_cli.specs.declared.task.Task.{Task}

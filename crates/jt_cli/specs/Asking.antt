@@ -1,6 +1,6 @@
 -- What is so of words that were read. A step function for the proofs.
 use Rattle.std.specs.Prelude.{List, ℕ}
-use Rattle.jt_report.specs.Telling.{told_of}
+use Rattle.jt_report_command.specs.Telling.{told_of}
 use Rattle.jt_cli.specs.Ask.{Ask, Act, ReportFixes, ServeLinks, Asks, AskOnly, AskNothing, TakesMemory}
 use Rattle.jt_cli.specs.declared.asked.Asked.{Asked}
 use Rattle.jt_cli.specs.declared.asked.Asked.TheVariants as asked

@@ -1,5 +1,5 @@
-pub use Rattle.jt_runner.specs.Answer
-pub use Rattle.jt_runner.specs.Reply
+pub use Rattle.jt_input.specs.Answer
+pub use Rattle.jt_input.specs.Reply
 pub use Rattle.jt_view.specs.Report
 pub mod Acting
 pub mod Ask

@@ -2,23 +2,23 @@
 use Rattle.std.specs.Prelude.{◌≡◌, ◌≢◌, ◌⊎◌, ℕ, Bool, List, [], length, Option, None}
 use Rattle.std.specs.Io.KnownBytes.{IsAtEnd}
 use Rattle.jt_value.specs.Counts.{Rose}
-use Rattle.jt_link.specs.Pool.{Pool}
-use Rattle.jt_link.specs.Time.{Time}
+use Rattle.jt_outside.specs.Pool.{Pool}
+use Rattle.jt_outside.specs.Time.{Time}
 use Rattle.jt_store.specs.Tables.{Tables, Told}
 use Rattle.jt_store.specs.Vaults.{Held, settled, unsettled}
 use Rattle.jt_platform.specs.History.{newest, tables_after}
 use Rattle.jt_platform_command.specs.Platform.{first_limit}
 use Rattle.jt_platform_command.specs.Running as platform
 use Rattle.jt_platform_command.specs.Running.{RunsPlatform}
-use Rattle.jt_report.specs.ReportWords as words
+use Rattle.jt_report_command.specs.ReportWords as words
 use Rattle.jt_report_command.specs.Running as report
 use Rattle.jt_report_command.specs.Running.{RunsReport}
 use Rattle.jt_report_command.specs.Settings.{settings_of}
 use Rattle.jt_report_command.specs.Steps.{VaultKeeps}
 use Rattle.jt_terminal_steps.specs.Running.{IsStarted}
-use Rattle.jt_runner.specs.Answer.{Answers}
-use Rattle.jt_runner.specs.declared.status.Status.{Status}
-use Rattle.jt_runner.specs.declared.status.Status.TheVariants.{Done, Unsent, ReadFault, StoreFault, NetFault}
+use Rattle.jt_input.specs.Answer.{Answers}
+use Rattle.jt_input.specs.declared.status.Status.{Status}
+use Rattle.jt_input.specs.declared.status.Status.TheVariants.{Done, Unsent, ReadFault, StoreFault, NetFault}
 use Rattle.jt_cli.specs.Acting.{Acts}
 use Rattle.jt_cli.specs.Ask.{Ask, Act, ReportFixes, ServeLinks, Asks}
 use Rattle.jt_cli.specs.Usage.{usage}

@@ -2,8 +2,8 @@
 use Rattle.std.specs.Prelude.{◌⊎◌, ℕ, List, Option}
 use Rattle.jt_world.specs.Claim.{Kept}
 use Rattle.jt_world.specs.Rehearsal.{script_reply, world_of}
-use Rattle.jt_runner.specs.Answer.{IsFault, Runs}
-use Rattle.jt_runner.specs.declared.status.Status.{Status}
+use Rattle.jt_input.specs.Answer.{IsFault, Runs}
+use Rattle.jt_input.specs.declared.status.Status.{Status}
 
 -- A run of `rehearse` over a source and a sink: what it answers to the octets that were taken, and that the claim of delivery
 -- holds of the world of that script, where the run had no fault.

@@ -1,6 +1,6 @@
 -- The statuses of a run that needs no links and no stores. To be believed.
-use Rattle.jt_runner.specs.declared.status.Status.{Status}
-use Rattle.jt_runner.specs.declared.status.Status.TheVariants.{Done, Refused, Usage, ReadFault, WriteFault, StoreFault, NetFault, Unsent, Memory}
+use Rattle.jt_input.specs.declared.status.Status.{Status}
+use Rattle.jt_input.specs.declared.status.Status.TheVariants.{Done, Refused, Usage, ReadFault, WriteFault, StoreFault, NetFault, Unsent, Memory}
 
 -- it is none of a store's, a listener's or of fixes that are not accepted
 abbrev pub IsAlone : Status → Type 0

@@ -1,7 +1,7 @@
 -- What words that are no command are answered: this project's text. To be believed.
 use Rattle.std.specs.Prelude.{ℕ, List, codes}
-use Rattle.jt_runner.specs.Reply.{Reply}
-use Rattle.jt_runner.specs.declared.status.Status.TheVariants.{Usage}
+use Rattle.jt_input.specs.Reply.{Reply}
+use Rattle.jt_input.specs.declared.status.Status.TheVariants.{Usage}
 
 -- what every faulty command line is answered
 unfoldable pub usage_line : List ℕ

@@ -7,7 +7,7 @@ use Rattle.jt_cli.specs.declared.task.Task.{Task}
 use Rattle.jt_cli.specs.declared.task.Task.TheVariants.{Tell, Rehearse}
 use Rattle.jt_view.specs.declared.command.Report.{Report}
 use Rattle.jt_words.specs.Platform.{PlatformWords}
-use Rattle.jt_report.specs.ReportWords.{Told, AreWords as AreReportWords}
+use Rattle.jt_report_command.specs.ReportWords.{Told, AreWords as AreReportWords}
 use Rattle.jt_view.specs.declared.command.Report.TheVariants.{View, Check}
 
 -- what to tell of the input

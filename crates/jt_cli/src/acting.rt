@@ -2,7 +2,7 @@
 
 ghost use Rattle.std.specs.Prelude.{◌≡◌, ◌≢◌, []};
 ghost use Rattle.jt_value.specs.Counts.{Rose};
-ghost use Rattle.jt_runner.specs.Answer.{Answers};
+ghost use Rattle.jt_input.specs.Answer.{Answers};
 ghost use Rattle.jt_cli.specs.Acting.{Acts};
 ghost use Rattle.jt_cli.specs.Running.{Refuses, Streams, eyes_of};
 ghost use Rattle.jt_cli.specs.Usage.{usage};
@@ -11,9 +11,8 @@ use crate::outside::{Ended, Outside};
 use crate::playing::play;
 use crate::task::Task;
 use crate::usage::push_usage_line;
-use jt_io::{Sink, Source, write_all};
-use jt_link::{Clock, Dial};
-use jt_runner::Status;
+use jt_input::Status;
+use jt_outside::{Clock, Dial, Sink, Source, write_all};
 use jt_store::{Keeper, Vault};
 use jt_value::Seq;
 use jt_view::report;

@@ -9,10 +9,9 @@ use crate::acting::{give_up, refuse, run_task};
 use crate::asked::Asked;
 use crate::outside::{Ended, Outside};
 use crate::reporting::run_report;
-use jt_io::{Sink, Source};
-use jt_link::{Clock, Dial};
+use jt_input::Status;
+use jt_outside::{Clock, Dial, Sink, Source};
 use jt_report_command::law_without_memory;
-use jt_runner::Status;
 use jt_store::{Keeper, Vault};
 use std::alloc::Global;
 

@@ -5,7 +5,7 @@ ghost use Rattle.jt_cli.specs.Asking.{AreRead};
 ghost use Rattle.jt_cli.specs.Words.{AreNoPlatform, AreNoTask};
 
 use crate::task::Task;
-use jt_report::ReportWords;
+use jt_report_command::ReportWords;
 use jt_value::Memory;
 use jt_words::PlatformWords;
 use std::alloc::Global;

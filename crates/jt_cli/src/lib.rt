@@ -13,7 +13,7 @@ mod usage;
 
 pub use alone::run_alone;
 pub use asked::Asked;
-pub use jt_runner::Status;
+pub use jt_input::Status;
 pub use jt_text::{refusal_line, view_line};
 pub use jt_view::{
     Closing, Command, Encoding, Report, law_octets_of_front, law_wrong_stays, report,

@@ -1,7 +1,7 @@
 //! What the program is run over, and what it gives back.
 
+use jt_input::Status;
 use jt_platform::Entry;
-use jt_runner::Status;
 use jt_session::Report;
 use jt_value::Seq;
 

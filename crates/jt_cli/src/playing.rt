@@ -6,12 +6,12 @@ ghost use Rattle.jt_value.specs.Counts.{Rose};
 ghost use Rattle.jt_world.specs.Claim.{Kept};
 ghost use Rattle.jt_world.specs.Rehearsal.{script_reply, world_of};
 ghost use Rattle.jt_world.specs.Rehearsing.{IsHeard};
-ghost use Rattle.jt_runner.specs.Answer.{IsFault, PrintsTaken, ReadsNoFurther, StopsAtWrite};
+ghost use Rattle.jt_input.specs.Answer.{IsFault, PrintsTaken, ReadsNoFurther, StopsAtWrite};
 ghost use Rattle.jt_cli.specs.Script.{RunsScript};
 ghost use Rattle.jt_cli.specs.Statuses.{IsAlone};
 
-use jt_io::{Sink, Source};
-use jt_runner::Status;
+use jt_input::Status;
+use jt_outside::{Sink, Source};
 use jt_world::{Rehearsed, rehearse};
 use std::alloc::Global;
 

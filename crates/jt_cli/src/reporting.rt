@@ -2,16 +2,14 @@
 
 ghost use Rattle.std.specs.Prelude.{◌≡◌, ◌≢◌};
 ghost use Rattle.jt_value.specs.Counts.{Rose};
-ghost use Rattle.jt_report.specs.Telling.{told_of};
+ghost use Rattle.jt_report_command.specs.Telling.{told_of};
 ghost use Rattle.jt_report_command.specs.Settings.{AreSpoken};
 ghost use Rattle.jt_cli.specs.Running.{Reports, eyes_of};
 
 use crate::outside::{Ended, Outside};
-use jt_io::{Sink, Source};
-use jt_link::{Clock, Dial};
-use jt_report::ReportWords;
-use jt_report_command::{ReportRun, report};
-use jt_runner::Status;
+use jt_input::Status;
+use jt_outside::{Clock, Dial, Sink, Source};
+use jt_report_command::{ReportRun, ReportWords, report};
 use jt_store::{Keeper, Vault};
 use jt_value::Seq;
 use std::alloc::Global;

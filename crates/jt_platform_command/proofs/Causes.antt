@@ -1,10 +1,10 @@
 -- Why a run of `platform` ends with a status.
 use Rattle.std.proofs.Common.{◌≡◌, ◌≢◌, ◌≤◌, ◌+◌, ◌⊎◌, inl, inr, ℕ, Bool, true, false, if◌then◌else◌, List, [], ◌∷◌, length, Option, Some, None, refl, sym, subst, ◌∙◌, arith}
 use Rattle.jt_value.specs.Counts.{Rose, RoseBy}
-use Rattle.jt_link.specs.Pool.{Pool}
-use Rattle.jt_runner.specs.Answer.{IsFault}
-use Rattle.jt_runner.specs.declared.status.Status.{Status}
-use Rattle.jt_runner.specs.declared.status.Status.TheVariants as status
+use Rattle.jt_outside.specs.Pool.{Pool}
+use Rattle.jt_input.specs.Answer.{IsFault}
+use Rattle.jt_input.specs.declared.status.Status.{Status}
+use Rattle.jt_input.specs.declared.status.Status.TheVariants as status
 use Rattle.jt_server.specs.Served.{EndsAs, store_faults, one_fault}
 use Rattle.jt_server.specs.declared.served.ServeEnd.{ServeEnd}
 use Rattle.jt_server.specs.declared.served.ServeEnd.TheVariants as served

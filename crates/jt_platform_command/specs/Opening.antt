@@ -2,8 +2,8 @@
 use Rattle.std.specs.Prelude.{ℕ, List, Option}
 use Rattle.jt_platform.specs.Allowed.{Opening}
 use Rattle.jt_platform.specs.declared.request.Entry.{Entry}
-use Rattle.jt_runner.specs.Answer.{Answers}
-use Rattle.jt_runner.specs.declared.status.Status.{Status}
+use Rattle.jt_input.specs.Answer.{Answers}
+use Rattle.jt_input.specs.declared.status.Status.{Status}
 use Rattle.jt_session.specs.declared.report.Report.{Report}
 use Rattle.jt_platform_command.specs.Platform.{Came, platform_text}
 use Rattle.jt_platform_command.specs.Running.{Scene, Listens, EndsSo}

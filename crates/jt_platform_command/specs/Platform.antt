@@ -5,9 +5,9 @@ use Rattle.std.specs.List.{flat_map}
 use Rattle.jt_platform.specs.declared.request.Entry.{Entry}
 use Rattle.jt_platform.specs.declared.request.Reply.{Reply as Replied}
 use Rattle.jt_platform.specs.declared.request.Reply.TheVariants as say
-use Rattle.jt_runner.specs.Lines.{bad_line}
-use Rattle.jt_runner.specs.Reply.{Reply}
-use Rattle.jt_runner.specs.declared.status.Status.TheVariants as status
+use Rattle.jt_input.specs.Lines.{bad_line}
+use Rattle.jt_input.specs.Reply.{Reply}
+use Rattle.jt_input.specs.declared.status.Status.TheVariants as status
 use Rattle.jt_server.specs.declared.served.ServeEnd.{ServeEnd}
 use Rattle.jt_server.specs.declared.served.ServeEnd.TheVariants as served
 use Rattle.jt_session.specs.declared.end.End.{End}

@@ -2,7 +2,7 @@
 use Rattle.std.specs.Prelude.{◌≡◌, ◌⊎◌, ◌<◌, ℕ, List, [], length, map, Option}
 use Rattle.std.specs.Io.KnownBytes.{Consumes, IsAtEnd}
 use Rattle.jt_value.specs.Counts.{Rose, RoseBy}
-use Rattle.jt_link.specs.Pool.{Pool}
+use Rattle.jt_outside.specs.Pool.{Pool}
 use Rattle.jt_store.specs.Tables.{Tables}
 use Rattle.jt_turn.specs.Histories.{entries_of}
 use Rattle.jt_platform.specs.Allowed.{Legal, Opening}
@@ -11,16 +11,16 @@ use Rattle.jt_platform.specs.History.{newest}
 use Rattle.jt_platform.specs.Hub.{opening_of}
 use Rattle.jt_platform.specs.declared.request.Entry.{Entry}
 use Rattle.jt_platform.specs.declared.request.Fleet.{Fleet}
-use Rattle.jt_runner.specs.Answer.{Answers}
-use Rattle.jt_runner.specs.declared.status.Status.{Status}
-use Rattle.jt_runner.specs.declared.status.Status.TheVariants as status
+use Rattle.jt_input.specs.Answer.{Answers}
+use Rattle.jt_input.specs.declared.status.Status.{Status}
+use Rattle.jt_input.specs.declared.status.Status.TheVariants as status
 use Rattle.jt_server.specs.Served.{AreServed, EndsAs, store_faults}
 use Rattle.jt_server.specs.declared.served.ServeEnd.{ServeEnd}
 use Rattle.jt_server.specs.declared.served.ServeEnd.TheVariants as served
 use Rattle.jt_session.specs.declared.report.Report.{Report}
-use Rattle.jt_fleet.specs.FleetText.{FleetOf, fleet_in}
-use Rattle.jt_fleet.specs.FleetText as text
-use Rattle.jt_fleet.specs.Reading.{IsSettled}
+use Rattle.jt_platform_command.specs.FleetText.{FleetOf, fleet_in}
+use Rattle.jt_platform_command.specs.FleetText as text
+use Rattle.jt_platform_command.specs.Reading.{IsSettled}
 use Rattle.jt_platform_command.specs.Platform.{Came, BadLine, Unserved, NoListener, Served, platform_text}
 
 -- what is seen of the listener and the keeper, before a run or after it

@@ -11,11 +11,10 @@ ghost use Rattle.jt_platform_command.specs.Running.{RunsPlatform, scene_of};
 ghost use Rattle.jt_platform_command.specs.Opening.{Opens};
 
 use crate::telling::{tell_bad_line, tell_no_listener, tell_served};
-use jt_fleet::{FleetRead, read_fleet};
-use jt_io::{Sink, Source};
-use jt_link::Listen;
+use crate::{FleetRead, read_fleet};
+use jt_input::Status;
+use jt_outside::{Listen, Sink, Source};
 use jt_platform::{Entry, Fleet, Hub};
-use jt_runner::Status;
 use jt_server::{Served, serve};
 use jt_session::Report;
 use jt_store::Keeper;

@@ -2,12 +2,12 @@
 
 ghost use Rattle.std.specs.Prelude.{◌≡◌, ◌<◌, ◌+◌, ◌^◌, ◌++◌, ◌||◌, string_bytes, OnOk, if◌then◌else◌};
 ghost use Rattle.std.specs.List.{flat_map};
-ghost use Rattle.jt_runner.specs.declared.status.Status.TheVariants.{Memory};
+ghost use Rattle.jt_input.specs.declared.status.Status.TheVariants.{Memory};
 ghost use Rattle.jt_platform_command.specs.Platform.{count_of, end_word, entries_line, is_renumbered, is_repeat, is_stored, session_counts, session_line, session_octets, totals_line};
 ghost use Rattle.jt_platform_command.specs.Platform.{first_limit, is_memory, is_store_fault, last_reply, limit_in, or_limit, some_end, store_reply};
 
+use jt_input::Status;
 use jt_platform::{Entry, Reply};
-use jt_runner::Status;
 use jt_server::ServeEnd;
 use jt_session::{End, Report};
 use std::alloc::AllocError;

@@ -2,15 +2,15 @@
 
 ghost use Rattle.std.specs.Prelude.{◌≡◌, ◌≢◌, ◌⊎◌, ◌++◌, string_bytes, OnOk, if◌then◌else◌};
 ghost use Rattle.jt_value.specs.Counts.{Rose};
-ghost use Rattle.jt_runner.specs.Answer.{Answers, IsFault};
-ghost use Rattle.jt_runner.specs.declared.status.Status.TheVariants.{Memory};
+ghost use Rattle.jt_input.specs.Answer.{Answers, IsFault};
+ghost use Rattle.jt_input.specs.declared.status.Status.TheVariants.{Memory};
 ghost use Rattle.jt_platform_command.specs.Platform.{BadLine, NoListener, Served, is_memory, last_reply, platform_text, some_end};
 ghost use Rattle.jt_platform_command.specs.Running.{EndsOf};
 
 use crate::printing::{push_entries_line, push_last_line, push_session_lines, served_status};
-use jt_io::{Sink, write_all};
+use jt_input::{Status, push_bad_line};
+use jt_outside::{Sink, write_all};
 use jt_platform::Entry;
-use jt_runner::{Status, push_bad_line};
 use jt_server::ServeEnd;
 use jt_session::Report;
 use std::alloc::{AllocError, Global};

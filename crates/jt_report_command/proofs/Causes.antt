@@ -13,8 +13,8 @@ use Rattle.jt_agent.specs.declared.ending.AttemptEnd.{AttemptEnd}
 use Rattle.jt_agent.specs.declared.ending.Attempted.TheVariants as attempted
 use Rattle.jt_agent.specs.declared.reporting.Outcome.{Outcome}
 use Rattle.jt_agent.specs.declared.reporting.Outcome.TheVariants as outcome
-use Rattle.jt_runner.specs.declared.status.Status.{Status}
-use Rattle.jt_runner.specs.declared.status.Status.TheVariants as status
+use Rattle.jt_input.specs.declared.status.Status.{Status}
+use Rattle.jt_input.specs.declared.status.Status.TheVariants as status
 use Rattle.jt_report_command.specs.Report.{outcome_reply}
 use Rattle.jt_report_command.specs.Steps.{CutsShort}
 

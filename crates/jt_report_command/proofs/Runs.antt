@@ -2,9 +2,9 @@
 use Rattle.std.proofs.Common.{◌≡◌, ◌≢◌, ◌≤◌, ◌⊎◌, inl, inr, ℕ, List, [], Option, Ok, Err, IsErrOf, refl, sym, ap, subst, ◌∙◌, arith}
 use Rattle.std.proofs.KnownBytes.{Appends-nil, Consumes-nil}
 use Rattle.jt_value.specs.Counts.{Rose}
-use Rattle.jt_link.specs.Pool.{Pool}
-use Rattle.jt_link.specs.Time.{Time}
-use Rattle.jt_script.specs.Text.{lines_of}
+use Rattle.jt_outside.specs.Pool.{Pool}
+use Rattle.jt_outside.specs.Time.{Time}
+use Rattle.jt_input.specs.Text.{lines_of}
 use Rattle.jt_store.specs.Tables.{Told}
 use Rattle.jt_store.specs.Vaults.{Held, unsettled}
 use Rattle.jt_store.specs.declared.error.StoreError.{StoreError}
@@ -13,14 +13,14 @@ use Rattle.jt_terminal_rule.specs.declared.settings.Settings.{Settings}
 use Rattle.jt_terminal_rule.specs.declared.state.State.{State}
 use Rattle.jt_terminal_steps.specs.Running.{IsStarted}
 use Rattle.jt_agent.specs.Tries.{Reports, between}
-use Rattle.jt_fix_lines.specs.FixesText.{AreFirst}
-use Rattle.jt_fix_lines.specs.Noting.{Noting, held_with, noting}
-use Rattle.jt_fix_lines.specs.Reading.{NotesFixes}
-use Rattle.jt_fix_lines.specs.declared.noting.FixesError.{FixesError}
-use Rattle.jt_fix_lines.specs.declared.noting.FixesError.TheVariants as error
-use Rattle.jt_runner.specs.Answer.{Answers, HoldsOf}
-use Rattle.jt_runner.specs.declared.status.Status.{Status}
-use Rattle.jt_runner.specs.declared.status.Status.TheVariants as status
+use Rattle.jt_report_command.specs.FixesText.{AreFirst}
+use Rattle.jt_report_command.specs.Noting.{Noting, held_with, noting}
+use Rattle.jt_report_command.specs.Reading.{NotesFixes}
+use Rattle.jt_report_command.specs.declared.noting.FixesError.{FixesError}
+use Rattle.jt_report_command.specs.declared.noting.FixesError.TheVariants as error
+use Rattle.jt_input.specs.Answer.{Answers, HoldsOf}
+use Rattle.jt_input.specs.declared.status.Status.{Status}
+use Rattle.jt_input.specs.declared.status.Status.TheVariants as status
 use Rattle.jt_report_command.specs.Came.{Came, BadLine, BeyondLimits, VaultFull, VaultFailed, Undialled, Reported, report_text}
 use Rattle.jt_report_command.specs.Running.{Scene, scene_of, NotesAlone, Does, EndsSo, RunsReport}
 use Rattle.jt_report_command.specs.Steps.{CutsShort, TellsAttempts, came_at, came_of, status_of_refusal}

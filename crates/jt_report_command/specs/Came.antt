@@ -2,11 +2,11 @@
 use Rattle.std.specs.Prelude.{ℕ, List, [], ◌++◌, codes}
 use Rattle.std.specs.Fmt.{decimal}
 use Rattle.jt_agent.specs.declared.reporting.Outcome.{Outcome}
-use Rattle.jt_report.specs.BadLines.{bad_line_of}
-use Rattle.jt_report.specs.declared.line.FixLine.{FixLine}
-use Rattle.jt_runner.specs.Lines.{bad_line}
-use Rattle.jt_runner.specs.Reply.{Reply}
-use Rattle.jt_runner.specs.declared.status.Status.TheVariants as status
+use Rattle.jt_report_command.specs.BadLines.{bad_line_of}
+use Rattle.jt_report_command.specs.declared.line.FixLine.{FixLine}
+use Rattle.jt_input.specs.Lines.{bad_line}
+use Rattle.jt_input.specs.Reply.{Reply}
+use Rattle.jt_input.specs.declared.status.Status.TheVariants as status
 use Rattle.jt_report_command.specs.Report.{outcome_reply}
 
 -- a bad line of the source, by its number and what it says, or beyond the limits; a full vault, by its limit; a vault that failed before any

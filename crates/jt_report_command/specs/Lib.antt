@@ -1,3 +1,14 @@
+pub mod Options
+pub mod Finding
+pub mod Values
+pub mod ReportWords
+pub mod Telling
+pub mod FixLines
+pub mod BadLines
+pub mod FixesText
+pub mod Noting
+pub mod Reading
+pub mod NotingSteps
 pub mod Report
 pub mod Settings
 pub mod Came

@@ -1,8 +1,8 @@
 -- What `report` prints of its attempts, and its status: this project's own texts. To be believed.
 use Rattle.std.specs.Prelude.{ℕ, ◌+◌, List, [], ◌∷◌, ◌++◌, codes}
 use Rattle.std.specs.Fmt.{decimal}
-use Rattle.jt_runner.specs.Reply.{Reply}
-use Rattle.jt_runner.specs.declared.status.Status.TheVariants as status
+use Rattle.jt_input.specs.Reply.{Reply}
+use Rattle.jt_input.specs.declared.status.Status.TheVariants as status
 use Rattle.jt_text.specs.Values.{octets_text}
 use Rattle.jt_agent.specs.declared.ending.AttemptEnd.{AttemptEnd}
 use Rattle.jt_agent.specs.declared.ending.AttemptEnd.TheVariants as how

@@ -2,21 +2,21 @@
 use Rattle.std.specs.Prelude.{◌≡◌, ◌≢◌, ◌≤◌, ◌⊎◌, ℕ, false, List, [], Option}
 use Rattle.std.specs.Io.KnownBytes.{Consumes, IsAtEnd}
 use Rattle.jt_value.specs.Counts.{Rose, RoseBy}
-use Rattle.jt_link.specs.Pool.{Pool}
-use Rattle.jt_link.specs.Time.{Time}
-use Rattle.jt_script.specs.Text.{lines_of}
+use Rattle.jt_outside.specs.Pool.{Pool}
+use Rattle.jt_outside.specs.Time.{Time}
+use Rattle.jt_input.specs.Text.{lines_of}
 use Rattle.jt_store.specs.Tables.{Told}
 use Rattle.jt_store.specs.Vaults.{Held, unsettled}
 use Rattle.jt_terminal_rule.specs.declared.state.State.{State}
 use Rattle.jt_terminal_steps.specs.Running.{Counts}
 use Rattle.jt_agent.specs.Tries.{Reports, between, dials_in, ends_told}
 use Rattle.jt_agent.specs.declared.reporting.Outcome.{Outcome}
-use Rattle.jt_fix_lines.specs.FixesText.{AreFirst, EndsAt, HaveFixes, IsBeyond, SaysAt, is_good}
-use Rattle.jt_fix_lines.specs.Noting.{held_with, noted_all}
-use Rattle.jt_fix_lines.specs.Reading.{EndsAtFix}
-use Rattle.jt_runner.specs.Answer.{Answers, HoldsOf}
-use Rattle.jt_runner.specs.declared.status.Status.{Status}
-use Rattle.jt_runner.specs.declared.status.Status.TheVariants as status
+use Rattle.jt_report_command.specs.FixesText.{AreFirst, EndsAt, HaveFixes, IsBeyond, SaysAt, is_good}
+use Rattle.jt_report_command.specs.Noting.{held_with, noted_all}
+use Rattle.jt_report_command.specs.Reading.{EndsAtFix}
+use Rattle.jt_input.specs.Answer.{Answers, HoldsOf}
+use Rattle.jt_input.specs.declared.status.Status.{Status}
+use Rattle.jt_input.specs.declared.status.Status.TheVariants as status
 use Rattle.jt_report_command.specs.Came.{Came, BadLine, BeyondLimits, VaultFull, VaultFailed, Undialled, Reported, report_text}
 
 -- what is seen of the vault, the clock and the dial, before a run or after it

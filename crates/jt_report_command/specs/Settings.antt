@@ -7,7 +7,7 @@ use Rattle.jt_register.specs.Registration.{maker_len, model_len, terminal_len}
 use Rattle.jt_register.specs.declared.auth.AuthTail.{AuthTail}
 use Rattle.jt_register.specs.declared.register.Register.{Register}
 use Rattle.jt_terminal_rule.specs.declared.settings.Settings.{Settings}
-use Rattle.jt_report.specs.ReportWords.{Told, AreWords}
+use Rattle.jt_report_command.specs.ReportWords.{Told, AreWords}
 
 -- so many zero octets
 abbrev pub zeros : ℕ → List ℕ

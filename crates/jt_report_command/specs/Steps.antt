@@ -3,11 +3,11 @@ use Rattle.std.specs.Prelude.{◌≡◌, ◌≤◌, ◌⊎◌, ℕ, Bool, false,
 use Rattle.jt_value.specs.Counts.{RoseBy}
 use Rattle.jt_agent.specs.Tries.{Between, Reports, dials_in, ends_told}
 use Rattle.jt_agent.specs.declared.reporting.Outcome.{Outcome}
-use Rattle.jt_fix_lines.specs.declared.noting.FixesError.{FixesError}
-use Rattle.jt_fix_lines.specs.declared.noting.FixesError.TheVariants as error
-use Rattle.jt_runner.specs.Answer.{Answers}
-use Rattle.jt_runner.specs.declared.status.Status.{Status}
-use Rattle.jt_runner.specs.declared.status.Status.TheVariants as status
+use Rattle.jt_report_command.specs.declared.noting.FixesError.{FixesError}
+use Rattle.jt_report_command.specs.declared.noting.FixesError.TheVariants as error
+use Rattle.jt_input.specs.Answer.{Answers}
+use Rattle.jt_input.specs.declared.status.Status.{Status}
+use Rattle.jt_input.specs.declared.status.Status.TheVariants as status
 use Rattle.jt_store.specs.Tables.{Told}
 use Rattle.jt_store.specs.declared.error.StoreError.{StoreError}
 use Rattle.jt_store.specs.declared.error.StoreError.TheVariants as store

@@ -2,7 +2,7 @@
 
 ghost use Rattle.std.specs.Prelude.{ℕ, List, Option};
 ghost use Rattle.jt_value.specs.declared.phone.Phone.{Phone};
-ghost use Rattle.jt_runner.specs.declared.status.Status.TheVariants as status;
+ghost use Rattle.jt_input.specs.declared.status.Status.TheVariants as status;
 ghost use Rattle.jt_terminal_steps.specs.Running.{IsStarted};
 ghost use Rattle.jt_report_command.specs.Running.{RunsReport, Scene};
 ghost use Rattle.jt_report_command.specs.Settings.{settings_of};

@@ -5,7 +5,7 @@ ghost use Rattle.jt_text.specs.Values.{octets_text};
 ghost use Rattle.jt_report_command.specs.Report.{denial_text, end_text, outcome_reply, timeout_text, totals_line, try_line, try_lines, try_number};
 
 use jt_agent::{AttemptEnd, Outcome};
-use jt_runner::Status;
+use jt_input::Status;
 use std::alloc::{AllocError, Global};
 use std::fmt::Write;
 

@@ -2,16 +2,16 @@
 
 ghost use Rattle.std.specs.Prelude.{◌≡◌, ◌≢◌, ◌⊎◌, ◌++◌, string_bytes, OnOk};
 ghost use Rattle.jt_value.specs.Counts.{Rose};
-ghost use Rattle.jt_runner.specs.Answer.{Answers};
+ghost use Rattle.jt_input.specs.Answer.{Answers};
 ghost use Rattle.jt_report_command.specs.Came.{BadLine, BeyondLimits, Reported, VaultFailed, VaultFull, full_line, report_text};
 ghost use Rattle.jt_report_command.specs.Report.{outcome_reply};
 ghost use Rattle.jt_report_command.specs.Steps.{CutsShort};
 
 use crate::printing::{push_outcome, status_of};
+use crate::{FixLine, push_bad_line_of};
 use jt_agent::Outcome;
-use jt_io::{Sink, write_all};
-use jt_report::{FixLine, push_bad_line_of};
-use jt_runner::{Status, push_bad_line};
+use jt_input::{Status, push_bad_line};
+use jt_outside::{Sink, write_all};
 use std::alloc::{AllocError, Global};
 use std::fmt::Write;
 

@@ -5,10 +5,11 @@ use Rattle.std.specs.Fmt.{decimal}
 use Rattle.std.specs.List.{position}
 use Rattle.jt_script.specs.declared.event.WorldEvent.{WorldEvent}
 use Rattle.jt_script.specs.declared.event.WorldEvent.TheVariants.{Fix, Up, Down, Tick}
-use Rattle.jt_script.specs.Text.{Lacks}
-use Rattle.jt_script.specs.ScriptLine.{Reads, amount, line_and_amount, line_of, IsAmount, IsInRange}
-use Rattle.jt_script.proofs.Lacking.{front_before, lacks_all, lacks_not, parted_once}
-use Rattle.jt_script.proofs.Numbers.{decimal_lacks_space}
+use Rattle.jt_input.specs.Text.{Lacks}
+use Rattle.jt_script.specs.ScriptLine.{amount, line_and_amount, line_of, IsAmount, IsInRange}
+use Rattle.jt_input.specs.Spelling.{Reads}
+use Rattle.jt_input.proofs.Lacking.{front_before, lacks_all, lacks_not, parted_once}
+use Rattle.jt_input.proofs.Numbers.{decimal_lacks_space}
 
 -- the line and the amount of an `up`
 abbrev pub IsUp : ℕ × Option ℕ → Type 0

@@ -1,6 +1,3 @@
-pub mod Lacking
-pub mod Lines
-pub mod Cutting
-pub mod Numbers
+pub mod Amounts
 pub mod Events
 pub mod Saying

@@ -14,10 +14,12 @@ use Rattle.jt_script.specs.declared.event.WorldEvent.{WorldEvent}
 use Rattle.jt_script.specs.declared.event.WorldEvent.TheVariants.{Fix, Up, Down, Tick}
 use Rattle.jt_script.specs.declared.script.ScriptLine.{ScriptLine}
 use Rattle.jt_script.specs.declared.script.ScriptLine.TheVariants.{Passed, Event, Bad}
-use Rattle.jt_script.specs.Text.{Lacks}
+use Rattle.jt_input.specs.Text.{Lacks}
 use Rattle.jt_script.specs.ScriptLine.{amount, line_and_amount, line_of, IsAmount, IsInRange, IsPassed}
-use Rattle.jt_script.specs.Said.{number_in, amount_in, likely_event, is_space, is_amount, is_in_range, is_passed, said}
-use Rattle.jt_script.proofs.Numbers.{decimal_lacks_space, not_all}
+use Rattle.jt_script.specs.Said.{number_in, amount_in, likely_event, is_space, is_amount, is_in_range, said}
+use Rattle.jt_input.specs.Spelling.{is_passed}
+use Rattle.jt_input.proofs.Numbers.{decimal_lacks_space}
+use Rattle.jt_script.proofs.Amounts.{not_all}
 
 number_in_decimal : (n : ℕ) → n < 2 ^ 32 → number_in (decimal n) ≡ n
 number_in_decimal n h = (decimal_is_IsNumeral n (omega arith)).1

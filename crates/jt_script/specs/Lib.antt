@@ -1,4 +1,2 @@
-pub mod Text
-pub mod Cutter
 pub mod ScriptLine
 pub mod Said

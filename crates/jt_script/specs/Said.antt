@@ -4,6 +4,7 @@ use Rattle.std.specs.Prelude.{ℕ, ◌^◌, ◌==◌, nat_le, nat_lt, if◌then�
 use Rattle.std.specs.List.{before_first, after_first}
 use Rattle.std.specs.Str.{bytes_eq}
 use Rattle.std.specs.Str.Parse.{digits_value}
+use Rattle.jt_input.specs.Spelling.{is_passed}
 use Rattle.jt_script.specs.ScriptLine.{line_of}
 use Rattle.jt_script.specs.declared.event.WorldEvent.{WorldEvent}
 use Rattle.jt_script.specs.declared.event.WorldEvent.TheVariants.{Fix, Up, Down, Tick}
@@ -41,10 +42,6 @@ is_in_range (Tick milliseconds) = nat_lt milliseconds (2 ^ 32)
 -- the event, if the line is written as it is and its numbers are in range
 abbrev pub event_if : List ℕ → WorldEvent → ScriptLine
 event_if line event = if bytes_eq line (line_of event) && is_in_range event then Event event else Bad
-
-abbrev pub is_passed : List ℕ → Bool
-is_passed [] = true
-is_passed (octet ∷ more) = octet == 35
 
 unfoldable pub said : List ℕ → ScriptLine
 said line = if is_passed line then Passed else event_if line (likely_event line)

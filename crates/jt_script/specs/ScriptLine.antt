@@ -35,8 +35,3 @@ IsInRange (Tick milliseconds) = milliseconds < 2 ^ 32
 abbrev pub IsPassed : List ℕ → Type 0
 IsPassed [] = Unit {0}
 IsPassed (octet ∷ more) = octet ≡ 35
-
--- The text is the spelling of this value, which is in range, or it is that of no value in range.
-pub record Reads {T : Type 0} (spelling : T → List ℕ) (IsIn : T → Type 0) (text : List ℕ) (result : Option T) : Type 0 where
-  pub some : IfSome result (λ value. (text ≡ spelling value) × IsIn value)
-  pub each : (value : T) → IsIn value → text ≡ spelling value → result ≡ Some value

@@ -1,12 +1,14 @@
 //! The lines of a script.
 
-ghost use Rattle.std.specs.Prelude.{◌≡◌, ◌≢◌, ◌↔◌, ◌≤◌, ◌<◌, ◌^◌, ◌++◌, ℕ, Option, IsTrue, codes, length, slice_index, ◌==◌, position};
+ghost use Rattle.std.specs.Prelude.{◌≡◌, ◌↔◌, ◌≤◌, ◌<◌, ◌^◌, ◌++◌, ℕ, Option, codes, ◌==◌, position};
 ghost use Rattle.std.specs.Fmt.{decimal};
-ghost use Rattle.jt_script.specs.ScriptLine.{amount, line_and_amount, line_of, IsAmount, IsInRange, IsPassed, Reads};
+ghost use Rattle.jt_script.specs.ScriptLine.{amount, line_and_amount, line_of, IsAmount, IsInRange, IsPassed};
+ghost use Rattle.jt_input.specs.Spelling.{Reads};
 ghost use Rattle.jt_script.specs.Said.{said};
 ghost use Rattle.jt_script.specs.declared.event.WorldEvent.{WorldEvent};
 
 use crate::event::WorldEvent;
+use jt_input::number;
 
 /// What a line of a script says.
 #[derive(Clone, Copy, Debug, PartialEq, Eq)]
@@ -23,33 +25,6 @@ const LATITUDE_MOST: u32 = 89_999_999;
 
 // The greatest number of octets that a line names.
 const COUNT_MOST: u32 = 1_000_000_000;
-
-// Whether digits have no sign and no leading zero before them.
-fn is_plain(digits: &[u8]) -> bool
-    ensures { IsTrue result ↔ ((slice_index digits.now 0 ≢ 43) × (slice_index digits.now 0 ≡ 48 → length digits.now ≡ 1)) }
-{
-    match digits.first() {
-        Some(b'+') => false,
-        Some(b'0') => digits.len() == 1,
-        _ => true,
-    }
-}
-
-/// The number up to `most` that these octets write in decimal digits, without a sign and without a leading zero.
-pub fn number(octets: &[u8], most: u32) -> Option<u32>
-    ensures { Reads decimal (λ number. number ≤ most) octets.now result }
-{
-    let Ok(text) = str::from_utf8(octets) else {
-        return None;
-    };
-    let Ok(number) = text.parse::<u32>() else {
-        return None;
-    };
-    if number > most {
-        return None;
-    }
-    if is_plain(octets) { Some(number) } else { None }
-}
 
 fn count(octets: &[u8]) -> Option<Option<u32>>
     ensures { Reads amount IsAmount octets.now result }

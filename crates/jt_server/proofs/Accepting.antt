@@ -4,8 +4,8 @@ use Rattle.std.specs.Prelude.{option_map, IfSome, MatchResult, Result}
 use lib.ListN.{get_elem?}
 use mathlib.Core.Option.{some}
 use Rattle.jt_value.specs.Counts.{Counts, Rose}
-use Rattle.jt_link.specs.Link.{Wire}
-use Rattle.jt_link.specs.Pool.{Pool, Script, IsNew, all_but_first}
+use Rattle.jt_outside.specs.Link.{Wire}
+use Rattle.jt_outside.specs.Pool.{Pool, Script, IsNew, all_but_first}
 use Rattle.jt_turn.specs.Passes.{PassState, TurnId}
 use Rattle.jt_platform.specs.Allowed.{Opening}
 use Rattle.jt_platform.specs.declared.request.Request.{Request}

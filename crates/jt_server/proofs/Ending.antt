@@ -6,8 +6,8 @@ use lib.ListN.{get_elem?}
 use mathlib.Core.List.{IsPrefix}
 use mathlib.Core.Option.{some}
 use Rattle.jt_value.specs.Counts.{Counts}
-use Rattle.jt_link.specs.Link.{Wire}
-use Rattle.jt_link.specs.Pool.{Pool, Used, used_of}
+use Rattle.jt_outside.specs.Link.{Wire}
+use Rattle.jt_outside.specs.Pool.{Pool, Used, used_of}
 use Rattle.jt_store.specs.Tables.{Tables}
 use Rattle.jt_turn.specs.Histories.{HasEach, IsNoneOf, entries_of}
 use Rattle.jt_turn.specs.Passes.{PassState, TurnId}

@@ -4,8 +4,8 @@ use Rattle.std.proofs.lemmas.List.{map-append}
 use lib.ListN.{get_elem?}
 use mathlib.Core.List.{IsPrefix}
 use mathlib.Core.Option.{some, some-ne-none}
-use Rattle.jt_link.specs.Link.{Wire}
-use Rattle.jt_link.specs.Pool.{Script}
+use Rattle.jt_outside.specs.Link.{Wire}
+use Rattle.jt_outside.specs.Pool.{Script}
 use Rattle.jt_turn.specs.declared.entry.Ended.{Ended}
 use Rattle.jt_turn.specs.Passes.{PassState, TurnId}
 use Rattle.jt_platform.specs.Allowed.{Opening}

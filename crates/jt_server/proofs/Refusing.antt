@@ -1,7 +1,7 @@
 -- No link was accepted, since memory was wanted.
 use Rattle.std.proofs.Common.{◌≡◌, ◌≤◌, ◌<◌, ◌+◌, ◌^◌, ℕ, List, [], length, map, Option, Some, refl, sym, ap, ◌∙◌, subst, arith}
 use Rattle.jt_value.specs.Counts.{Counts, RoseBy}
-use Rattle.jt_link.specs.Pool.{Pool}
+use Rattle.jt_outside.specs.Pool.{Pool}
 use Rattle.jt_store.specs.Tables.{Tables}
 use Rattle.jt_platform.specs.Allowed.{Legal, Opening}
 use Rattle.jt_platform.specs.History.{newest}

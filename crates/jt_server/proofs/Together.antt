@@ -6,8 +6,8 @@ use lib.ListN.{get_elem?}
 use mathlib.Core.List.{IsPrefix}
 use mathlib.Core.Option.{some, some-ne-none}
 use Rattle.jt_value.specs.Counts.{Rose, RoseBy}
-use Rattle.jt_link.specs.Link.{Wire}
-use Rattle.jt_link.specs.Pool.{Pool, Script, Used, IsNew, used_of}
+use Rattle.jt_outside.specs.Link.{Wire}
+use Rattle.jt_outside.specs.Pool.{Pool, Script, Used, IsNew, used_of}
 use Rattle.jt_turn.specs.declared.entry.Entry.{Entry as Turned}
 use Rattle.jt_turn.specs.declared.entry.Ended.{Ended}
 use Rattle.jt_turn.specs.Histories.{HasEach, IsNoneOf, entries_of}

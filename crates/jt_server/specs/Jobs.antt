@@ -4,8 +4,8 @@ use Rattle.std.specs.Prelude.{option_map}
 use lib.ListN.{get_elem?}
 use mathlib.Core.List.{IsPrefix}
 use mathlib.Core.Option.{some}
-use Rattle.jt_link.specs.Link.{Wire}
-use Rattle.jt_link.specs.Pool.{Pool, Script, Used, used_of, IsNew}
+use Rattle.jt_outside.specs.Link.{Wire}
+use Rattle.jt_outside.specs.Pool.{Pool, Script, Used, used_of, IsNew}
 use Rattle.jt_turn.specs.declared.entry.Ended.{Ended}
 use Rattle.jt_turn.specs.Passes.{PassState, TurnId}
 use Rattle.jt_platform.specs.Allowed.{Opening}

@@ -6,8 +6,8 @@ use mathlib.Core.Option.{some}
 use Rattle.jt_value.specs.Sameness.{key_of}
 use Rattle.jt_value.specs.declared.phone.Phone.{Phone}
 use Rattle.jt_value.specs.Counts.{Rose}
-use Rattle.jt_link.specs.Link.{Wire}
-use Rattle.jt_link.specs.Pool.{Pool, Script, Used, used_of, IsNew}
+use Rattle.jt_outside.specs.Link.{Wire}
+use Rattle.jt_outside.specs.Pool.{Pool, Script, Used, used_of, IsNew}
 use Rattle.jt_store.specs.Tables.{Told}
 use Rattle.jt_turn.specs.Histories.{entries_of}
 use Rattle.jt_turn.specs.Passes.{PassState}

@@ -2,12 +2,12 @@
 
 ghost use Rattle.std.specs.Prelude.{◌≡◌, ℕ};
 ghost use Rattle.jt_value.specs.Counts.{Counts, Rose};
-ghost use Rattle.jt_link.specs.Accepted.{Accepts};
-ghost use Rattle.jt_link.specs.Link.{wire_of};
-ghost use Rattle.jt_link.specs.Pool.{Pool};
-ghost use Rattle.jt_link.specs.declared.listen.Accepted.TheVariants.{Failed};
+ghost use Rattle.jt_outside.specs.Accepted.{Accepts};
+ghost use Rattle.jt_outside.specs.Link.{wire_of};
+ghost use Rattle.jt_outside.specs.Pool.{Pool};
+ghost use Rattle.jt_outside.specs.declared.listen.Accepted.TheVariants.{Failed};
 
-use jt_link::{Accepted, Link, Listen};
+use jt_outside::{Accepted, Link, Listen};
 
 /// Who links are accepted from.
 pub(crate) trait Door {

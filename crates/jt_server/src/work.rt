@@ -1,12 +1,12 @@
 //! What a thread does: it serves one link.
 
 ghost use Rattle.std.specs.Prelude.{◌≡◌, ◌≤◌, ◌^◌, [], IsSomeAnd, option_map};
-ghost use Rattle.jt_link.specs.Link.{wire_of};
+ghost use Rattle.jt_outside.specs.Link.{wire_of};
 ghost use Rattle.jt_platform.specs.Hub.{opening_of};
 ghost use Rattle.jt_session.specs.Hearing.{IsSamePass};
 ghost use Rattle.jt_session.specs.Serving.{Serves};
 
-use jt_link::Link;
+use jt_outside::Link;
 use jt_platform::Hub;
 use jt_session::{Report, serve_link};
 use jt_store::Keeper;
@@ -33,7 +33,7 @@ pub(crate) struct Given<K, P: Keeper> {
 
 impl<K: Link, P: Keeper> Promise<Work<K, P>> for Given<K, P> {
     ghost use Rattle.std.specs.Prelude.{◌^◌, option_map};
-    ghost use Rattle.jt_link.specs.Link.{wire_of};
+    ghost use Rattle.jt_outside.specs.Link.{wire_of};
     ghost use Rattle.jt_platform.specs.Hub.{opening_of};
     ghost use Rattle.jt_session.specs.Hearing.{IsSamePass};
     ghost use Rattle.jt_session.specs.Serving.{Serves};

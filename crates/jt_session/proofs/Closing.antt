@@ -6,7 +6,7 @@ use Rattle.std.proofs.lemmas.Bool.{false≢true}
 use Rattle.std.proofs.lemmas.List.{append-nil, reverse-append}
 use Rattle.std.proofs.KnownBytes.{Appends-nil, Consumes-nil}
 use mathlib.Core.List.{IsPrefix}
-use Rattle.jt_link.specs.Link.{Wire}
+use Rattle.jt_outside.specs.Link.{Wire}
 use Rattle.jt_stream.specs.Unplaced.{Unplaced, items}
 use Rattle.jt_turn.specs.declared.entry.Entry.{Entry as Turned}
 use Rattle.jt_turn.specs.Histories.{entries_of, entry_if}

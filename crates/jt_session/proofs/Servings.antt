@@ -7,9 +7,9 @@ use Rattle.std.specs.Io.KnownBytes.{Appends}
 use mathlib.Core.List.{IsPrefix}
 use Rattle.jt_value.specs.Octets.{AreOctets}
 use Rattle.jt_value.specs.Counts.{Counts, Rose, RoseBy, counted}
-use Rattle.jt_io.specs.Inbound.{Inbound}
-use Rattle.jt_link.specs.Link.{Gives, GivesNone, ReadHasCause, Reads, Wire}
-use Rattle.jt_link.specs.declared.link.LinkGot.TheVariants.{Bytes, Quiet, End, Failed}
+use Rattle.jt_outside.specs.Inbound.{Inbound}
+use Rattle.jt_outside.specs.Link.{Gives, GivesNone, ReadHasCause, Reads, Wire}
+use Rattle.jt_outside.specs.declared.link.LinkGot.TheVariants.{Bytes, Quiet, End, Failed}
 use Rattle.jt_turn.specs.Passes.{PassState}
 use Rattle.jt_platform.specs.Allowed.{Opening}
 use Rattle.jt_platform.specs.declared.request.Request.{Request}

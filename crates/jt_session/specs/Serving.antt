@@ -4,7 +4,7 @@ use Rattle.jt_value.specs.Octets.{AreOctets}
 use Rattle.std.specs.Io.KnownBytes.{Appends, IsAtEnd}
 use mathlib.Core.List.{IsPrefix}
 use Rattle.jt_value.specs.Counts.{Counts, Rose, RoseBy}
-use Rattle.jt_link.specs.Link.{Wire, Gives}
+use Rattle.jt_outside.specs.Link.{Wire, Gives}
 use Rattle.jt_turn.specs.declared.entry.Entry.{Entry as Turned}
 use Rattle.jt_turn.specs.Passes.{PassState}
 use Rattle.jt_platform.specs.Allowed.{Opening}

@@ -2,7 +2,7 @@
 
 ghost use Rattle.std.specs.Prelude.{◌≡◌, ◌≤◌, ◌<◌, ◌+◌, ◌*◌, ◌^◌, [], false, None, IsSome, IsSomeAnd, length, option_map};
 ghost use Rattle.jt_value.specs.Octets.{AreOctets};
-ghost use Rattle.jt_link.specs.Link.{wire_of};
+ghost use Rattle.jt_outside.specs.Link.{wire_of};
 ghost use Rattle.jt_platform.specs.Hub.{opening_of};
 ghost use Rattle.jt_session.specs.TurnLaw.{IsNew};
 ghost use Rattle.jt_session.specs.Hearing.{IsSamePass};
@@ -13,8 +13,7 @@ use crate::end::{End, Fed};
 use crate::hearing::hear;
 use crate::report::Report;
 use crate::session::Session;
-use jt_io::write_front;
-use jt_link::{Link, LinkGot};
+use jt_outside::{Link, LinkGot, write_front};
 use jt_platform::{Hub, Request};
 use jt_store::Keeper;
 use jt_stream::law_frames;

@@ -6,7 +6,7 @@ use Rattle.jt_escape.specs.Scan.{end_of_stream}
 use Rattle.jt_view.specs.declared.command.Report.{Report}
 use Rattle.jt_view.specs.declared.command.Report.TheVariants.{View, Check}
 use Rattle.jt_view.specs.declared.closing.Closing.TheVariants.{Whole, TooLong, HexRefused}
-use Rattle.jt_runner.specs.declared.status.Status.TheVariants as status
+use Rattle.jt_input.specs.declared.status.Status.TheVariants as status
 use Rattle.jt_view.specs.Entry.{Entry, Frame, Refused, line_of, lines, entries_of, end_entries, frames, refusals, first_refusal}
 use Rattle.jt_text.specs.Refusals.{refusal_line}
 use Rattle.jt_view.specs.Line.{counts_line, ok_line, too_long_line, hex_refused_line}

@@ -15,8 +15,8 @@ use Rattle.jt_view.specs.Entry.{Entry, entries_of, end_entries, first_refusal}
 use Rattle.jt_view.specs.declared.closing.Closing.{Closing}
 use Rattle.jt_view.specs.declared.closing.Closing.TheVariants.{Whole, TooLong, HexRefused}
 use Rattle.jt_view.specs.declared.reporter.Reporter.{Reporter}
-use Rattle.jt_runner.specs.declared.status.Status.{Status}
-use Rattle.jt_runner.specs.declared.status.Status.TheVariants.{Refused}
+use Rattle.jt_input.specs.declared.status.Status.{Status}
+use Rattle.jt_input.specs.declared.status.Status.TheVariants.{Refused}
 use Rattle.jt_view.specs.HexInput as hex
 use Rattle.jt_text.specs.Refusals.{refusal_line}
 use Rattle.jt_view.specs.Report.{decoded, wrong_place, closing_of, closed_entries, report_text, check_text, answer_of, printed}

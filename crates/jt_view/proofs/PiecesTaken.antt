@@ -2,11 +2,11 @@
 use Rattle.std.proofs.Common.{◌≡◌, ◌≤◌, ◌<◌, ◌⊎◌, ℕ, ◌+◌, List, [], ◌++◌, Option, Some, None, IfSome, length, take, drop, refl, sym, ap, subst, ◌∙◌, arith, inl, inr, append_assoc, length-append, length-drop}
 use Rattle.std.proofs.lemmas.List.{take-append-drop, length-take-le, take_all}
 use Rattle.std.specs.Io.KnownBytes.{Appends}
-use Rattle.jt_runner.specs.Answer.{IsFault, AnswersWhole}
-use Rattle.jt_runner.specs.Reply.{Reply}
-use Rattle.jt_runner.specs.Telling.{BeginsWith, GoesOn, Settles, Ends, SomeStands}
-use Rattle.jt_runner.specs.Telling as telling
-use Rattle.jt_runner.specs.declared.status.Status.{Status}
+use Rattle.jt_input.specs.Answer.{IsFault, AnswersWhole}
+use Rattle.jt_input.specs.Reply.{Reply}
+use Rattle.jt_input.specs.Telling.{BeginsWith, GoesOn, Settles, Ends, SomeStands}
+use Rattle.jt_input.specs.Telling as telling
+use Rattle.jt_input.specs.declared.status.Status.{Status}
 use Rattle.jt_view.specs.Answer.{IsOpen}
 use Rattle.jt_view.specs.Report.{answer_of, closing_of, decoded}
 use Rattle.jt_view.specs.Reporting as reporting

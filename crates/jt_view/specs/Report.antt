@@ -14,9 +14,9 @@ use Rattle.jt_view.specs.declared.command.Encoding.{Encoding}
 use Rattle.jt_view.specs.declared.command.Encoding.TheVariants.{Octets, Hex}
 use Rattle.jt_view.specs.declared.closing.Closing.{Closing}
 use Rattle.jt_view.specs.declared.closing.Closing.TheVariants.{Whole, TooLong, HexRefused}
-use Rattle.jt_runner.specs.Reply.{Reply}
-use Rattle.jt_runner.specs.declared.status.Status.{Status}
-use Rattle.jt_runner.specs.declared.status.Status.TheVariants as status
+use Rattle.jt_input.specs.Reply.{Reply}
+use Rattle.jt_input.specs.declared.status.Status.{Status}
+use Rattle.jt_input.specs.declared.status.Status.TheVariants as status
 
 -- ---- inputs
 

@@ -13,7 +13,7 @@ use Rattle.jt_view.specs.Entry.{Entry, Frame, Refused, line_of, lines, entry_of,
 use Rattle.jt_view.specs.declared.judged.Judged.{Judged}
 use Rattle.jt_view.specs.declared.judged.Judged.TheVariants as judgement
 use Rattle.jt_view.specs.declared.closing.Closing.{Closing}
-use Rattle.jt_runner.specs.declared.status.Status.{Status}
+use Rattle.jt_input.specs.declared.status.Status.{Status}
 use Rattle.jt_text.specs.Refusals.{refusal_line}
 use Rattle.jt_view.specs.Report.{printed, report_text, closed_entries}
 

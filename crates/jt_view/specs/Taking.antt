@@ -3,7 +3,7 @@ use Rattle.std.specs.Prelude.{◌≡◌, ℕ, ◌≤◌, ◌<◌, List, ◌++◌
 use Rattle.jt_view.specs.declared.command.Encoding.{Encoding}
 use Rattle.jt_view.specs.declared.command.Encoding.TheVariants.{Octets, Hex}
 use Rattle.jt_view.specs.declared.reporter.Reporter.{Reporter}
-use Rattle.jt_runner.specs.declared.status.Status.{Status}
+use Rattle.jt_input.specs.declared.status.Status.{Status}
 use Rattle.jt_view.specs.declared.reporter.Question.{Question}
 use Rattle.jt_view.specs.HexInput as hex
 use Rattle.jt_view.specs.Report.{decoded, answer_of, printed}

@@ -16,6 +16,6 @@ mod viewing;
 pub use closing::Closing;
 pub use command::{Command, Encoding, Report};
 pub use hex_laws::{law_octets_of_front, law_wrong_stays};
-pub use jt_runner::Status;
+pub use jt_input::Status;
 pub use reporter::Question;
 pub use running::report;

@@ -10,7 +10,7 @@ use crate::hex_laws::{law_octets_of_front, law_wrong_stays};
 use crate::hex_reader::HexReader;
 use crate::tally::Tally;
 use crate::telling::{close, tell};
-use jt_runner::{Status, Teller};
+use jt_input::{Status, Teller};
 use jt_stream::law_all_items;
 use jt_value::Memory;
 use std::alloc::Global;

@@ -3,14 +3,14 @@
 ghost use Rattle.std.specs.Prelude.{◌≡◌, ◌≢◌, ◌⊎◌, ◌≤◌, ◌^◌, IfSome};
 ghost use Rattle.std.specs.Io.KnownBytes.{IsAtEnd, Appends};
 ghost use Rattle.jt_value.specs.Counts.{Rose};
-ghost use Rattle.jt_runner.specs.Answer.{IsFault, PrintsTaken, ReadsNoFurther, Runs, StopsAtWrite};
+ghost use Rattle.jt_input.specs.Answer.{IsFault, PrintsTaken, ReadsNoFurther, Runs, StopsAtWrite};
 ghost use Rattle.jt_view.specs.Answer.{IsOpen};
 ghost use Rattle.jt_view.specs.Report.{answer_of};
 
 use crate::command::Command;
 use crate::reporter::Reporter;
-use jt_io::{Sink, Source};
-use jt_runner::{Status, run_teller};
+use jt_input::{Status, run_teller};
+use jt_outside::{Sink, Source};
 use std::alloc::Global;
 
 /// Reads the source to its end, or to where its report is settled, and writes the report. Of the source at most `most`

@@ -8,7 +8,7 @@ use crate::closing::Closing;
 use crate::command::Report;
 use crate::lines::{push_counts_line, push_hex_refused_line, push_ok_line, push_too_long_line};
 use crate::tally::Tally;
-use jt_runner::Status;
+use jt_input::Status;
 use jt_stream::law_all_items;
 use jt_text::{Line, push_refusal_line};
 use jt_value::{Memory, Refusal};

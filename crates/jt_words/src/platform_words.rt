@@ -2,11 +2,11 @@
 
 ghost use Rattle.std.specs.Prelude.{◌≡◌, ◌≤◌, ℕ, List, map, string_bytes, IfSome, MatchOption};
 ghost use Rattle.std.specs.Fmt.{decimal};
-ghost use Rattle.jt_script.specs.ScriptLine.{Reads};
+ghost use Rattle.jt_input.specs.Spelling.{Reads};
 ghost use Rattle.jt_words.specs.Platform.{PlatformWords as AreWords, AreOptions};
 
 use crate::option_words::option_pair;
-use jt_script::number;
+use jt_input::number;
 
 /// What `platform` is told.
 #[derive(Clone, Copy, Debug, PartialEq, Eq)]

@@ -9,8 +9,8 @@ use Rattle.jt_script.specs.declared.event.WorldEvent.TheVariants as event
 use Rattle.jt_script.specs.declared.script.ScriptLine.{ScriptLine}
 use Rattle.jt_script.specs.declared.script.ScriptLine.TheVariants.{Passed, Event, Bad}
 use Rattle.jt_script.specs.Said.{said}
-use Rattle.jt_script.specs.Text.{is_within}
-use Rattle.jt_runner.specs.Lines.{Outcome, HearsOn, HearsBad}
+use Rattle.jt_input.specs.Text.{is_within}
+use Rattle.jt_input.specs.Lines.{Outcome, HearsOn, HearsBad}
 use Rattle.jt_world.specs.Rehearsal.{is_allowed, meaning, led, heard, rehearsed, outcome_of, entry_line}
 use Rattle.jt_world.specs.Script.{IsAllowed, fix_limit, entries_between, world_after}
 use Rattle.jt_world.specs.World.{World}

@@ -2,14 +2,14 @@
 use Rattle.std.proofs.Common.{◌≡◌, ◌⊎◌, ℕ, List, [], ◌++◌, Option, Some, None, IfSome, refl, sym, ap, subst, ◌∙◌, inl, inr, arith}
 use Rattle.std.proofs.KnownBytes.{Appends-nil, Consumes-nil}
 use Rattle.std.specs.Io.KnownBytes.{Appends, IsAtEnd}
-use Rattle.jt_io.proofs.Prefixes.{AppendsPrefix-all}
-use Rattle.jt_script.specs.Cutter.{Held, begun_of}
-use Rattle.jt_runner.specs.Answer.{IsFault, Answers, AnswersWhole, RunsTelling, ReadsNoFurther, StopsAtWrite}
-use Rattle.jt_runner.specs.Answer as answer
-use Rattle.jt_runner.specs.Lines.{Outcome, HasHeard, HasClosed, answer_of}
-use Rattle.jt_runner.specs.Reply.{Reply}
-use Rattle.jt_runner.specs.declared.status.Status.{Status}
-use Rattle.jt_runner.specs.declared.status.Status.TheVariants as status
+use Rattle.jt_outside.proofs.Prefixes.{AppendsPrefix-all}
+use Rattle.jt_input.specs.Cutter.{Held, begun_of}
+use Rattle.jt_input.specs.Answer.{IsFault, Answers, AnswersWhole, RunsTelling, ReadsNoFurther, StopsAtWrite}
+use Rattle.jt_input.specs.Answer as answer
+use Rattle.jt_input.specs.Lines.{Outcome, HasHeard, HasClosed, answer_of}
+use Rattle.jt_input.specs.Reply.{Reply}
+use Rattle.jt_input.specs.declared.status.Status.{Status}
+use Rattle.jt_input.specs.declared.status.Status.TheVariants as status
 use Rattle.jt_world.specs.declared.rehearsing.Rehearsed.{Rehearsed}
 use Rattle.jt_world.specs.declared.rehearsing.Rehearsed.TheVariants as rehearsed
 use Rattle.jt_world.specs.Claim.{Kept, EachReachedIsKept}

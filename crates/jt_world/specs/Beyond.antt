@@ -2,10 +2,10 @@
 use Rattle.std.specs.Prelude.{◌≡◌, ℕ, ◌+◌, if◌then◌else◌, Bool, false, List, ◌∷◌}
 use Rattle.std.proofs.Common.{ap}
 use Rattle.jt_script.specs.Said.{said}
-use Rattle.jt_script.specs.Text.{is_within}
+use Rattle.jt_input.specs.Text.{is_within}
 use Rattle.jt_script.specs.declared.script.ScriptLine.{ScriptLine}
 use Rattle.jt_script.specs.declared.script.ScriptLine.TheVariants.{Bad}
-use Rattle.jt_runner.specs.Lines.{bad_outcome}
+use Rattle.jt_input.specs.Lines.{bad_outcome}
 use Rattle.jt_world.specs.Rehearsal.{allowed, meaning, heard, rehearsed, outcome_of}
 use Rattle.jt_world.specs.World.{World}
 

@@ -7,11 +7,11 @@ use Rattle.jt_script.specs.declared.event.WorldEvent.TheVariants as event
 use Rattle.jt_script.specs.declared.script.ScriptLine.{ScriptLine}
 use Rattle.jt_script.specs.declared.script.ScriptLine.TheVariants.{Passed, Event, Bad}
 use Rattle.jt_script.specs.Said.{said}
-use Rattle.jt_script.specs.Text.{lines_of, is_within}
-use Rattle.jt_runner.specs.Lines.{Outcome, bad_line}
-use Rattle.jt_runner.specs.Reply.{Reply}
-use Rattle.jt_runner.specs.declared.status.Status.{Status}
-use Rattle.jt_runner.specs.declared.status.Status.TheVariants.{Done, Refused}
+use Rattle.jt_input.specs.Text.{lines_of, is_within}
+use Rattle.jt_input.specs.Lines.{Outcome, bad_line}
+use Rattle.jt_input.specs.Reply.{Reply}
+use Rattle.jt_input.specs.declared.status.Status.{Status}
+use Rattle.jt_input.specs.declared.status.Status.TheVariants.{Done, Refused}
 use Rattle.jt_world.specs.declared.world.SmallEntry.{SmallEntry}
 use Rattle.jt_world.specs.Script.{fix_limit, world_after, entries_between}
 use Rattle.jt_world.specs.World.{World, empty, fixes_in}

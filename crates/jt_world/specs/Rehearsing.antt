@@ -1,8 +1,8 @@
 -- What a rehearsal over a source and a sink does. To be believed.
 use Rattle.std.specs.Prelude.{◌≡◌, ◌⊎◌, ℕ, ◌+◌, ◌<◌, IsTrue, List, ◌++◌, length, Option, Some, None}
 use Rattle.std.specs.Io.KnownBytes.{Appends, Consumes, IsAtEnd}
-use Rattle.jt_io.specs.Sink.{AppendsPrefix}
-use Rattle.jt_script.specs.Text.{Cuts, is_within}
+use Rattle.jt_outside.specs.Sink.{AppendsPrefix}
+use Rattle.jt_input.specs.Text.{Cuts, is_within}
 use Rattle.jt_world.specs.Claim.{Kept}
 use Rattle.jt_world.specs.Rehearsal.{Rehearsal, printing, rehearsed, rehearsal, world_of}
 use Rattle.jt_world.specs.World.{World, empty}

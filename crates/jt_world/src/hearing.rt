@@ -9,7 +9,7 @@ ghost use Rattle.jt_world.specs.Beyond.{beyond_is_bad};
 
 use crate::script_text::{push_entry_lines, push_totals_line};
 use crate::world::World;
-use jt_runner::{Heard, Hearer, Status};
+use jt_input::{Heard, Hearer, Status};
 use jt_script::{ScriptLine, WorldEvent, script_line};
 use jt_value::Memory;
 use std::alloc::Global;

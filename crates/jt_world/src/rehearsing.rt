@@ -4,14 +4,14 @@ ghost use Rattle.std.specs.Prelude.{◌≡◌, ◌≢◌, ◌^◌, ◌⊎◌, �
 ghost use Rattle.std.specs.Io.KnownBytes.{IsAtEnd, Appends};
 ghost use Rattle.jt_value.specs.Counts.{Rose};
 ghost use Rattle.jt_world.specs.Claim.{Kept};
-ghost use Rattle.jt_runner.specs.Answer.{PrintsTaken, ReadsNoFurther, StopsAtWrite};
+ghost use Rattle.jt_input.specs.Answer.{PrintsTaken, ReadsNoFurther, StopsAtWrite};
 ghost use Rattle.jt_world.specs.Rehearsal.{rehearsal, rehearsal_text, script_reply, world_of};
 ghost use Rattle.jt_world.specs.Rehearsing.{IsFault, IsHeard, Rehearses, ending};
 
 use crate::laws::law_world;
 use crate::world::World;
-use jt_io::{Sink, Source};
-use jt_runner::{LineTeller, Status, run_teller};
+use jt_input::{LineTeller, Status, run_teller};
+use jt_outside::{Sink, Source};
 use std::alloc::Global;
 
 /// How a rehearsal ended (this project's own answers).

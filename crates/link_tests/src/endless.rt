@@ -1,5 +1,4 @@
-use jt_io::{Put, Sink};
-use jt_link::{Link, LinkGot, ScriptLink};
+use jt_outside::{Link, LinkGot, Put, ScriptLink, Sink};
 use std::test::Fail;
 
 #[test]

@@ -1,5 +1,6 @@
-use jt_io::{Put, Sink, write_all};
-use jt_link::{Clock, Dial, Link, LinkGot, ScriptClock, ScriptDial, ScriptLink};
+use jt_outside::{
+    Clock, Dial, Link, LinkGot, Put, ScriptClock, ScriptDial, ScriptLink, Sink, write_all,
+};
 use jt_value::{Octets, Seq};
 use std::alloc::Global;
 use std::test::Fail;

@@ -1,6 +1,6 @@
-use jt_io::write_all;
-use jt_link::{Accepted, Clock, Dial, Link, LinkGot, Listen};
-use jt_tcp::{StdClock, TcpDial, TcpListen};
+use jt_outside::{
+    Accepted, Clock, Dial, Link, LinkGot, Listen, StdClock, TcpDial, TcpListen, write_all,
+};
 use std::test::Fail;
 use std::thread;
 

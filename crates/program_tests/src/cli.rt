@@ -5,8 +5,7 @@ use jt_cli::{
 };
 use jt_codec::{Message, read_message};
 use jt_header::{Header, read_header};
-use jt_io::{MemSink, MemSource};
-use jt_link::{ScriptClock, ScriptDial};
+use jt_outside::{MemSink, MemSource, ScriptClock, ScriptDial};
 use jt_store::{MemKeeper, MemVault};
 use jt_value::{CodecError, Memory, Octets, Refusal, Seq, Why};
 use std::alloc::{AllocError, Global};

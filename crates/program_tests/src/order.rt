@@ -4,8 +4,7 @@ ghost use Rattle.std.specs.Prelude.{None};
 
 use crate::cli::{outside, repeated, words_of};
 use jt_cli::{Outside, Status, run_alone};
-use jt_io::{Got, MemSource, Put, Sink, Source};
-use jt_link::{ScriptClock, ScriptDial};
+use jt_outside::{Got, MemSource, Put, ScriptClock, ScriptDial, Sink, Source};
 use jt_store::{MemKeeper, MemVault};
 use jt_value::Seq;
 use std::alloc::{AllocError, Global};

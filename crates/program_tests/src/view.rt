@@ -1,6 +1,6 @@
 ghost use Rattle.std.specs.Prelude.{◌≤◌, ◌^◌, length};
 
-use jt_io::{MemSink, MemSource, Source, StdSource};
+use jt_outside::{MemSink, MemSource, Source, StdSource};
 use jt_value::{Memory, Octets, Seq};
 use jt_view::{Command, Encoding, Report, Status, report};
 use std::alloc::Global;

@@ -1,6 +1,6 @@
 use jt_agent::{AttemptEnd, Outcome};
+use jt_input::Status;
 use jt_report_command::{push_outcome, status_of};
-use jt_runner::Status;
 use jt_value::{Memory, Octets, Seq};
 use std::alloc::Global;
 use std::test::Fail;

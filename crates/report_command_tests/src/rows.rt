@@ -2,7 +2,7 @@ use crate::scene::{
     ANSWERS, ANSWERS_2019, FIX, REFUSAL, SENT, SENT_2019, Scene, TWO_TRIES, WORDS, WORDS_2019,
     calm, tells, tells_again,
 };
-use jt_runner::Status;
+use jt_input::Status;
 use std::alloc::Global;
 use std::process::Abort;
 use std::test::Fail;

@@ -1,15 +1,13 @@
 //! A run of `report` over a source, a sink, a dial, a clock and a vault that are scripted.
 
 ghost use Rattle.std.specs.Prelude.{IfOk, IfSome};
-ghost use Rattle.jt_link.specs.ScriptLink.{IsUntouched};
-ghost use Rattle.jt_report.specs.Telling.{told_of};
+ghost use Rattle.jt_outside.specs.ScriptLink.{IsUntouched};
+ghost use Rattle.jt_report_command.specs.Telling.{told_of};
 ghost use Rattle.jt_report_command.specs.Settings.{AreSpoken};
 
-use jt_io::{MemSink, MemSource};
-use jt_link::{ScriptClock, ScriptDial, ScriptLink};
-use jt_report::ReportWords;
-use jt_report_command::report;
-use jt_runner::Status;
+use jt_input::Status;
+use jt_outside::{MemSink, MemSource, ScriptClock, ScriptDial, ScriptLink};
+use jt_report_command::{ReportWords, report};
 use jt_store::MemVault;
 use jt_value::{Memory, Octets, Seq};
 use std::alloc::Global;

@@ -1,4 +1,4 @@
-use jt_report::{FixLine, fix_line, push_bad_line_of};
+use jt_report_command::{FixLine, fix_line, push_bad_line_of};
 use jt_value::Memory;
 use std::alloc::Global;
 use std::test::Fail;

@@ -1,4 +1,4 @@
-use jt_report::ReportWords;
+use jt_report_command::ReportWords;
 use jt_value::{Edition, Memory, Phone};
 use std::alloc::Global;
 use std::test::Fail;

@@ -1,8 +1,8 @@
 ghost use Rattle.std.specs.Prelude.{◌≡◌, ◌≤◌, [], IfOk};
-ghost use Rattle.jt_link.specs.ScriptLink.{IsUntouched};
+ghost use Rattle.jt_outside.specs.ScriptLink.{IsUntouched};
 
 use crate::waiting::Pair;
-use jt_link::{ScriptLink, ScriptListen};
+use jt_outside::{ScriptLink, ScriptListen};
 use jt_platform::{Fleet, Hub};
 use jt_server::{ServeEnd, serve};
 use jt_session::{End, Report};

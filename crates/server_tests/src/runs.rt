@@ -4,8 +4,9 @@ ghost use Rattle.std.specs.Prelude.{None};
 
 use crate::waiting::Pair;
 use jt_cli::{Ended, Outside, Status, run};
-use jt_io::{MemSink, MemSource};
-use jt_link::{Accepted, Dial, Listen, ScriptClock, ScriptDial, ScriptLink, ScriptListen};
+use jt_outside::{
+    Accepted, Dial, Listen, MemSink, MemSource, ScriptClock, ScriptDial, ScriptLink, ScriptListen,
+};
 use jt_store::{MemKeeper, MemVault};
 use jt_value::{Memory, Octets, Seq};
 use std::alloc::Global;

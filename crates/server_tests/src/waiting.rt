@@ -2,8 +2,7 @@
 
 ghost use Rattle.std.specs.Prelude.{◌≡◌, ◌≤◌, ◌<◌, ◌^◌, ◌-◌, None, length};
 
-use jt_io::{Put, Sink};
-use jt_link::{Accepted, Link, LinkGot, Listen};
+use jt_outside::{Accepted, Link, LinkGot, Listen, Put, Sink};
 use std::alloc::Global;
 use std::sync::Arc;
 use std::sync::atomic::{AtomicU64, Ordering};

@@ -2,7 +2,7 @@
 
 ghost use Rattle.std.specs.Prelude.{◌≡◌, ◌≤◌, ◌^◌, []};
 
-use jt_link::ScriptLink;
+use jt_outside::ScriptLink;
 use jt_platform::{Fleet, Hub};
 use jt_session::{End, Report, serve_link, serve_link_within};
 use jt_store::MemKeeper;

@@ -1,4 +1,5 @@
-use jt_script::{Cut, LineCutter, ScriptLine, WorldEvent, script_line};
+use jt_input::{Cut, LineCutter};
+use jt_script::{ScriptLine, WorldEvent, script_line};
 
 const EVENTS: &[(&str, WorldEvent)] = &[
     ("fix 0", WorldEvent::Fix(0)),

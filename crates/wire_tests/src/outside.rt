@@ -1,4 +1,4 @@
-use jt_io::{Got, MemSink, MemSource, Put, Sink, Source, StdSink, StdSource, write_all};
+use jt_outside::{Got, MemSink, MemSource, Put, Sink, Source, StdSink, StdSource, write_all};
 use jt_value::{Memory, Octets, Seq};
 use std::alloc::Global;
 use std::io;

@@ -1,5 +1,5 @@
 use Rattle.std.proofs.Common.{Some, ap, ◌∙◌}
-use Rattle.jt_link.specs.Link.{wire_of}
+use Rattle.jt_outside.specs.Link.{wire_of}
 use Rattle.jt_agent.proofs.Concluding.{concluded_denied, concluded_late}
 use Rattle.jt_agent.proofs.moving.conclude.Goals as goal
 

@@ -1,5 +1,5 @@
 use Rattle.std.proofs.Common.{◌≡◌, ◌≤◌, ◌<◌, ◌+◌, ◌-◌, ◌*◌}
-use Rattle.jt_link.specs.Link.{wire_of}
+use Rattle.jt_outside.specs.Link.{wire_of}
 use Rattle.jt_agent.specs.Attempt.{VaultStays, at_link}
 use Rattle.jt_agent.specs.Course.{ARead}
 use Rattle.jt_agent.specs.Moving.{GoesOn, IsQuiet}

@@ -1,6 +1,6 @@
 use Rattle.std.proofs.Common.{inl, inr, refl, sym, ap, subst, []}
 use Rattle.std.proofs.KnownBytes.{Appends-nil}
-use Rattle.jt_runner.specs.Answer.{IsFault}
+use Rattle.jt_input.specs.Answer.{IsFault}
 use Rattle.jt_platform_command.specs.Platform.{Unserved, platform_text}
 use Rattle.jt_platform_command.proofs.command.platform.Goals as goal
 

@@ -1,5 +1,5 @@
 use Rattle.std.proofs.Common.{rules}
-use Rattle.jt_report.specs.Telling.{told_of}
+use Rattle.jt_report_command.specs.Telling.{told_of}
 use Rattle.jt_report_command.proofs.Runs.{from_start, runs_none, runs_refused, with_settings}
 use Rattle.jt_report_command.proofs.Words.{spoken_phone, spoken_plate, spoken_terminal}
 use Rattle.jt_report_command.proofs.command.report.Goals as goal

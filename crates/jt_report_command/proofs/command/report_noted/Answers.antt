@@ -1,5 +1,5 @@
 use Rattle.jt_agent.specs.Tries.{between}
-use Rattle.jt_runner.specs.declared.status.Status.TheVariants as status
+use Rattle.jt_input.specs.declared.status.Status.TheVariants as status
 use Rattle.jt_report_command.proofs.Causes.{all_accepted, is_fault, is_of, never, no_net, no_read, no_usage, some_unsent}
 use Rattle.jt_report_command.proofs.command.report_noted.Goals as goal
 

@@ -1,6 +1,6 @@
 use Rattle.std.proofs.Common.{◌∙◌}
 use Rattle.std.specs.Cmp.Lexicographic.{same_text}
-use Rattle.jt_script.proofs.Numbers.{reads_all}
+use Rattle.jt_script.proofs.Amounts.{reads_all}
 use Rattle.jt_script.proofs.script.count.Goals as goal
 
 pub returns-then-eq : goal.returns-then-eq

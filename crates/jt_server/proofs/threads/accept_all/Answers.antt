@@ -2,7 +2,7 @@ use Rattle.std.proofs.Common.{◌≡◌, ◌≤◌, ◌<◌, ◌+◌, ◌-◌, �
 use Rattle.std.specs.Prelude.{option_map, IfSome}
 use lib.ListN.{get_elem?}
 use mathlib.Core.Option.{some}
-use Rattle.jt_link.specs.Link.{wire_of}
+use Rattle.jt_outside.specs.Link.{wire_of}
 use Rattle.jt_platform.specs.Hub.{opening_of}
 use Rattle.jt_server.proofs.Places.{one_more}
 use Rattle.jt_server.proofs.Joins.{Joins, idle_more, not_there, root_joined}

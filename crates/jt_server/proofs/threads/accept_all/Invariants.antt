@@ -3,7 +3,7 @@ use Rattle.std.specs.Prelude.{option_map, MatchResult}
 use lib.ListN.{get_elem?}
 use mathlib.Core.Option.{some}
 use Rattle.jt_value.specs.Counts.{Counts}
-use Rattle.jt_link.specs.Link.{wire_of}
+use Rattle.jt_outside.specs.Link.{wire_of}
 use Rattle.jt_platform.specs.Hub.{opening_of}
 use Rattle.jt_server.specs.Jobs.{IsGiven, IsRoot, IsWorked, lent_to}
 use Rattle.jt_server.proofs.threads.accept_all.Given as goal

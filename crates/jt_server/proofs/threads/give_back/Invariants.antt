@@ -1,7 +1,7 @@
 use Rattle.std.proofs.Common.{◌≡◌, ◌≤◌, ◌+◌, ◌-◌, ◌++◌, length, map, reverse}
 use Rattle.std.specs.Prelude.{option_map, IfSome}
-use Rattle.jt_link.specs.Link.{wire_of}
-use Rattle.jt_link.specs.Pool.{used_of}
+use Rattle.jt_outside.specs.Link.{wire_of}
+use Rattle.jt_outside.specs.Pool.{used_of}
 use Rattle.jt_server.proofs.threads.give_back.Given as goal
 
 abbrev pub invariant-loop-back : goal.invariant-loop-back

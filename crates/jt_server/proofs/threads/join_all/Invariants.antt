@@ -2,7 +2,7 @@ use Rattle.std.proofs.Common.{◌≡◌, ◌≤◌, ◌+◌, ◌-◌, ℕ, lengt
 use Rattle.std.specs.Prelude.{option_map, MatchResult}
 use lib.ListN.{get_elem?}
 use mathlib.Core.Option.{some}
-use Rattle.jt_link.specs.Link.{wire_of}
+use Rattle.jt_outside.specs.Link.{wire_of}
 use Rattle.jt_platform.specs.Hub.{opening_of}
 use Rattle.jt_server.specs.Served.{store_faults}
 use Rattle.jt_server.specs.Jobs.{AreUpTo, HasFailed, IsGiven, IsJoined, IsRoot, IsWorked}

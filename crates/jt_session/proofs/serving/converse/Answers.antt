@@ -1,6 +1,6 @@
 use Rattle.std.proofs.Common.{◌≤◌, ◌+◌, take, ap, arith, rules, refl, length-take}
 use Rattle.std.specs.Option.{option_map}
-use Rattle.jt_link.specs.Link.{wire_of}
+use Rattle.jt_outside.specs.Link.{wire_of}
 use Rattle.jt_platform.specs.Hub.{opening_of}
 use Rattle.jt_session.specs.declared.end.End.TheVariants as ends
 use Rattle.jt_session.proofs.Servings.{course_begun, course_closes, course_ends, course_faults, course_over, course_reads, course_waits}

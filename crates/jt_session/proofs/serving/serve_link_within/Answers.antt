@@ -1,7 +1,7 @@
 use Rattle.std.proofs.Common.{◌≤◌, ◌==◌, sym, subst, arith}
 use Rattle.std.specs.Prelude.{IsSomeAnd}
 use Rattle.std.specs.Option.{option_map}
-use Rattle.jt_link.specs.Link.{wire_of}
+use Rattle.jt_outside.specs.Link.{wire_of}
 use Rattle.jt_platform.specs.Hub.{opening_of}
 use Rattle.jt_session.proofs.Closing.{serves_closed}
 use Rattle.jt_session.proofs.Givings.{failed_later}

@@ -1,4 +1,4 @@
-use Rattle.jt_runner.proofs.Opened.{reads_opened, prints_opened, stops_opened}
+use Rattle.jt_input.proofs.Opened.{reads_opened, prints_opened, stops_opened}
 use Rattle.jt_view.proofs.PiecesTaken.{begins, whole_alone, is_open}
 use Rattle.jt_view.proofs.running.report.Goals as goal
 

@@ -2,7 +2,7 @@ use Rattle.std.proofs.Common.{◌≡◌, ◌≤◌, ◌+◌, ◌-◌, ℕ, [], l
 use Rattle.std.specs.Prelude.{option_map, MatchResult}
 use lib.ListN.{get_elem?}
 use mathlib.Core.Option.{some}
-use Rattle.jt_link.specs.Link.{wire_of}
+use Rattle.jt_outside.specs.Link.{wire_of}
 use Rattle.jt_platform.specs.Hub.{opening_of}
 use Rattle.jt_server.specs.Served.{EndsAs}
 use Rattle.jt_server.specs.Jobs.{IsGiven, IsJoined, IsWorked}

@@ -1,4 +1,0 @@
-pub mod FixesText
-pub mod Noting
-pub mod Reading
-pub mod Steps

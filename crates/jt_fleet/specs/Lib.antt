@@ -1,4 +1,0 @@
-pub mod FleetLines
-pub mod FleetText
-pub mod Naming
-pub mod Reading

@@ -1,0 +1,11 @@
+pub mod Text
+pub mod Cutter
+pub mod LineReading
+pub mod Cutting
+pub mod Reply
+pub mod Answer
+pub mod Telling
+pub mod Running
+pub mod Lines
+pub mod LineSteps
+pub mod Spelling

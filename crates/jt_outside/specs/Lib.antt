@@ -1,0 +1,15 @@
+pub mod Inbound
+pub mod Source
+pub mod Sink
+pub mod MemSource
+pub mod MemSink
+pub mod Standard
+pub mod Link
+pub mod Pool
+pub mod Time
+pub mod Accepted
+pub mod ScriptLink
+pub mod ScriptPool
+pub mod ScriptDial
+pub mod ScriptClock
+pub mod Adapters

@@ -1,0 +1,13 @@
+//! Clocks.
+
+ghost use Rattle.jt_outside.specs.Time.{Time, Tells};
+
+/// A clock, which never goes back.
+pub trait Clock {
+    /// The moments to come, where it tells them, and its last answer.
+    ghost time: { Self → Time };
+
+    /// The present moment in milliseconds.
+    fn now(&mut self) -> u64
+        ensures { Tells (time self.old) (time self.new) result };
+}

@@ -1,4 +1,0 @@
-mod Apart
-mod Hosts
-mod Passing
-mod Phones

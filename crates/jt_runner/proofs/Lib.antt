@@ -1,4 +1,0 @@
-pub mod Steps
-pub mod Runs
-pub mod LinesHeard
-pub mod Opened
