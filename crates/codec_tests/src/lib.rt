@@ -2,4 +2,14 @@
 #![tactic(auto)]
 
 #[cfg(test)]
-mod codec;
+mod bodies;
+#[cfg(test)]
+mod frames;
+#[cfg(test)]
+mod judging;
+#[cfg(test)]
+mod reading;
+#[cfg(test)]
+mod values;
+#[cfg(test)]
+mod views;

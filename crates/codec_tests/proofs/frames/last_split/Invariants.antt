@@ -1,5 +1,5 @@
 use Rattle.std.proofs.Common.{◌≡◌}
-use Rattle.codec_tests.proofs.codec.frame_of_flags.Given as goal
+use Rattle.codec_tests.proofs.frames.last_split.Given as goal
 
 abbrev pub invariant-loop-octet : goal.invariant-loop-octet
 invariant-loop-octet g l = l.splitter.place ≡ l.octet-index
