@@ -121,46 +121,15 @@ fn is_framed(header: &Header, body: &[u8], octets: &[u8]) -> bool
     frame.as_slice() == octets
 }
 
-// Whether this content is a message of this id without a body, behind this header, whose frame is these octets.
-fn is_framed_again(alloc: Global, content: &[u8], header: Header, octets: &[u8]) -> bool
-    requires { length content.now ≤ 1045 }
-{
-    match &parse_frame(alloc, content) {
-        Ok((read, message)) => {
-            *read == header && message.id() == Some(header.id) && is_framed(read, &[], octets)
-        }
-        Err(_) => false,
-    }
-}
-
-#[test]
-fn frames(rt: HostRuntime) {
-    let content = b"\x00\x02\x00\x00\x01\x39\x12\x34\x56\x78\x00\x00\x32";
-    let frame = b"\x7E\x00\x02\x00\x00\x01\x39\x12\x34\x56\x78\x00\x00\x32\x7E";
-    assert!(rt; is_framed_again(rt.alloc(), content, header(0x0002, 0, None), frame));
-}
-
 // The header of a content.
 fn header_of(alloc: Global, content: &[u8]) -> Option<Header>
     requires { length content.now ≤ 1045 }
     ensures { IfSome result IsHeader }
 {
-    match &parse_frame(alloc, content) {
-        Ok((read, _message)) => Some(*read),
+    match parse_frame(alloc, content) {
+        Ok((read, _message)) => Some(read),
         Err(_) => None,
     }
-}
-
-// What the last of these octets brings.
-fn last_split(splitter: &mut Splitter, octets: &[u8]) -> Split
-    requires place { splitter.old.place ≡ 0 }
-    requires octets { length octets.now < 2 ^ 63 }
-{
-    let mut last = Split::More;
-    for octet in octets {
-        last = splitter.push(*octet);
-    }
-    last
 }
 
 // Whether this content is a message of this header, which is written back as this body.
@@ -175,6 +144,27 @@ fn is_read_back(alloc: Global, content: &[u8], header: &Header, body: &[u8]) -> 
         }
         Err(_) => false,
     }
+}
+
+#[test]
+fn frames(rt: HostRuntime) {
+    let content = b"\x00\x02\x00\x00\x01\x39\x12\x34\x56\x78\x00\x00\x32";
+    let heartbeat = header_of(rt.alloc(), content).expect(&rt, "a header");
+    assert!(rt; heartbeat == header(0x0002, 0, None));
+    assert!(rt; is_read_back(rt.alloc(), content, &heartbeat, b""));
+    let frame = b"\x7E\x00\x02\x00\x00\x01\x39\x12\x34\x56\x78\x00\x00\x32\x7E";
+    assert!(rt; is_framed(&heartbeat, &[], frame));
+}
+
+// What the last of these octets brings.
+fn last_split(splitter: &mut Splitter, octets: &[u8]) -> Split
+    requires { splitter.old.place ≡ 0 }
+{
+    let mut last = Split::More;
+    for octet in octets {
+        last = splitter.push(*octet);
+    }
+    last
 }
 
 // Whether the frame of this header and body gives them back.

@@ -7,8 +7,13 @@ use std::alloc::Global;
 
 /// Whether a message fits the edition, and is written as these octets.
 pub fn is_written(alloc: Global, edition: Edition, message: &Message, body: &[u8]) -> bool {
-    message.fits(edition)
-        && matches!(&write_body(alloc, edition, message), Ok(octets) if octets.as_slice() == body)
+    if !message.fits(edition) {
+        return false;
+    }
+    match &write_body(alloc, edition, message) {
+        Ok(octets) => octets.as_slice() == body,
+        Err(_) => false,
+    }
 }
 
 /// Whether this body is read under its id, as opaque octets or not, fits its edition, and is written back.
