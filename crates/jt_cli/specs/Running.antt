@@ -17,7 +17,6 @@ use Rattle.jt_report_command.specs.Settings.{settings_of}
 use Rattle.jt_report_command.specs.Steps.{VaultKeeps}
 use Rattle.jt_terminal_steps.specs.Running.{IsStarted}
 use Rattle.jt_input.specs.Answer.{Answers}
-use Rattle.jt_input.specs.declared.status.Status.{Status}
 use Rattle.jt_input.specs.declared.status.Status.TheVariants.{Done, Unsent, ReadFault, StoreFault, NetFault}
 use Rattle.jt_cli.specs.Acting.{Acts}
 use Rattle.jt_cli.specs.Ask.{Ask, Act, ReportFixes, ServeLinks, Asks}
