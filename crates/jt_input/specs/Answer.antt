@@ -30,6 +30,10 @@ IsFault StoreFault = ⊥
 IsFault NetFault = ⊥
 IsFault Unsent = ⊥
 
+-- memory was wanted for a text, or a write failed
+abbrev pub CutsShort : Status → Type 0
+CutsShort s = (s ≡ Memory) ⊎ (s ≡ WriteFault)
+
 -- the statuses that an input may be answered before its end
 abbrev pub EndsEarly : Status → Type 0
 EndsEarly Refused = Unit {0}

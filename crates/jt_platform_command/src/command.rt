@@ -10,9 +10,9 @@ ghost use Rattle.jt_platform.specs.Hub.{opening_of};
 ghost use Rattle.jt_platform_command.specs.Running.{RunsPlatform, scene_of};
 ghost use Rattle.jt_platform_command.specs.Opening.{Opens};
 
-use crate::telling::{tell_bad_line, tell_no_listener, tell_served};
+use crate::telling::tell_served;
 use crate::{FleetRead, read_fleet};
-use jt_input::Status;
+use jt_input::{EarlyEnd, Status, answer_early_end};
 use jt_outside::{Listen, Sink, Source};
 use jt_platform::{Entry, Fleet, Hub};
 use jt_server::{Served, serve};
@@ -81,6 +81,7 @@ where
 }
 
 // Begins to listen, and serves links over a fleet.
+#[tactic(auto, unfolding(crate::specs::Platform::platform_text))]
 fn listen_over<R: Threads + Wait + Sync, K: Sink, L: Listen, P: Keeper + Send + Drop>(
     rt: &R,
     alloc: Global,
@@ -107,7 +108,7 @@ where
     if !listen.start(words.port) {
         let (keeper, history) = hub.into_parts();
         return PlatformRun {
-            status: tell_no_listener(sink),
+            status: answer_early_end(alloc, sink, EarlyEnd::ListenFault),
             keeper,
             reports: Seq::new(alloc),
             history,
@@ -120,6 +121,7 @@ where
 /// writes a line for each session, the line of the totals, and the last one, if there is one.
 ///
 /// A bad line of the source is told before anything is listened to. It may wait for peers, and its promises hold where it returns.
+#[tactic(auto, unfolding(crate::specs::Platform::platform_text))]
 pub fn platform<R: Threads + Wait + Sync, S: Source, K: Sink, L: Listen, P: Keeper + Send + Drop>(
     rt: &R,
     alloc: Global,
@@ -147,7 +149,7 @@ where
     let (secret, fleet) = match read_fleet(alloc, source) {
         FleetRead::Fleet(secret, fleet) => (secret, fleet),
         FleetRead::Bad(number) => {
-            let status = tell_bad_line(alloc, sink, number);
+            let status = answer_early_end(alloc, sink, EarlyEnd::BadLine(number));
             return without_links(alloc, status, keeper);
         }
         FleetRead::Failed => return without_links(alloc, Status::ReadFault, keeper),

@@ -6,7 +6,7 @@ ghost use Rattle.jt_input.specs.declared.status.Status.TheVariants.{Memory};
 ghost use Rattle.jt_platform_command.specs.Platform.{count_of, end_word, entries_line, is_renumbered, is_repeat, is_stored, session_counts, session_line, session_octets, totals_line};
 ghost use Rattle.jt_platform_command.specs.Platform.{first_limit, is_memory, is_store_fault, last_reply, limit_in, or_limit, some_end, store_reply};
 
-use jt_input::Status;
+use jt_input::{EarlyEnd, Status};
 use jt_platform::{Entry, Reply};
 use jt_server::ServeEnd;
 use jt_session::{End, Report};
@@ -194,10 +194,10 @@ fn push_store_line(
     ensures { OnOk result (string_bytes text.new ≡ string_bytes text.old ++ (store_reply store_fault limit).text) }
 {
     if store_fault {
-        return text.push_str("store fault\n");
+        return EarlyEnd::StoreFault.push(text);
     }
     match limit {
-        Some(limit) => write!(text, "list full at {limit}\n"),
+        Some(limit) => EarlyEnd::ListFull(limit).push(text),
         None => Ok(()),
     }
 }
@@ -211,7 +211,7 @@ pub(crate) fn push_last_line(
     ensures { OnOk result (string_bytes text.new ≡ string_bytes text.old ++ (last_reply end reports.now).text) }
 {
     match end {
-        ServeEnd::ListenFault => text.push_str("listen fault\n"),
+        ServeEnd::ListenFault => EarlyEnd::ListenFault.push(text),
         ServeEnd::Memory => Ok(()),
         ServeEnd::All | ServeEnd::Over => {
             let ends = Ends::of(reports);

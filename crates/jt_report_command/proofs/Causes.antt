@@ -16,7 +16,7 @@ use Rattle.jt_agent.specs.declared.reporting.Outcome.TheVariants as outcome
 use Rattle.jt_input.specs.declared.status.Status.{Status}
 use Rattle.jt_input.specs.declared.status.Status.TheVariants as status
 use Rattle.jt_report_command.specs.Report.{outcome_reply}
-use Rattle.jt_report_command.specs.Steps.{CutsShort}
+use Rattle.jt_input.specs.Answer.{CutsShort}
 
 -- ---- a status of attempts
 

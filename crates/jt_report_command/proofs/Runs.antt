@@ -23,7 +23,7 @@ use Rattle.jt_input.specs.declared.status.Status.{Status}
 use Rattle.jt_input.specs.declared.status.Status.TheVariants as status
 use Rattle.jt_report_command.specs.Came.{Came, BadLine, BeyondLimits, VaultFull, VaultFailed, Undialled, Reported, report_text}
 use Rattle.jt_report_command.specs.Running.{Scene, scene_of, NotesAlone, Does, EndsSo, RunsReport}
-use Rattle.jt_report_command.specs.Steps.{CutsShort, TellsAttempts, came_at, came_of, status_of_refusal}
+use Rattle.jt_report_command.specs.Steps.{TellsAttempts, came_at, came_of, status_of_refusal}
 
 -- ---- fixes that were not all recorded
 

@@ -43,10 +43,6 @@ status_of_refusal store.Failed = status.StoreFault
 status_of_refusal store.Memory = status.Memory
 status_of_refusal (store.Full limit) = status.Memory
 
--- memory was wanted for a text, or a write failed
-abbrev pub CutsShort : Status → Type 0
-CutsShort s = (s ≡ status.Memory) ⊎ (s ≡ status.WriteFault)
-
 -- attempts came to this, and its text was written, or a prefix of it at a fault
 pub record TellsAttempts (tries : ℕ) (old now : Between) (written written_now : Option (List ℕ)) (status : Status) : Type 0 where
   pub outcome : Outcome

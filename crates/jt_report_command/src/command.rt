@@ -6,21 +6,21 @@ ghost use Rattle.jt_value.specs.Counts.{Rose};
 ghost use Rattle.jt_store.specs.Tables.{Told};
 ghost use Rattle.jt_store.specs.Vaults.{settled, unsettled};
 ghost use Rattle.jt_report_command.specs.Telling.{told_of};
-ghost use Rattle.jt_input.specs.Answer.{Answers};
+ghost use Rattle.jt_input.specs.Answer.{Answers, CutsShort};
 ghost use Rattle.jt_store.specs.declared.error.StoreError.TheVariants.{Full};
 ghost use Rattle.jt_terminal_rule.specs.declared.state.Phase.TheVariants.{Down};
 ghost use Rattle.jt_terminal_steps.specs.Running.{IsStarted};
 ghost use Rattle.jt_agent.specs.Tries.{between};
 ghost use Rattle.jt_report_command.specs.Came.{report_text};
-ghost use Rattle.jt_report_command.specs.Steps.{CutsShort, TellsAttempts, VaultKeeps, came_at, came_of, status_at, status_of_refusal};
+ghost use Rattle.jt_report_command.specs.Steps.{TellsAttempts, VaultKeeps, came_at, came_of, status_at, status_of_refusal};
 ghost use Rattle.jt_report_command.specs.Running.{EndsSo, RunsReport, scene_of};
 ghost use Rattle.jt_report_command.specs.Settings.{AreSpoken, settings_of};
 
 use crate::settings::settings;
-use crate::telling::{tell_bad_line, tell_beyond, tell_failed, tell_full, tell_outcome};
+use crate::telling::{tell_bad_line, tell_outcome};
 use crate::{FixesError, ReportWords, note_fixes};
 use jt_agent::report_all;
-use jt_input::Status;
+use jt_input::{EarlyEnd, Status, answer_early_end};
 use jt_outside::{Clock, Dial, Sink, Source};
 use jt_store::{StoreError, Vault};
 use jt_terminal::Terminal;
@@ -68,7 +68,7 @@ fn report_noted<K: Sink, D: Dial, C: Clock, V: Vault>(
 }
 
 // Writes why not all fixes were recorded.
-#[tactic(auto, using(crate::proofs::Causes::not_read))]
+#[tactic(auto, using(crate::proofs::Causes::not_read), unfolding(crate::specs::Came::report_text))]
 fn tell_error<K: Sink>(alloc: Global, sink: &mut K, error: FixesError) -> Status
     ensures answers { Answers result (report_text (came_of error)) (K.written sink.old) (K.written sink.new) }
     ensures status { (result ≡ status_at error) ⊎ CutsShort result }
@@ -77,9 +77,13 @@ fn tell_error<K: Sink>(alloc: Global, sink: &mut K, error: FixesError) -> Status
 {
     match error {
         FixesError::BadLine(number, said) => tell_bad_line(alloc, sink, number, &said),
-        FixesError::BeyondLimits(number) => tell_beyond(alloc, sink, number),
-        FixesError::VaultFull(limit) => tell_full(alloc, sink, limit),
-        FixesError::VaultFailed => tell_failed(sink),
+        FixesError::BeyondLimits(number) => answer_early_end(
+            alloc,
+            sink,
+            EarlyEnd::BadLine(number),
+        ),
+        FixesError::VaultFull(limit) => answer_early_end(alloc, sink, EarlyEnd::VaultFull(limit)),
+        FixesError::VaultFailed => answer_early_end(alloc, sink, EarlyEnd::StoreFault),
         FixesError::ReadFailed => Status::ReadFault,
         FixesError::Memory => Status::Memory,
     }
@@ -119,8 +123,8 @@ fn report_from<S: Source, K: Sink, D: Dial, C: Clock, V: Vault>(
 }
 
 // Writes why a vault did not load.
-#[tactic(auto, using(crate::proofs::Causes::not_read))]
-fn tell_refused<K: Sink>(sink: &mut K, error: StoreError) -> Status
+#[tactic(auto, using(crate::proofs::Causes::not_read), unfolding(crate::specs::Came::report_text))]
+fn tell_refused<K: Sink>(alloc: Global, sink: &mut K, error: StoreError) -> Status
     requires { (limit : ℕ) → error ≢ Full limit }
     ensures answers { Answers result (report_text (came_at error)) (K.written sink.old) (K.written sink.new) }
     ensures status { (result ≡ status_of_refusal error) ⊎ CutsShort result }
@@ -128,7 +132,7 @@ fn tell_refused<K: Sink>(sink: &mut K, error: StoreError) -> Status
     ensures write_fault { result ≡ Status.WriteFault → Rose (K.faults sink.old) (K.faults sink.new) }
 {
     match error {
-        StoreError::Failed => tell_failed(sink),
+        StoreError::Failed => answer_early_end(alloc, sink, EarlyEnd::StoreFault),
         StoreError::Memory => Status::Memory,
         StoreError::Full(_) => unreachable!(),
     }
@@ -204,7 +208,7 @@ pub fn report<S: Source, K: Sink, D: Dial, C: Clock, V: Vault>(
             }
         }
         Err((vault, error)) => ReportRun {
-            status: tell_refused(sink, error),
+            status: tell_refused(alloc, sink, error),
             vault,
         },
     }

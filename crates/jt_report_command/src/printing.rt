@@ -1,11 +1,13 @@
 //! The printed lines of `report`, each put at the end of a text.
 
-ghost use Rattle.std.specs.Prelude.{◌≡◌, ◌++◌, ℕ, string_bytes, codes, OnOk};
+ghost use Rattle.std.specs.Prelude.{◌≡◌, ◌++◌, ℕ, string_bytes, OnOk};
+ghost use Rattle.jt_input.specs.EarlyEnds.{early_reply};
+ghost use Rattle.jt_input.specs.declared.early_end.EarlyEnd.TheVariants as early;
 ghost use Rattle.jt_text.specs.Values.{octets_text};
 ghost use Rattle.jt_report_command.specs.Report.{denial_text, end_text, outcome_reply, timeout_text, totals_line, try_line, try_lines, try_number};
 
 use jt_agent::{AttemptEnd, Outcome};
-use jt_input::Status;
+use jt_input::{EarlyEnd, Status};
 use std::alloc::{AllocError, Global};
 use std::fmt::Write;
 
@@ -109,10 +111,10 @@ fn push_tries_and_fault(
     text: &mut String,
     ends: &[AttemptEnd],
 ) -> Result<(), AllocError>
-    ensures { OnOk result (string_bytes text.new ≡ string_bytes text.old ++ (try_lines 1 ends.now ++ codes "store fault\n")) }
+    ensures { OnOk result (string_bytes text.new ≡ string_bytes text.old ++ (try_lines 1 ends.now ++ (early_reply early.StoreFault).text)) }
 {
     push_tries(alloc, text, ends)?;
-    text.push_str("store fault\n")
+    EarlyEnd::StoreFault.push(text)
 }
 
 /// What attempts came to, with the totals of the vault: a line for each attempt that ended, and `accepted=A of R`, or
