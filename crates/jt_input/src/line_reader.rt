@@ -1,6 +1,7 @@
 //! A reader of lines.
 
 ghost use Rattle.std.specs.Prelude.{◌≡◌, ◌≢◌, ◌≤◌, ◌+◌, [], ℕ, List, drop, take, length};
+ghost use Rattle.jt_value.specs.declared.limits.TheConstants.{READ_LIMIT};
 ghost use Rattle.jt_value.specs.Counts.{Rose};
 ghost use Rattle.jt_outside.specs.Source.{ReadHasCause};
 ghost use Rattle.jt_input.specs.LineReading.{HasTold, Goes};
@@ -9,6 +10,7 @@ ghost use Rattle.jt_input.specs.declared.line_reader.NextLine.TheVariants.{Faile
 
 use crate::{Cut, LineCutter};
 use jt_outside::{Got, Source};
+use jt_value::limits::READ_LIMIT;
 use std::marker::Model;
 
 /// What a call for the next line answers.
@@ -27,9 +29,6 @@ pub enum NextLine {
     Failed,
 }
 
-// How many octets are read at once.
-const PIECE: usize = 4096;
-
 // The octets from one place to another.
 fn part(octets: &[u8], from: usize, to: usize) -> &[u8]
     requires order { from ≤ to }
@@ -44,7 +43,7 @@ fn part(octets: &[u8], from: usize, to: usize) -> &[u8]
 #[derive(Drop)]
 pub struct LineReader {
     cutter: LineCutter,
-    piece: [u8; PIECE],
+    piece: [u8; READ_LIMIT],
     // Where the octets that were read and not cut yet begin in the piece, and where they end.
     from: usize,
     to: usize,
@@ -58,7 +57,7 @@ impl Model for LineReader {
 
     ghost view = { λ reader. record { held = reader.cutter; ahead = drop reader.from (take reader.to reader.piece) } };
 
-    ghost invariant = { λ reader. (reader.from ≤ reader.to) × (reader.to ≤ 4096) };
+    ghost invariant = { λ reader. (reader.from ≤ reader.to) × (reader.to ≤ READ_LIMIT) };
 }
 
 impl LineReader {
@@ -68,7 +67,7 @@ impl LineReader {
     {
         LineReader {
             cutter: LineCutter::new(),
-            piece: [0; PIECE],
+            piece: [0; READ_LIMIT],
             from: 0,
             to: 0,
         }
