@@ -1,7 +1,6 @@
 //! One attempt over a link.
 
 ghost use Rattle.std.specs.Prelude.{◌≡◌, ◌≤◌, ◌^◌};
-ghost use Rattle.jt_value.specs.declared.limits.TheConstants.{INPUT_LIMIT};
 ghost use Rattle.jt_outside.specs.Link.{wire_of};
 ghost use Rattle.jt_terminal_rule.specs.declared.state.Event.TheVariants.{Lost};
 ghost use Rattle.jt_terminal_rule.specs.declared.state.Phase.TheVariants.{Down};

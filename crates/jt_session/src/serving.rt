@@ -1,7 +1,7 @@
 //! A session over a link.
 
 ghost use Rattle.std.specs.Prelude.{◌≡◌, ◌≤◌, ◌<◌, ◌+◌, ◌*◌, ◌^◌, [], false, None, IsSome, IsSomeAnd, length, option_map};
-ghost use Rattle.jt_value.specs.declared.limits.TheConstants.{ANSWER_LIMIT, INPUT_LIMIT};
+ghost use Rattle.jt_value.specs.declared.limits.TheConstants.{ANSWER_LIMIT};
 ghost use Rattle.jt_value.specs.Octets.{AreOctets};
 ghost use Rattle.jt_outside.specs.Link.{wire_of};
 ghost use Rattle.jt_platform.specs.Hub.{opening_of};

@@ -1,7 +1,6 @@
 //! Serials, waits and moments.
 
 ghost use Rattle.std.specs.Prelude.{◌≡◌, ◌+◌, ◌≤◌, ◌↔◌, nat_lt, IsTrue};
-ghost use Rattle.jt_value.specs.declared.limits.TheConstants.{SERIAL_WINDOW};
 ghost use Rattle.jt_value.specs.Serials.{gap_of};
 ghost use Rattle.jt_terminal_rule.specs.Rule as rule;
 
