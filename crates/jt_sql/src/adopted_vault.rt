@@ -7,6 +7,7 @@ use crate::answers::{added, answered, changed};
 use crate::vaulting;
 use jt_position::Fix;
 use jt_store::{Loaded, StoreError, Unit, Vault};
+use jt_value::limits::FIX_LIMIT;
 use sqlite::{Alter, Connection};
 use std::alloc::Global;
 use std::marker::Model;

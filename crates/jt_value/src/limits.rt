@@ -8,7 +8,7 @@ pub const CONTENT_LIMIT: usize = 21 + BODY_LIMIT + 1;
 pub const FRAME_LIMIT: usize = 2 * CONTENT_LIMIT + 2;
 /// The octets of answers that one octet of a stream brings at most: two frames (this project's own).
 pub const ANSWER_LIMIT: usize = 2 * FRAME_LIMIT;
-/// The octets of a code of an authentication at most (the standard's: its length is one octet).
+/// The octets of a code of an authentication at most (this project's own: the edition of 2019 counts them in one octet).
 pub const CODE_LIMIT: usize = 255;
 /// The octets of a vehicle's plate at most (this project's own).
 pub const PLATE_LIMIT: usize = 255;
