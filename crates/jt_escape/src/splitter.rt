@@ -1,7 +1,6 @@
 //! Contents and refusals of a stream that comes octet by octet, or in pieces.
 
 ghost use Rattle.std.specs.Prelude.{◌≡◌, ◌⊎◌, ◌<◌, ◌≤◌, ◌+◌, ◌-◌, ◌^◌, [], ◌∷◌, List, ℕ, length, take, slice_index, slice_range, IsTrue, IfSome};
-ghost use Rattle.jt_value.specs.declared.limits.TheConstants.{CONTENT_LIMIT};
 ghost use Rattle.jt_value.specs.declared.refusal.Refusal.{Refusal};
 ghost use Rattle.jt_escape.specs.declared.splitter.Mode.TheVariants.{Outside, Straying, Inside, Escaping, Skipping};
 ghost use Rattle.jt_escape.specs.Span.{Ends, HasNoFlag, IsContent, refusal_at};
@@ -67,6 +66,7 @@ impl Model for Splitter {
     ghost use Rattle.std.specs.Prelude.{◌≡◌, ◌<◌, length};
     ghost use Rattle.jt_escape.specs.declared.splitter.Mode.TheVariants.{Escaping};
     ghost use Rattle.jt_escape.specs.Scan.{State};
+    ghost use Rattle.jt_value.specs.declared.limits.TheConstants.{CONTENT_LIMIT};
 
     ghost Value = { State };
 

@@ -1,7 +1,6 @@
 //! The lines of a text that comes in pieces.
 
 ghost use Rattle.std.specs.Prelude.{◌≡◌, ◌≤◌, ◌<◌, ◌+◌, ◌++◌, [], ◌∷◌, List, ℕ, length, take, true, false, IsTrue, IfSome, ◌==◌, position, option_to_list, option_copied};
-ghost use Rattle.jt_input.specs.declared.line_cutter.TheConstants.{LINES_LIMIT};
 ghost use Rattle.jt_input.specs.Text.{Cuts, lines_of, is_within};
 ghost use Rattle.jt_input.specs.Cutter.{Takes, IsBegun, IsBeyond, begun_of, room_of, told};
 
@@ -48,6 +47,7 @@ pub struct LineCutter {
 impl Model for LineCutter {
     ghost use Rattle.std.specs.Prelude.{◌≡◌, ◌≤◌, ◌<◌, false, length};
     ghost use Rattle.jt_input.specs.Cutter.{Held};
+    ghost use Rattle.jt_input.specs.declared.line_cutter.TheConstants.{LINES_LIMIT};
 
     ghost Value = { Held };
 

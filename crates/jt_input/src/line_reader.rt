@@ -1,7 +1,6 @@
 //! A reader of lines.
 
 ghost use Rattle.std.specs.Prelude.{◌≡◌, ◌≢◌, ◌≤◌, ◌+◌, [], ℕ, List, drop, take, length};
-ghost use Rattle.jt_value.specs.declared.limits.TheConstants.{READ_LIMIT};
 ghost use Rattle.jt_value.specs.Counts.{Rose};
 ghost use Rattle.jt_outside.specs.Source.{ReadHasCause};
 ghost use Rattle.jt_input.specs.LineReading.{HasTold, Goes};
@@ -52,6 +51,7 @@ pub struct LineReader {
 impl Model for LineReader {
     ghost use Rattle.std.specs.Prelude.{◌≤◌, take, drop};
     ghost use Rattle.jt_input.specs.LineReading.{Reading};
+    ghost use Rattle.jt_value.specs.declared.limits.TheConstants.{READ_LIMIT};
 
     ghost Value = { Reading };
 

@@ -6,7 +6,6 @@ ghost use Rattle.std.specs.FinMap as map;
 ghost use Rattle.std.specs.List.{All};
 ghost use Rattle.std.specs.Option.{option_and_then, option_or};
 ghost use Rattle.std.specs.Ordering.{nat_cmp};
-ghost use Rattle.jt_value.specs.declared.limits.TheConstants.{OCTET_COUNT_LIMIT};
 ghost use Rattle.jt_params.specs.Tables.{HasOctets, HaveOctets, IsOneTable, Sets, dword_of, last_value, listed, param_at, params_of, selected};
 ghost use Rattle.jt_params.specs.Refused.{IsTooMany};
 
@@ -31,6 +30,7 @@ impl Model for ParamTable {
     ghost use Rattle.std.specs.Coded.{coded_ℕ};
     ghost use Rattle.std.specs.FinMap.{code};
     ghost use Rattle.jt_params.specs.contracts.param.ParamValue as value;
+    ghost use Rattle.jt_value.specs.declared.limits.TheConstants.{OCTET_COUNT_LIMIT};
 
     ghost Value = { Table };
 

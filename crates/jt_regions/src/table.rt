@@ -6,7 +6,6 @@ ghost use Rattle.std.specs.FinMap as map;
 ghost use Rattle.std.specs.Ordering.{nat_cmp};
 ghost use Rattle.std.specs.Option.{option_or};
 ghost use Rattle.std.specs.List.{list_any};
-ghost use Rattle.jt_regions.specs.declared.table.TheConstants.{REGION_LIMIT};
 ghost use Rattle.jt_value.specs.declared.limits.TheConstants.{WORD_COUNT_LIMIT};
 ghost use Rattle.jt_regions.specs.Kinds as kinds;
 ghost use Rattle.jt_regions.specs.Kinds.{last_with, first_missing, count_after, Sets, after_deletion, listed};
@@ -36,6 +35,7 @@ impl<T: Identified> Model for Table<T> {
     ghost use Rattle.std.specs.FinMap.{FinMap, code, from_entries};
     ghost use Rattle.std.specs.Ordering.{nat_cmp};
     ghost use Rattle.jt_regions.specs.Steps.{OwnIds};
+    ghost use Rattle.jt_regions.specs.declared.table.TheConstants.{REGION_LIMIT};
 
     ghost Value = { FinMap nat_cmp T };
 

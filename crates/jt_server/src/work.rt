@@ -38,6 +38,7 @@ impl<K: Link, P: Keeper> Promise<Work<K, P>> for Given<K, P> {
     ghost use Rattle.jt_platform.specs.Hub.{opening_of};
     ghost use Rattle.jt_session.specs.Hearing.{IsSamePass};
     ghost use Rattle.jt_session.specs.Serving.{Serves};
+    ghost use Rattle.jt_value.specs.declared.limits.TheConstants.{INPUT_LIMIT};
 
     ghost kept_by = { λ given work. Serves (option_map (λ o. opening_of (P.tables o.start) (P.limit o.start) o.fleet o.secret) given.pass.value.opening) INPUT_LIMIT given.pass.value work.pass (wire_of K.inbound K.written K.faults given.link.value) (wire_of K.inbound K.written K.faults work.link) work.report × IsSamePass given.pass.value work.pass };
 }

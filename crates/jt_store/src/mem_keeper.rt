@@ -30,6 +30,7 @@ impl Model for MemKeeper {
     ghost use Rattle.std.specs.Prelude.{◌≤◌, List, ℕ};
     ghost use Rattle.jt_store.specs.Memory.{list_under, Kept};
     ghost use Rattle.jt_store.specs.Tables.{AreRows};
+    ghost use Rattle.jt_value.specs.declared.limits.TheConstants.{ROW_LIMIT};
 
     ghost Value = { Kept };
 
