@@ -4,13 +4,9 @@ ghost use Rattle.std.specs.Prelude.{◌≤◌, IfSome, IsTrue, length};
 ghost use Rattle.jt_store.specs.Vaults.{AreInOrder, IsUnit};
 
 use jt_store::Unit;
+use jt_value::ids::{BATCH, POSITION};
 use jt_value::limits::{BODY_LIMIT, CODE_LIMIT, SERIAL_WINDOW, UNIT_WINDOW};
 use jt_value::{Octets, gap};
-
-// The ids of a position and of a batch of positions.
-const POSITION: u16 = 0x0200;
-
-const BATCH: u16 = 0x0704;
 
 fn is_short(code: &Option<Octets>) -> bool
     ensures { IsTrue result → IfSome code.now (λ octets. length octets ≤ CODE_LIMIT) }

@@ -25,7 +25,7 @@ use std::alloc::Global;
 use std::marker::Model;
 
 /// The most fixes that are recorded.
-const FIX_LIMIT: usize = UNIT_WINDOW as usize;
+const RECORDED_LIMIT: usize = UNIT_WINDOW as usize;
 
 /// What the terminal holds. The unit of each place carries the fix of that place alone, under that number.
 #[derive(Drop)]
@@ -129,7 +129,7 @@ impl Terminal {
     pub(crate) fn has_room(&self) -> bool
         ensures { IsTrue result ↔ (length self.now.recorded < fix_limit) }
     {
-        self.recorded.len() < FIX_LIMIT
+        self.recorded.len() < RECORDED_LIMIT
     }
 
     /// Records a fix.
