@@ -1,6 +1,7 @@
 -- What a terminal is told in an attempt, and what it then does (this project's own). To be believed.
 use Rattle.std.specs.Prelude.{◌≡◌, ℕ, ◌+◌, ◌≤◌, ◌<◌, List, [], ◌∷◌, ◌++◌, length, Option, None, Some, Bool, true, false, ◌&&◌}
 use Rattle.std.specs.List.{flat_map}
+use Rattle.jt_value.specs.declared.limits.TheConstants.{READ_LIMIT}
 use Rattle.jt_terminal_rule.specs.declared.settings.Settings.{Settings}
 use Rattle.jt_terminal_rule.specs.declared.state.State.{State}
 use Rattle.jt_terminal_rule.specs.declared.state.Event.TheVariants.{Opened, Tick}
@@ -89,7 +90,7 @@ kind Waits = ARead
 -- what one read gave: from 1 to 4,096 octets
 pub record IsPiece (octets : List ℕ) : Type 0 where
   pub some : 0 < length octets
-  pub short : length octets ≤ 4096
+  pub short : length octets ≤ READ_LIMIT
 
 abbrev pub IsMove : Move → Type 0
 IsMove (Ticks moment) = Unit {0}

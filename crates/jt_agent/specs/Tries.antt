@@ -1,5 +1,7 @@
 -- Attempts one after another, each over a link of its own (this project's own). To be believed.
 use Rattle.std.specs.Prelude.{◌≡◌, ℕ, ◌+◌, ◌^◌, ◌≤◌, ◌<◌, ◌⊎◌, List, [], ◌∷◌, Option, Some, true, false, length}
+use Rattle.jt_agent.specs.declared.running.TheConstants.{MOST_QUIETS}
+use Rattle.jt_value.specs.declared.limits.TheConstants.{INPUT_LIMIT}
 use Rattle.jt_value.specs.Counts.{Rose, Counts}
 use Rattle.jt_outside.specs.Link.{Wire}
 use Rattle.jt_outside.specs.Pool.{Pool, GivesLink, taken_back}
@@ -36,7 +38,7 @@ pub record OverLink (old now : Between) (end : Attempted) : Type 0 where
   pub used : Wire
   pub lending : Pool
   pub gives : GivesLink old.pool lending (Some link)
-  pub attempt : Attempt (2 ^ 40) 1000000 (with_link old link) (with_link now used) old.time now.time end
+  pub attempt : Attempt INPUT_LIMIT MOST_QUIETS (with_link old link) (with_link now used) old.time now.time end
   pub back : now.pool ≡ taken_back used lending
   pub dial : Counts old.dial now.dial
 

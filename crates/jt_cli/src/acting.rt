@@ -15,11 +15,9 @@ use jt_input::Status;
 use jt_outside::{Clock, Dial, Sink, Source, write_all};
 use jt_store::{Keeper, Vault};
 use jt_value::Seq;
+use jt_value::limits::INPUT_LIMIT;
 use jt_view::report;
 use std::alloc::Global;
-
-// How many octets of one input are viewed or checked at most.
-const MOST: u64 = 1 << 40;
 
 // Writes the usage line.
 #[tactic(auto, unfolding(crate::specs::Usage::usage))]
@@ -53,7 +51,7 @@ fn act<S: Source, K: Sink>(alloc: Global, source: &mut S, sink: &mut K, task: Ta
     ensures not_usage { result ≢ Status.Usage }
 {
     match task {
-        Task::Tell(command) => report(alloc, source, sink, command, MOST),
+        Task::Tell(command) => report(alloc, source, sink, command, INPUT_LIMIT),
         Task::Rehearse => play(alloc, source, sink),
     }
 }

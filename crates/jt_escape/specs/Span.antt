@@ -1,6 +1,7 @@
 -- What stands in a stream of octets: it is cut into spans, each span has one event or none, and a stream that ends
 -- inside a frame is refused at its end. The cut is this project's own, over the standard's frames. To be believed.
 use Rattle.std.specs.Prelude.{◌≡◌, ◌≢◌, ℕ, ◌+◌, ◌≤◌, ◌<◌, List, [], ◌∷◌, ◌++◌, length, ◌⊎◌, Option, Some, None}
+use Rattle.jt_value.specs.declared.limits.TheConstants.{CONTENT_LIMIT}
 use Rattle.jt_value.specs.Octets.{AreOctets}
 use Rattle.jt_value.specs.declared.refusal.Why.{Why}
 use Rattle.jt_value.specs.declared.refusal.Why.TheVariants as why
@@ -72,7 +73,7 @@ IsAtFlagOrEnd (octet ∷ more) = octet ≡ 0x7E
 
 -- a content that a frame may have
 abbrev pub IsContent : List ℕ → Type 0
-IsContent content = (0 < length content) × (length content ≤ 1045)
+IsContent content = (0 < length content) × (length content ≤ CONTENT_LIMIT)
 
 -- the span may stand in a stream before this rest, and only the last span may be unfinished
 abbrev pub IsSpan : Span → List ℕ → Type 0
@@ -82,8 +83,8 @@ IsSpan Empty rest = BeginsWithFlag rest
 IsSpan (BadEscape content octet skipped) rest =
     (length content ≤ 1044) × (octet ≢ 0x01) × (octet ≢ 0x02)
     × (((octet ≡ 0x7E) × (skipped ≡ [])) ⊎ ((octet ≢ 0x7E) × IsUpToFlag skipped rest))
-IsSpan (TooLong content octet skipped) rest = (length content ≡ 1045) × (octet ≢ 0x7E) × IsUpToFlag skipped rest
-IsSpan (Unfinished content) rest = (length content ≤ 1045) × (rest ≡ [])
+IsSpan (TooLong content octet skipped) rest = (length content ≡ CONTENT_LIMIT) × (octet ≢ 0x7E) × IsUpToFlag skipped rest
+IsSpan (Unfinished content) rest = (length content ≤ CONTENT_LIMIT) × (rest ≡ [])
 IsSpan (Escaping content) rest = (length content ≤ 1044) × (rest ≡ [])
 
 -- the stream of these spans, one after another

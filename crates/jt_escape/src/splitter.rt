@@ -66,6 +66,7 @@ impl Model for Splitter {
     ghost use Rattle.std.specs.Prelude.{◌≡◌, ◌<◌, length};
     ghost use Rattle.jt_escape.specs.declared.splitter.Mode.TheVariants.{Escaping};
     ghost use Rattle.jt_escape.specs.Scan.{State};
+    ghost use Rattle.jt_value.specs.declared.limits.TheConstants.{CONTENT_LIMIT};
 
     ghost Value = { State };
 
@@ -76,7 +77,7 @@ impl Model for Splitter {
       opened = splitter.opened;
     } };
 
-    ghost invariant = { λ splitter. splitter.mode ≡ Escaping → length splitter.content.items < 1045 };
+    ghost invariant = { λ splitter. splitter.mode ≡ Escaping → length splitter.content.items < CONTENT_LIMIT };
 }
 
 fn refused(why: Why, at: u64) -> Split
@@ -133,7 +134,7 @@ fn front(octet: u8, code: u8) -> Option<(usize, u8)>
 #[inline(always)]
 fn plain_front(piece: &[u8]) -> usize
     requires { 0 < length piece.now }
-    ensures short { result ≤ 1045 }
+    ensures short { result ≤ CONTENT_LIMIT }
     ensures within { result + 1 ≤ length piece.now }
     ensures plain { IsPlain (slice_range piece.now 1 (result + 1)) }
 {
@@ -177,7 +178,7 @@ impl Splitter {
 
     fn pass(&mut self, mode: Mode)
         requires place { self.old.place < 2 ^ 63 }
-        requires room { mode ≡ Escaping → length self.old.content < 1045 }
+        requires room { mode ≡ Escaping → length self.old.content < CONTENT_LIMIT }
         ensures { self.new ≡ passing self.old mode }
     {
         self.mode = mode;
@@ -186,7 +187,7 @@ impl Splitter {
 
     fn keep(&mut self, octet: u8)
         requires place { self.old.place < 2 ^ 63 }
-        requires room { length self.old.content < 1045 }
+        requires room { length self.old.content < CONTENT_LIMIT }
         ensures { self.new ≡ keeping self.old octet }
     {
         self.mode = Mode::Inside;
@@ -300,7 +301,7 @@ impl Splitter {
     #[inline(always)]
     fn keep_all(&mut self, octets: &[u8])
         requires place { self.old.place + length octets.now < 2 ^ 63 }
-        requires room { length self.old.content + length octets.now ≤ 1045 }
+        requires room { length self.old.content + length octets.now ≤ CONTENT_LIMIT }
         ensures { self.new ≡ keeping_all self.old octets.now }
     {
         self.content.try_extend_from_slice(octets).unwrap();
@@ -335,7 +336,7 @@ impl Splitter {
     #[inline(always)]
     fn gather(&mut self, octet: u8)
         requires mode { self.old.mode ≡ Inside }
-        requires room { length self.old.content < 1045 }
+        requires room { length self.old.content < CONTENT_LIMIT }
         ensures { self.new ≡ gathering self.old octet }
     {
         self.content.push(octet);
@@ -346,7 +347,7 @@ impl Splitter {
     #[inline(always)]
     fn gather_escape(&mut self, octets: &[u8]) -> usize
         requires mode { self.old.mode ≡ Inside }
-        requires room { length self.old.content < 1045 }
+        requires room { length self.old.content < CONTENT_LIMIT }
         requires some { 0 < length octets.now }
         requires escape { slice_index octets.now 0 ≡ 0x7D }
         ensures within { result ≤ length octets.now }
@@ -372,7 +373,7 @@ impl Splitter {
     #[inline(always)]
     fn gather_near(&mut self, octets: &[u8]) -> usize
         requires mode { self.old.mode ≡ Inside }
-        requires room { length self.old.content + length octets.now ≤ 1045 }
+        requires room { length self.old.content + length octets.now ≤ CONTENT_LIMIT }
         ensures within { result ≤ length octets.now }
         ensures mode { self.new.mode ≡ Inside }
         ensures place { self.new.place ≡ self.old.place }
@@ -662,7 +663,7 @@ impl Splitter {
     fn take_begun(&mut self, piece: &[u8], count: usize) -> (usize, Split)
         requires place { self.old.place + length piece.now < 2 ^ 63 }
         requires mode { (self.old.mode ≡ Outside) ⊎ (self.old.mode ≡ Straying) }
-        requires short { count ≤ 1045 }
+        requires short { count ≤ CONTENT_LIMIT }
         requires within { count + 1 ≤ length piece.now }
         requires flag { slice_index piece.now 0 ≡ 0x7E }
         requires plain { IsPlain (slice_range piece.now 1 (count + 1)) }
@@ -751,7 +752,7 @@ impl Splitter {
     /// The last whole content that `push` or `take` completed, until the next call that takes octets.
     pub fn content(&self) -> &[u8]
         ensures octets { result.now ≡ self.now.content }
-        ensures length { length result.now ≤ 1045 }
+        ensures length { length result.now ≤ CONTENT_LIMIT }
     {
         self.content.as_slice()
     }

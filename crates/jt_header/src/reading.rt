@@ -1,6 +1,7 @@
 //! Reading the header of a content, or the first reason against it.
 
 ghost use Rattle.std.specs.Prelude.{◌≡◌, ◌+◌, ◌<◌, ◌≤◌, ◌^◌, ℕ, List, [], ◌∷◌, length, IfOk, IfErr, MatchResult, IsOkAnd, None, Some};
+ghost use Rattle.jt_value.specs.declared.limits.TheConstants.{CONTENT_LIMIT};
 ghost use Rattle.jt_value.specs.Phone.{digits_of, field_len};
 ghost use Rattle.jt_header.specs.Content.{Content};
 ghost use Rattle.jt_header.specs.Fields.{attributes_at, edition_in, header_len_in, packet_at, packet_place, phone_place, serial_place, version_at, word_at};
@@ -85,7 +86,7 @@ fn word(content: &[u8], place: usize) -> u16
 #[inline(always)]
 #[tactic(auto, unfolding(crate::specs::Reason::too_short))]
 fn attributes(content: &[u8]) -> Result<Attributes, Refusal>
-    requires { length content.now ≤ 1045 }
+    requires { length content.now ≤ CONTENT_LIMIT }
     ensures row { Rejects result (too_short content.now) }
     ensures value { IfOk result (λ attributes. attributes.0 ≡ attributes_at content.now) }
     ensures room { IfOk result (λ _. header_len_in (attributes_at content.now) < length content.now) }
@@ -105,7 +106,7 @@ fn attributes(content: &[u8]) -> Result<Attributes, Refusal>
 #[tactic(auto, unfolding(crate::specs::Reason::check_mismatch))]
 fn check_octet(content: &[u8]) -> Result<(), Refusal>
     requires some { 0 < length content.now }
-    requires short { length content.now ≤ 1045 }
+    requires short { length content.now ≤ CONTENT_LIMIT }
     ensures { Rejects result (check_mismatch content.now) }
 {
     let last = content.len() - 1;
@@ -174,7 +175,7 @@ fn packet(
 #[inline(always)]
 #[tactic(auto, unfolding(crate::specs::Reason::reason, crate::specs::Fields::header_in))]
 fn read(content: &[u8]) -> Result<(Header, &[u8]), Refusal>
-    requires { length content.now ≤ 1045 }
+    requires { length content.now ≤ CONTENT_LIMIT }
     ensures { MatchResult result (λ x. Reads content.now x.0 x.1.now)
         (λ refusal. reason content.now ≡ Some refusal) }
 {
@@ -205,7 +206,7 @@ fn read(content: &[u8]) -> Result<(Header, &[u8]), Refusal>
 /// 0.
 #[inline(always)]
 pub fn read_header(content: &[u8]) -> Result<(Header, &[u8]), Refusal>
-    requires { length content.now ≤ 1045 }
+    requires { length content.now ≤ CONTENT_LIMIT }
     // What is read is what the octets are.
     ensures content { IfOk result (λ x. Content x.0 x.1.now content.now) }
     // Each content is read, as what it is.

@@ -1,5 +1,6 @@
 -- What a cutter of lines holds, and what its calls tell. To be believed.
 use Rattle.std.specs.Prelude.{◌≡◌, ℕ, ◌<◌, ◌+◌, ◌-◌, ◌*◌, Bool, true, false, IsTrue, List, [], ◌∷◌, ◌++◌, length}
+use Rattle.jt_input.specs.declared.line_cutter.TheConstants.{LINES_LIMIT, LINE_LIMIT}
 use Rattle.jt_input.specs.Text.{Cuts, lines_of, is_within}
 use Rattle.jt_input.specs.declared.line_cutter.Cut.{Cut}
 use Rattle.jt_input.specs.declared.line_cutter.Cut.TheVariants as cut
@@ -44,4 +45,4 @@ IsBeyond held octets = (text rest : List ℕ) (lines : List (List ℕ)) → Cuts
 
 -- at most so many octets may come before a line is beyond the limits
 abbrev pub room_of : Held → ℕ
-room_of held = (10000000 - held.number) * 4097 + (4096 - length (begun_of held))
+room_of held = (LINES_LIMIT - held.number) * (LINE_LIMIT + 1) + (LINE_LIMIT - length (begun_of held))

@@ -1,6 +1,7 @@
 -- The lines of a text input, and their limits: this project's own rules. To be believed.
 use Rattle.std.specs.Prelude.{◌≡◌, ◌≢◌, ℕ, ◌==◌, nat_le, if◌then◌else◌, Bool, ◌&&◌, List, [], ◌∷◌, ◌++◌, length}
 use Rattle.std.specs.List.{flat_map}
+use Rattle.jt_input.specs.declared.line_cutter.TheConstants.{LINES_LIMIT, LINE_LIMIT}
 
 -- this octet is not among those
 abbrev pub Lacks : ℕ → List ℕ → Type 0
@@ -38,4 +39,4 @@ lines_of (octet ∷ more) = if octet == 0x0A then [] ∷ lines_of more else into
 
 -- A line of this number, from 1, is within the limits: it is one of the first 10,000,000, and has at most 4,096 octets.
 abbrev pub is_within : ℕ → List ℕ → Bool
-is_within number line = nat_le number 10000000 && nat_le (length line) 4096
+is_within number line = nat_le number LINES_LIMIT && nat_le (length line) LINE_LIMIT

@@ -47,13 +47,14 @@ pub struct LineCutter {
 impl Model for LineCutter {
     ghost use Rattle.std.specs.Prelude.{◌≡◌, ◌≤◌, ◌<◌, false, length};
     ghost use Rattle.jt_input.specs.Cutter.{Held};
+    ghost use Rattle.jt_input.specs.declared.line_cutter.TheConstants.{LINES_LIMIT};
 
     ghost Value = { Held };
 
     ghost view = { λ cutter. record { line = cutter.line.items; whole = cutter.is_whole; number = cutter.number } };
 
     ghost invariant = { λ cutter.
-        (cutter.number ≤ 10000000) × (cutter.is_whole ≡ false → 0 < length cutter.line.items → cutter.number < 10000000) };
+        (cutter.number ≤ LINES_LIMIT) × (cutter.is_whole ≡ false → 0 < length cutter.line.items → cutter.number < LINES_LIMIT) };
 }
 
 impl LineCutter {
@@ -84,11 +85,11 @@ impl LineCutter {
 
     // Keeps further octets of the line. False where they are too many, and then nothing is kept.
     fn keep(&mut self, part: &[u8]) -> bool
-        requires number { self.old.number < 10000000 }
+        requires number { self.old.number < LINES_LIMIT }
         requires whole { self.old.whole ≡ false }
         ensures kept { result ≡ true → self.new ≡ record self.old { line = self.old.line ++ part.now } }
-        ensures within { result ≡ true → length self.new.line ≤ 4096 }
-        ensures too_many { result ≡ false → 4096 < length self.old.line + length part.now }
+        ensures within { result ≡ true → length self.new.line ≤ LINE_LIMIT }
+        ensures too_many { result ≡ false → LINE_LIMIT < length self.old.line + length part.now }
         ensures same { result ≡ false → self.new ≡ self.old }
     {
         self.line.try_extend_from_slice(part).is_ok()
@@ -143,7 +144,7 @@ impl LineCutter {
     /// How many lines were told. So it is the number of the last of them.
     pub fn number(&self) -> u64
         ensures number { result ≡ self.now.number }
-        ensures within { result ≤ 10000000 }
+        ensures within { result ≤ LINES_LIMIT }
     {
         self.number
     }

@@ -10,13 +10,11 @@ ghost use Rattle.jt_params.specs.Tables.{HasOctets, HaveOctets, IsOneTable, Sets
 ghost use Rattle.jt_params.specs.Refused.{IsTooMany};
 
 use crate::param::{Param, ParamValue};
+use jt_value::limits::OCTET_COUNT_LIMIT;
 use jt_value::{Memory, Seq};
 use std::alloc::{AllocError, AllocFailed, Global};
 use std::collections::BTreeMap;
 use std::marker::Model;
-
-/// The most parameters that a table has (this project's own limit: a count octet counts them).
-const MOST: usize = 255;
 
 /// Parameters, each under its id, at most 255.
 #[derive(Drop)]
@@ -32,6 +30,7 @@ impl Model for ParamTable {
     ghost use Rattle.std.specs.Coded.{coded_ℕ};
     ghost use Rattle.std.specs.FinMap.{code};
     ghost use Rattle.jt_params.specs.contracts.param.ParamValue as value;
+    ghost use Rattle.jt_value.specs.declared.limits.TheConstants.{OCTET_COUNT_LIMIT};
 
     ghost Value = { Table };
 
@@ -39,7 +38,7 @@ impl Model for ParamTable {
 
     ghost view = { λ table. from_entries table.values.entries };
 
-    ghost invariant = { λ table. btree_map_len table.values ≤ 255 };
+    ghost invariant = { λ table. btree_map_len table.values ≤ OCTET_COUNT_LIMIT };
 }
 
 /// Why a table did not take parameters.
@@ -126,7 +125,7 @@ impl ParamTable {
     pub fn set_all(&mut self, params: &Seq<Param>) -> Result<(), ParamError>
         requires { length params.now < 2 ^ 16 }
         ensures ok { OnOk result (Sets params.now self.old self.new) }
-        ensures few { OnOk result (map.len self.new ≤ 255) }
+        ensures few { OnOk result (map.len self.new ≤ OCTET_COUNT_LIMIT) }
         ensures too_many { IfErr result (IsTooMany params.now self.old) }
         ensures err { OnErr result (self.new ≡ self.old) }
         ensures octets { HaveOctets params.now → HasOctets self.old → HasOctets self.new }
@@ -134,7 +133,7 @@ impl ParamTable {
         let mut values = self.values.clone()?;
         set_in(&mut values, params.as_slice())?;
         let count = values.len();
-        if count > MOST {
+        if count > OCTET_COUNT_LIMIT {
             return Err(ParamError::TooMany(count as u32));
         }
         self.values = values;
@@ -144,7 +143,7 @@ impl ParamTable {
     /// All parameters in order of their ids.
     pub fn list(&self, alloc: Global) -> Result<Seq<Param>, Memory>
         ensures params { IfOk result (λ params. params ≡ listed self.now) }
-        ensures few { IfOk result (λ params. length params ≤ 255) }
+        ensures few { IfOk result (λ params. length params ≤ OCTET_COUNT_LIMIT) }
         ensures octets { HasOctets self.now → IfOk result HaveOctets }
     {
         listed_in(alloc, &self.values)

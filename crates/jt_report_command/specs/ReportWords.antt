@@ -1,6 +1,7 @@
 -- The words of `report`: this project's own. To be believed.
 use Rattle.std.specs.Prelude.{◌≡◌, ◌≤◌, ℕ, List, [], ◌∷◌, codes, Option, Some, IsTrue, option_to_list}
 use Rattle.std.specs.Fmt.{decimal}
+use Rattle.jt_value.specs.declared.limits.TheConstants.{PORT_LIMIT}
 use Rattle.jt_value.specs.declared.phone.Phone.{Phone}
 use Rattle.jt_report_command.specs.Options.{AreOptions, values_of}
 use Rattle.jt_report_command.specs.Values.{is_host, edition_in, octets_in, phone_in, plate_most, terminal_most}
@@ -39,7 +40,7 @@ pub record Told : Type 0 where
 -- What the values tell. Numbers are written in decimal digits, without a sign and without a leading zero.
 pub record Tells (written : Written) (told : Told) : Type 0 where
   pub host : (written.host ≡ told.host) × IsTrue (is_host told.host)
-  pub port : (written.port ≡ decimal told.port) × (1 ≤ told.port) × (told.port ≤ 65535)
+  pub port : (written.port ≡ decimal told.port) × (1 ≤ told.port) × (told.port ≤ PORT_LIMIT)
   pub edition : edition_in written.edition ≡ Some told.phone.edition
   pub phone : phone_in told.phone.edition written.phone ≡ Some told.phone
   pub plate : octets_in plate_most written.plate ≡ Some told.plate

@@ -11,6 +11,9 @@ use jt_input::number;
 use jt_value::{Edition, Memory, Octets, Phone, Seq};
 use std::alloc::Global;
 
+/// The octets of a host's name at most (this project's own).
+const HOST_LIMIT: usize = 255;
+
 // A number from 1 to the greatest.
 pub(crate) fn number_up_to(text: &[u8], most: u32) -> Option<u32>
     ensures { Reads decimal (λ number. (1 ≤ number) × (number ≤ most)) text.now result }
@@ -38,7 +41,7 @@ fn is_host(text: &[u8]) -> bool
 {
     match text.first() {
         None => false,
-        Some(first) => text.len() <= 255 && *first != b'-' && are_host_octets(text),
+        Some(first) => text.len() <= HOST_LIMIT && *first != b'-' && are_host_octets(text),
     }
 }
 

@@ -8,6 +8,7 @@ ghost use Rattle.jt_report_command.specs.declared.report_words.Plain.{Plain as P
 
 use crate::options::{EDITION, HOST, PHONE, PLATE, PORT, TERMINAL, TRIES, one_value_of, value_of};
 use crate::readers::{edition, host, number_up_to, octets, phone};
+use jt_value::limits::{PLATE_LIMIT, PORT_LIMIT};
 use jt_value::{Edition, Memory, Octets, Phone};
 use std::alloc::Global;
 
@@ -28,12 +29,7 @@ pub struct ReportWords {
     pub tries: u32,
 }
 
-const PORT_MOST: u32 = 65_535;
-
 const TRIES_MOST: u32 = 100;
-
-// The most octets of a plate.
-const PLATE_MOST: usize = 255;
 
 // The values of the options, as they are written.
 #[derive(Clone, Copy)]
@@ -100,7 +96,7 @@ fn plain_values(written: &Written) -> Option<Plain>
     ensures some { IfSome result (λ plain. TellsPlain (written_of written.now) plain) }
     ensures each { (plain : PlainValues) → TellsPlain (written_of written.now) plain → result ≡ Some plain }
 {
-    let port = number_up_to(written.port, PORT_MOST)?;
+    let port = number_up_to(written.port, PORT_LIMIT)?;
     let tries = number_up_to(written.tries, TRIES_MOST)?;
     let phone = phone(edition(written.edition)?, written.phone)?;
     Some(Plain {
@@ -122,7 +118,7 @@ fn tell(alloc: Global, written: &Written) -> Result<Option<ReportWords>, Memory>
     let Some(host) = host(alloc, written.host)? else {
         return Ok(None);
     };
-    let Some(plate) = octets(alloc, written.plate, PLATE_MOST)? else {
+    let Some(plate) = octets(alloc, written.plate, PLATE_LIMIT)? else {
         return Ok(None);
     };
     let Some(terminal) = octets(alloc, written.terminal, terminal_most(phone.edition))? else {

@@ -1,6 +1,7 @@
 //! What the terminal of `report` is told before it starts.
 
 ghost use Rattle.std.specs.Prelude.{◌≡◌, ◌≤◌, length, IfOk};
+ghost use Rattle.jt_value.specs.declared.limits.TheConstants.{PLATE_LIMIT};
 ghost use Rattle.jt_header.specs.Content.{IsPhone};
 ghost use Rattle.jt_register.specs.Registration.{maker_len, model_len, register, terminal_len};
 ghost use Rattle.jt_terminal_rule.specs.Messages.{AreSettings};
@@ -108,7 +109,7 @@ pub(crate) fn settings(
     terminal: Octets,
 ) -> Result<Settings, Memory>
     requires phone { IsPhone phone }
-    requires plate { length plate ≤ 255 }
+    requires plate { length plate ≤ PLATE_LIMIT }
     requires terminal { length terminal ≤ terminal_len phone.edition }
     ensures are { IfOk result (λ settings. settings ≡ settings_of phone plate terminal) }
     ensures good { IfOk result AreSettings }

@@ -3,6 +3,7 @@ use Rattle.std.specs.Prelude.{◌≡◌, ◌≢◌, ◌≤◌, ◌<◌, ◌+◌,
 use Rattle.std.specs.Prelude.{option_map}
 use lib.ListN.{get_elem?}
 use mathlib.Core.Option.{some}
+use Rattle.jt_value.specs.declared.limits.TheConstants.{INPUT_LIMIT}
 use Rattle.jt_value.specs.Sameness.{key_of}
 use Rattle.jt_value.specs.declared.phone.Phone.{Phone}
 use Rattle.jt_value.specs.Counts.{Rose}
@@ -44,7 +45,7 @@ pub record IsFullAfter (o : Opening) (h : List Entry) (q : Option Request) (l : 
 pub record IsServed (O : Type 0) (o : Opening) (h : List Entry) (number : ℕ) (came back : Wire) (report : Report) : Type 0 where
   pub pass : PassState Request Reply O
   pub pass_now : PassState Request Reply O
-  pub serves : Serves (Some o) (2 ^ 40) pass pass_now came back report
+  pub serves : Serves (Some o) INPUT_LIMIT pass pass_now came back report
   pub own : pass.number ≡ number
   pub entries : entries_of number (map as_ask h) ≡ pass_now.mine
   pub full : (l : ℕ) → report.end ≡ ends.ListFull l → IsFullAfter o h (last_asked (at_state start) serves.talk.turns) l

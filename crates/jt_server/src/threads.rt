@@ -18,6 +18,7 @@ ghost use Rattle.jt_server.specs.Served.{AreServed, EndsAs, store_faults};
 ghost use Rattle.jt_server.specs.Jobs.{AreUpTo, HasFailed, IsGiven, IsJoined, IsRoot, IsWorked, ServesLinks, AreRooms, lent_to};
 ghost use lib.ListN.{get_elem?};
 ghost use mathlib.Core.Option.{some};
+ghost use Rattle.jt_value.specs.declared.limits.TheConstants.{INPUT_LIMIT};
 
 use crate::held::{Door, Held};
 use crate::served::{ServeEnd, Served};
@@ -405,7 +406,7 @@ fn start<
     requires turn { pass.turn ≡ turn.now }
     requires number { (1 ≤ pass.number) × IsSomeAnd pass.opening (λ o. pass.number ≤ o.reserved) }
     requires new { pass.mine ≡ [] }
-    ensures { MatchResult result (λ h. (h.promise.pass.value ≡ pass) × (h.promise.link.value ≡ link)) (λ w. Serves (option_map (λ o. opening_of (P.tables o.start) (P.limit o.start) o.fleet o.secret) pass.opening) (2 ^ 40) pass w.pass (wire_of K.inbound K.written K.faults link) (wire_of K.inbound K.written K.faults w.link) w.report × IsSamePass pass w.pass) }
+    ensures { MatchResult result (λ h. (h.promise.pass.value ≡ pass) × (h.promise.link.value ≡ link)) (λ w. Serves (option_map (λ o. opening_of (P.tables o.start) (P.limit o.start) o.fleet o.secret) pass.opening) INPUT_LIMIT pass w.pass (wire_of K.inbound K.written K.faults link) (wire_of K.inbound K.written K.faults w.link) w.report × IsSamePass pass w.pass) }
 {
     let given = Given {
         link: Snapshot::of(&link),

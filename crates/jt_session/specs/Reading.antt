@@ -1,6 +1,7 @@
 -- What a frame led to, and the octets up to an item. For the proofs.
 use Rattle.std.specs.Prelude.{◌≡◌, ◌≤◌, ◌<◌, ◌⊎◌, ℕ, ◌+◌, List, [], ◌∷◌, ◌++◌, Option, None, Some}
 use Rattle.std.specs.Option.{option_map}
+use Rattle.jt_value.specs.declared.limits.TheConstants.{FRAME_LIMIT}
 use Rattle.jt_escape.specs.Scan.{State as Splitting}
 use Rattle.jt_header.specs.Content.{IsHeader}
 use Rattle.jt_header.specs.Fields.{header_at, body_at}
@@ -28,7 +29,7 @@ pub record HasMessage (now read : State) (out out_now : List ℕ) (spare : ℕ) 
   pub good : IsHeader header
   pub state : now ≡ read
   pub wrote : out_now ≡ out
-  pub room : 2092 ≤ spare
+  pub room : FRAME_LIMIT ≤ spare
 
 -- memory was wanted before anything was asked or written
 pub record WantsMemory (now stop : State) (out out_now : List ℕ) : Type 0 where

@@ -1,6 +1,7 @@
 -- What contracts see of a session, and what its calls did (this project's own). To be believed.
 use Rattle.std.specs.Prelude.{◌≡◌, ◌≢◌, ◌≤◌, ℕ, List, [], ◌∷◌, ◌++◌, map, Bool, true, false, if◌then◌else◌, Option, None, Some, IsSomeAnd}
 use Rattle.std.specs.Option.{option_to_list}
+use Rattle.jt_value.specs.declared.limits.TheConstants.{FRAME_LIMIT}
 use Rattle.jt_value.specs.Octets.{AreOctets}
 use Rattle.jt_escape.specs.Scan.{State as Splitting}
 use Rattle.jt_escape.specs.Splitter.{StandsFor}
@@ -77,7 +78,7 @@ LedTo now Memory = (now.waiting ≡ None) × (now.over ≡ true)
 
 -- where a request waits there is room for any answer
 abbrev pub HasRoom : ℕ → Step → Type 0
-HasRoom spare (Ask q) = 2092 ≤ spare
+HasRoom spare (Ask q) = FRAME_LIMIT ≤ spare
 HasRoom spare step = Unit {0}
 
 -- ---- the answer to a request

@@ -1,6 +1,7 @@
 //! A session over a hub.
 
 ghost use Rattle.std.specs.Prelude.{◌≡◌, ◌≤◌, ◌<◌, ◌+◌, ◌^◌, ◌↔◌, ℕ, [], ◌∷◌, ◌++◌, false, None, Some, IsSomeAnd, length, take};
+ghost use Rattle.jt_value.specs.declared.limits.TheConstants.{FRAME_LIMIT};
 ghost use Rattle.jt_platform.specs.History.{newest, closed};
 ghost use Rattle.jt_platform.specs.Hub.{HasReason, IsOwed, opening_of};
 ghost use Rattle.jt_platform.specs.declared.request.Request.TheVariants as request;
@@ -21,7 +22,7 @@ impl Session {
     fn ask<P: Keeper>(&mut self, hub: &mut Hub<P>, request: Request, out: &mut Buffer<u8>) -> Fed
         requires waits { IsSomeAnd self.old.waiting (λ item. asks self.old.state item ≡ Some request) }
         requires on { self.old.over ≡ false }
-        requires room { 2092 ≤ out.old.spare }
+        requires room { FRAME_LIMIT ≤ out.old.spare }
         ensures feeds { Feeds self.old self.new [] (opening_of (P.tables hub.old.start) (P.limit hub.old.start) hub.old.fleet hub.old.secret) (newest hub.old.history) (newest hub.new.history) out.old.items out.new.items result }
         ensures on { (result ≡ Fed.On) ↔ (self.new.over ≡ false) }
         ensures waiting { self.new.waiting ≡ None }

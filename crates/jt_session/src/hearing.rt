@@ -1,6 +1,7 @@
 //! A session over a turn, by a pass of it.
 
 ghost use Rattle.std.specs.Prelude.{◌≡◌, ◌≤◌, ◌<◌, ◌+◌, ◌*◌, ◌^◌, ◌↔◌, [], false, None, Some, IsSome, IsSomeAnd, length, option_map, take};
+ghost use Rattle.jt_value.specs.declared.limits.TheConstants.{ANSWER_LIMIT, FRAME_LIMIT};
 ghost use Rattle.jt_platform.specs.Hub.{opening_of};
 ghost use Rattle.jt_session.specs.Talk.{asks};
 ghost use Rattle.jt_session.specs.Hearing.{Hears, IsSamePass};
@@ -29,13 +30,13 @@ fn ask<R: Wait, P: Keeper>(
     requires opening { IsSome pass.old.opening }
     requires waits { IsSomeAnd session.old.waiting (λ item. asks session.old.state item ≡ Some request) }
     requires on { session.old.over ≡ false }
-    requires room { 2092 ≤ out.old.spare }
+    requires room { FRAME_LIMIT ≤ out.old.spare }
     ensures hears { Hears (option_map (λ o. opening_of (P.tables o.start) (P.limit o.start) o.fleet o.secret) pass.old.opening) session.old session.new [] pass.old pass.new out.old.items out.new.items result }
     ensures same { IsSamePass pass.old pass.new }
     ensures on { (result ≡ Fed.On) ↔ (session.new.over ≡ false) }
     ensures waiting { session.new.waiting ≡ None }
     ensures place { session.new.stream.place ≡ session.old.stream.place }
-    ensures short { length out.new.items ≤ length out.old.items + 2092 }
+    ensures short { length out.new.items ≤ length out.old.items + FRAME_LIMIT }
 {
     let reply = turn.act(rt, pass, &request);
     session.reply(&reply, out)
@@ -63,7 +64,7 @@ fn hear_some<R: Wait, P: Keeper>(
     ensures on { (result.1 ≡ Fed.On) ↔ (session.new.over ≡ false) }
     ensures waiting { session.new.waiting ≡ None }
     ensures place { session.new.stream.place ≡ session.old.stream.place + result.0 }
-    ensures short { length out.new.items ≤ length out.old.items + 2092 * result.0 + 2092 }
+    ensures short { length out.new.items ≤ length out.old.items + FRAME_LIMIT * result.0 + FRAME_LIMIT }
 {
     let (count, step) = session.take(octets, out);
     match step {
@@ -94,7 +95,7 @@ pub(crate) fn hear<R: Wait, P: Keeper>(
     ensures on { (result ≡ Fed.On) ↔ (session.new.over ≡ false) }
     ensures waiting { session.new.waiting ≡ None }
     ensures place { session.new.stream.place ≤ session.old.stream.place + length octets.now }
-    ensures short { length out.new.items ≤ length out.old.items + 4184 * length octets.now }
+    ensures short { length out.new.items ≤ length out.old.items + ANSWER_LIMIT * length octets.now }
 {
     law_front();
     let mut taken = 0;

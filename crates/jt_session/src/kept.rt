@@ -1,6 +1,7 @@
 //! What a session keeps between items, and what it writes.
 
 ghost use Rattle.std.specs.Prelude.{◌≡◌, ◌≤◌, ◌<◌, ◌+◌, ◌-◌, ◌%◌, ◌^◌, [], ◌++◌, length, Some, None, ℕ, ◌⊎◌};
+ghost use Rattle.jt_value.specs.declared.limits.TheConstants.{FRAME_LIMIT};
 ghost use Rattle.jt_value.specs.declared.phone.Edition.{Edition};
 ghost use Rattle.jt_escape.specs.Frame.{framed};
 ghost use Rattle.jt_header.specs.Content.{IsHeader, content_of};
@@ -120,10 +121,10 @@ impl Kept {
     pub(crate) fn say(&mut self, header: &Header, id: u16, body: &[u8], out: &mut Buffer<u8>)
         requires header { IsHeader header.now }
         requires short { length body.now < 2 ^ 10 }
-        requires room { 2092 ≤ out.old.spare }
+        requires room { FRAME_LIMIT ≤ out.old.spare }
         ensures state { self.new ≡ record self.old { serial = (self.old.serial + 1) % 65536 } }
         ensures out { out.new.items ≡ out.old.items ++ framed (content_of (header_to self.old header.now id) body.now) }
-        ensures bound { length out.new.items ≤ length out.old.items + 2092 }
+        ensures bound { length out.new.items ≤ length out.old.items + FRAME_LIMIT }
     {
         let answer = Header {
             edition: header.edition,
@@ -141,10 +142,10 @@ impl Kept {
     // Writes the general response with this result.
     pub(crate) fn acknowledge(&mut self, header: &Header, outcome: u8, out: &mut Buffer<u8>)
         requires header { IsHeader header.now }
-        requires room { 2092 ≤ out.old.spare }
+        requires room { FRAME_LIMIT ≤ out.old.spare }
         ensures state { self.new ≡ (saying self.old header.now (Some (ack header.now outcome))).state }
         ensures out { out.new.items ≡ out.old.items ++ frame_said (saying self.old header.now (Some (ack header.now outcome))).says }
-        ensures bound { length out.new.items ≤ length out.old.items + 2092 }
+        ensures bound { length out.new.items ≤ length out.old.items + FRAME_LIMIT }
     {
         let body = ack_body(header, outcome);
         self.say(header, PLATFORM_ACK, body.as_slice(), out);
@@ -159,12 +160,12 @@ impl Kept {
         out: &mut Buffer<u8>,
     )
         requires header { IsHeader header.now }
-        requires room { 2092 ≤ out.old.spare }
+        requires room { FRAME_LIMIT ≤ out.old.spare }
         requires code { length code.now ≤ 1020 }
         requires outcome { (outcome ≡ 0) ⊎ (code.now ≡ []) }
         ensures state { self.new ≡ (saying self.old header.now (Some (register_reply header.now outcome code.now))).state }
         ensures out { out.new.items ≡ out.old.items ++ frame_said (saying self.old header.now (Some (register_reply header.now outcome code.now))).says }
-        ensures bound { length out.new.items ≤ length out.old.items + 2092 }
+        ensures bound { length out.new.items ≤ length out.old.items + FRAME_LIMIT }
     {
         let body = register_body(header, outcome, code);
         self.say(header, REGISTER_REPLY, body.as_slice(), out);
@@ -173,11 +174,11 @@ impl Kept {
     /// Writes what answers the message at this reply, if anything does.
     pub(crate) fn answer(&mut self, header: &Header, reply: &Reply, out: &mut Buffer<u8>)
         requires header { IsHeader header.now }
-        requires room { 2092 ≤ out.old.spare }
+        requires room { FRAME_LIMIT ≤ out.old.spare }
         requires code { HasRoomFor reply.now }
         ensures state { self.new ≡ (saying self.old header.now (answer_to header.now reply.now)).state }
         ensures out { out.new.items ≡ out.old.items ++ frame_said (saying self.old header.now (answer_to header.now reply.now)).says }
-        ensures bound { length out.new.items ≤ length out.old.items + 2092 }
+        ensures bound { length out.new.items ≤ length out.old.items + FRAME_LIMIT }
     {
         match reply {
             Reply::Registered(code) => {

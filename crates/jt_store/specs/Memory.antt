@@ -3,6 +3,7 @@ use Rattle.std.specs.Prelude.{ℕ, ◌≡◌, ◌≤◌, ◌↔◌, List, Option
 use Rattle.std.specs.Map.{lookup}
 use Rattle.std.specs.Option.{unwrap_or}
 use Rattle.std.specs.Str.{bytes_eq}
+use Rattle.jt_value.specs.declared.limits.TheConstants.{FIX_LIMIT}
 use Rattle.jt_value.specs.declared.phone.Phone.{Phone}
 use Rattle.jt_value.specs.declared.phone.Edition.TheVariants.{E2019}
 use Rattle.jt_store.specs.declared.calls.Calls.{Calls}
@@ -56,7 +57,7 @@ pub record Stock : Type 0 where
 
 -- what stays true of it, with how many fixes are in units and how many are accepted
 pub record IsStock (h : Held) (in_units accepted limit : ℕ) : Type 0 where
-  pub limit_fits : limit ≤ 100000
+  pub limit_fits : limit ≤ FIX_LIMIT
   pub whole : IsWhole h
   pub in_units_is : in_units ≡ formed h
   pub accepted_is : accepted ≡ settled h

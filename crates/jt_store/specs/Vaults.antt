@@ -3,7 +3,7 @@ use Rattle.std.specs.Prelude.{ℕ, ◌≡◌, ◌+◌, ◌-◌, ◌≤◌, ◌�
 use denote.Bor.{Bor}
 use Rattle.jt_value.specs.Serials.{gap_of, serial_of}
 use Rattle.jt_value.specs.declared.ids.TheConstants.{POSITION, BATCH}
-use Rattle.jt_value.specs.declared.limits.TheConstants.{BODY_LIMIT, CODE_LIMIT, UNIT_WINDOW}
+use Rattle.jt_value.specs.declared.limits.TheConstants.{BODY_LIMIT, CODE_LIMIT, NO_MARK, UNIT_WINDOW}
 use Rattle.jt_position.specs.Fixes.{fixes_of}
 use Rattle.jt_store.specs.declared.unit.Unit.{Unit as OneUnit}
 use Rattle.jt_store.specs.declared.unit.Loaded.{Loaded}
@@ -75,7 +75,7 @@ fixes_in_units units = flat_map (λ (u : OneUnit). fixes_of (u.id, u.body)) unit
 -- is in order; and the units carry the first fixes recorded, as many as they count.
 pub record IsWhole (h : Held) : Type 0 where
   pub known : h.accepted ≤ length h.units
-  pub mark : h.mark ≡ last_serial 65535 (take h.accepted h.units)
+  pub mark : h.mark ≡ last_serial NO_MARK (take h.accepted h.units)
   pub order : AreInOrder h.mark h.next (pending h) h.code
   pub enough : formed h ≤ length h.recorded
   pub fixes : fixes_in_units h.units ≡ take (formed h) h.recorded

@@ -1,6 +1,7 @@
 //! What keeps a platform's registrations and rows.
 
 ghost use Rattle.std.specs.Prelude.{◌≡◌, ◌<◌, ◌≤◌, ◌^◌, ℕ, Bool, None, Some, Option, IfOk, IfSome, OnOk};
+ghost use Rattle.jt_value.specs.declared.limits.TheConstants.{ROW_LIMIT};
 ghost use Rattle.jt_value.specs.Sameness.{key_of};
 ghost use Rattle.jt_store.specs.Tables.{Tables, Told, IsTrimmed, MayRegister, MayAppend, AreRows, AreNamedOnce, last_of, Finds, FindsFrom, plates, terminals, IsOwner, row_added, registered_set, Reads, Writes, Appends, HasCause, IsSteady};
 
@@ -31,7 +32,7 @@ pub trait Keeper {
         ensures answer { Reads (tables self.old) (tables self.new) (λ t found. found ≡ t.registered (key_of phone.now)) result }
         ensures names { OnOk result (Told (tables self.old) (λ t. AreNamedOnce t.registered)) }
         ensures limit { limit self.new ≡ limit self.old }
-        ensures bound { limit self.old ≤ 1000000000 }
+        ensures bound { limit self.old ≤ ROW_LIMIT }
         ensures cause { HasCause (faults self.old) (faults self.new) result }
         ensures steady { IsSteady (may_fail self.old) (may_fail self.new) result };
 
@@ -40,7 +41,7 @@ pub trait Keeper {
         ensures answer { Reads (tables self.old) (tables self.new) (λ t found. IsOwner plates t.registered plate.now found) result }
         ensures names { OnOk result (Told (tables self.old) (λ t. AreNamedOnce t.registered)) }
         ensures limit { limit self.new ≡ limit self.old }
-        ensures bound { limit self.old ≤ 1000000000 }
+        ensures bound { limit self.old ≤ ROW_LIMIT }
         ensures cause { HasCause (faults self.old) (faults self.new) result }
         ensures steady { IsSteady (may_fail self.old) (may_fail self.new) result };
 
@@ -53,7 +54,7 @@ pub trait Keeper {
         ensures answer { Reads (tables self.old) (tables self.new) (λ t found. IsOwner terminals t.registered terminal.now found) result }
         ensures names { OnOk result (Told (tables self.old) (λ t. AreNamedOnce t.registered)) }
         ensures limit { limit self.new ≡ limit self.old }
-        ensures bound { limit self.old ≤ 1000000000 }
+        ensures bound { limit self.old ≤ ROW_LIMIT }
         ensures cause { HasCause (faults self.old) (faults self.new) result }
         ensures steady { IsSteady (may_fail self.old) (may_fail self.new) result };
 
@@ -69,7 +70,7 @@ pub trait Keeper {
         requires may { Told (tables self.old) (λ t. MayRegister t.registered (key_of phone.now) registered.now) }
         ensures answer { Writes (tables self.old) (registered_set (key_of phone.now) (Some registered.now) (tables self.old)) (tables self.new) result }
         ensures limit { limit self.new ≡ limit self.old }
-        ensures bound { limit self.old ≤ 1000000000 }
+        ensures bound { limit self.old ≤ ROW_LIMIT }
         ensures cause { HasCause (faults self.old) (faults self.new) result }
         ensures steady { IsSteady (may_fail self.old) (may_fail self.new) result };
 
@@ -77,7 +78,7 @@ pub trait Keeper {
     fn unregister(&mut self, alloc: Global, phone: &Phone) -> Result<(), StoreError>
         ensures answer { Writes (tables self.old) (registered_set (key_of phone.now) None (tables self.old)) (tables self.new) result }
         ensures limit { limit self.new ≡ limit self.old }
-        ensures bound { limit self.old ≤ 1000000000 }
+        ensures bound { limit self.old ≤ ROW_LIMIT }
         ensures cause { HasCause (faults self.old) (faults self.new) result }
         ensures steady { IsSteady (may_fail self.old) (may_fail self.new) result };
 
@@ -87,7 +88,7 @@ pub trait Keeper {
         ensures low { IfOk result (λ last. IfSome last (λ n. n < 2 ^ 47)) }
         ensures rows { Told (tables self.old) (λ t. AreRows (limit self.old) (t.rows (key_of phone.now))) }
         ensures limit { limit self.new ≡ limit self.old }
-        ensures bound { limit self.old ≤ 1000000000 }
+        ensures bound { limit self.old ≤ ROW_LIMIT }
         ensures cause { HasCause (faults self.old) (faults self.new) result }
         ensures steady { IsSteady (may_fail self.old) (may_fail self.new) result };
 
@@ -101,7 +102,7 @@ pub trait Keeper {
         ensures answer { Reads (tables self.old) (tables self.new) (λ t found. Finds (t.rows (key_of phone.now)) number found) result }
         ensures rows { Told (tables self.old) (λ t. AreRows (limit self.old) (t.rows (key_of phone.now))) }
         ensures limit { limit self.new ≡ limit self.old }
-        ensures bound { limit self.old ≤ 1000000000 }
+        ensures bound { limit self.old ≤ ROW_LIMIT }
         ensures cause { HasCause (faults self.old) (faults self.new) result }
         ensures steady { IsSteady (may_fail self.old) (may_fail self.new) result };
 
@@ -116,7 +117,7 @@ pub trait Keeper {
         ensures within { IfOk result (λ found. IfSome found (λ row. (number ≤ row.number) × (row.number < 2 ^ 47))) }
         ensures rows { Told (tables self.old) (λ t. AreRows (limit self.old) (t.rows (key_of phone.now))) }
         ensures limit { limit self.new ≡ limit self.old }
-        ensures bound { limit self.old ≤ 1000000000 }
+        ensures bound { limit self.old ≤ ROW_LIMIT }
         ensures cause { HasCause (faults self.old) (faults self.new) result }
         ensures steady { IsSteady (may_fail self.old) (may_fail self.new) result };
 
@@ -126,7 +127,7 @@ pub trait Keeper {
         requires { Told (tables self.old) (λ t. MayAppend (last_of (t.rows (key_of phone.now))) row.now.number) }
         ensures answer { Appends (limit self.old) (key_of phone.now) row.now (tables self.old) (tables self.new) result }
         ensures limit { limit self.new ≡ limit self.old }
-        ensures bound { limit self.old ≤ 1000000000 }
+        ensures bound { limit self.old ≤ ROW_LIMIT }
         ensures cause { HasCause (faults self.old) (faults self.new) result }
         ensures steady { IsSteady (may_fail self.old) (may_fail self.new) result };
 }

@@ -1,6 +1,7 @@
 //! A keeper in memory, with a list of the calls that fail.
 
 ghost use Rattle.std.specs.Prelude.{◌≡◌, ◌<◌, ◌≤◌, ◌^◌, None, Some, [], IfOk, IfSome, OnOk, option_copied};
+ghost use Rattle.jt_value.specs.declared.limits.TheConstants.{ROW_LIMIT};
 ghost use Rattle.jt_value.specs.Sameness.{key_of};
 ghost use Rattle.jt_store.specs.Memory.{is_listed, list_under, owner_of, tables_of, InOrder};
 ghost use Rattle.jt_store.specs.Tables.{AreNamedOnce, AreRows, Appends, Finds, FindsFrom, HasCause, IsOwner, IsSteady, IsTrimmed, MayAppend, MayRegister, Reads, Writes, last_of, plates, registered_set, terminals};
@@ -29,19 +30,20 @@ impl Model for MemKeeper {
     ghost use Rattle.std.specs.Prelude.{◌≤◌, List, ℕ};
     ghost use Rattle.jt_store.specs.Memory.{list_under, Kept};
     ghost use Rattle.jt_store.specs.Tables.{AreRows};
+    ghost use Rattle.jt_value.specs.declared.limits.TheConstants.{ROW_LIMIT};
 
     ghost Value = { Kept };
 
     ghost view = { λ keeper. record { registered = keeper.registry; rows = keeper.rows; limit = keeper.limit; calls = keeper.calls } };
 
-    ghost invariant = { λ keeper. (keeper.limit ≤ 1000000000) × ((key : List ℕ) → AreRows keeper.limit (list_under keeper.rows key)) };
+    ghost invariant = { λ keeper. (keeper.limit ≤ ROW_LIMIT) × ((key : List ℕ) → AreRows keeper.limit (list_under keeper.rows key)) };
 }
 
 impl MemKeeper {
     /// Nothing kept, and no memory taken. A phone may have so many rows, at most 1,000,000,000. `failing` has the
     /// numbers of the calls that fail; the number stays at 2^64 - 1 once it is there.
     pub fn new(alloc: Global, limit: u64, failing: Seq<u64>) -> MemKeeper
-        requires { limit ≤ 1000000000 }
+        requires { limit ≤ ROW_LIMIT }
         ensures { result ≡ record { registered = []; rows = []; limit = limit; calls = record { failing = failing; count = 0; faults = 0 } } }
     {
         MemKeeper {
@@ -110,7 +112,7 @@ impl Keeper for MemKeeper {
         ensures answer { Reads (Some (tables_of self.old)) (Some (tables_of self.new)) (λ t found. found ≡ t.registered (key_of phone.now)) result }
         ensures names { OnOk result (AreNamedOnce (tables_of self.old).registered) }
         ensures limit { self.new.limit ≡ self.old.limit }
-        ensures bound { self.old.limit ≤ 1000000000 }
+        ensures bound { self.old.limit ≤ ROW_LIMIT }
         ensures cause { HasCause self.old.calls.faults self.new.calls.faults result }
         ensures steady { IsSteady (is_listed self.old.calls.failing) (is_listed self.new.calls.failing) result }
         ensures in_order { InOrder self.old.calls self.new.calls result }
@@ -126,7 +128,7 @@ impl Keeper for MemKeeper {
         ensures answer { Reads (Some (tables_of self.old)) (Some (tables_of self.new)) (λ t found. IsOwner plates t.registered plate.now found) result }
         ensures names { OnOk result (AreNamedOnce (tables_of self.old).registered) }
         ensures limit { self.new.limit ≡ self.old.limit }
-        ensures bound { self.old.limit ≤ 1000000000 }
+        ensures bound { self.old.limit ≤ ROW_LIMIT }
         ensures cause { HasCause self.old.calls.faults self.new.calls.faults result }
         ensures steady { IsSteady (is_listed self.old.calls.failing) (is_listed self.new.calls.failing) result }
         ensures in_order { InOrder self.old.calls self.new.calls result }
@@ -145,7 +147,7 @@ impl Keeper for MemKeeper {
         ensures answer { Reads (Some (tables_of self.old)) (Some (tables_of self.new)) (λ t found. IsOwner terminals t.registered terminal.now found) result }
         ensures names { OnOk result (AreNamedOnce (tables_of self.old).registered) }
         ensures limit { self.new.limit ≡ self.old.limit }
-        ensures bound { self.old.limit ≤ 1000000000 }
+        ensures bound { self.old.limit ≤ ROW_LIMIT }
         ensures cause { HasCause self.old.calls.faults self.new.calls.faults result }
         ensures steady { IsSteady (is_listed self.old.calls.failing) (is_listed self.new.calls.failing) result }
         ensures in_order { InOrder self.old.calls self.new.calls result }
@@ -166,7 +168,7 @@ impl Keeper for MemKeeper {
         requires may { MayRegister (tables_of self.old).registered (key_of phone.now) registered.now }
         ensures answer { Writes (Some (tables_of self.old)) (registered_set (key_of phone.now) (Some registered.now) (Some (tables_of self.old))) (Some (tables_of self.new)) result }
         ensures limit { self.new.limit ≡ self.old.limit }
-        ensures bound { self.old.limit ≤ 1000000000 }
+        ensures bound { self.old.limit ≤ ROW_LIMIT }
         ensures cause { HasCause self.old.calls.faults self.new.calls.faults result }
         ensures steady { IsSteady (is_listed self.old.calls.failing) (is_listed self.new.calls.failing) result }
         ensures in_order { InOrder self.old.calls self.new.calls result }
@@ -181,7 +183,7 @@ impl Keeper for MemKeeper {
     fn unregister(&mut self, _alloc: Global, phone: &Phone) -> Result<(), StoreError>
         ensures answer { Writes (Some (tables_of self.old)) (registered_set (key_of phone.now) None (Some (tables_of self.old))) (Some (tables_of self.new)) result }
         ensures limit { self.new.limit ≡ self.old.limit }
-        ensures bound { self.old.limit ≤ 1000000000 }
+        ensures bound { self.old.limit ≤ ROW_LIMIT }
         ensures cause { HasCause self.old.calls.faults self.new.calls.faults result }
         ensures steady { IsSteady (is_listed self.old.calls.failing) (is_listed self.new.calls.failing) result }
         ensures in_order { InOrder self.old.calls self.new.calls result }
@@ -198,7 +200,7 @@ impl Keeper for MemKeeper {
         ensures low { IfOk result (λ last. IfSome last (λ n. n < 2 ^ 47)) }
         ensures rows { AreRows self.old.limit ((tables_of self.old).rows (key_of phone.now)) }
         ensures limit { self.new.limit ≡ self.old.limit }
-        ensures bound { self.old.limit ≤ 1000000000 }
+        ensures bound { self.old.limit ≤ ROW_LIMIT }
         ensures cause { HasCause self.old.calls.faults self.new.calls.faults result }
         ensures steady { IsSteady (is_listed self.old.calls.failing) (is_listed self.new.calls.failing) result }
         ensures in_order { InOrder self.old.calls self.new.calls result }
@@ -218,7 +220,7 @@ impl Keeper for MemKeeper {
         ensures answer { Reads (Some (tables_of self.old)) (Some (tables_of self.new)) (λ t found. Finds (t.rows (key_of phone.now)) number found) result }
         ensures rows { AreRows self.old.limit ((tables_of self.old).rows (key_of phone.now)) }
         ensures limit { self.new.limit ≡ self.old.limit }
-        ensures bound { self.old.limit ≤ 1000000000 }
+        ensures bound { self.old.limit ≤ ROW_LIMIT }
         ensures cause { HasCause self.old.calls.faults self.new.calls.faults result }
         ensures steady { IsSteady (is_listed self.old.calls.failing) (is_listed self.new.calls.failing) result }
         ensures in_order { InOrder self.old.calls self.new.calls result }
@@ -240,7 +242,7 @@ impl Keeper for MemKeeper {
         ensures within { IfOk result (λ found. IfSome found (λ row. (number ≤ row.number) × (row.number < 2 ^ 47))) }
         ensures rows { AreRows self.old.limit ((tables_of self.old).rows (key_of phone.now)) }
         ensures limit { self.new.limit ≡ self.old.limit }
-        ensures bound { self.old.limit ≤ 1000000000 }
+        ensures bound { self.old.limit ≤ ROW_LIMIT }
         ensures cause { HasCause self.old.calls.faults self.new.calls.faults result }
         ensures steady { IsSteady (is_listed self.old.calls.failing) (is_listed self.new.calls.failing) result }
         ensures in_order { InOrder self.old.calls self.new.calls result }
@@ -256,7 +258,7 @@ impl Keeper for MemKeeper {
         requires { MayAppend (last_of ((tables_of self.old).rows (key_of phone.now))) row.now.number }
         ensures answer { Appends self.old.limit (key_of phone.now) row.now (Some (tables_of self.old)) (Some (tables_of self.new)) result }
         ensures limit { self.new.limit ≡ self.old.limit }
-        ensures bound { self.old.limit ≤ 1000000000 }
+        ensures bound { self.old.limit ≤ ROW_LIMIT }
         ensures cause { HasCause self.old.calls.faults self.new.calls.faults result }
         ensures steady { IsSteady (is_listed self.old.calls.failing) (is_listed self.new.calls.failing) result }
         ensures in_order { InOrder self.old.calls self.new.calls result }

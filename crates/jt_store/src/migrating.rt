@@ -2,6 +2,7 @@
 
 ghost use Rattle.std.specs.Prelude.{◌≡◌, ◌<◌, ◌≤◌, ◌^◌, ◌↔◌, ℕ, List, None, Some, All, IfOk, IfSome, IsTrue, OnOk, option_copied, if◌then◌else◌};
 ghost use Rattle.std.specs.Option.{option_or};
+ghost use Rattle.jt_value.specs.declared.limits.TheConstants.{ROW_LIMIT};
 ghost use Rattle.jt_value.specs.Sameness.{key_of, same_key};
 ghost use Rattle.jt_store.specs.Memory.{under};
 ghost use Rattle.jt_store.specs.Migrating.{AreAppended, Migrates};
@@ -50,7 +51,7 @@ pub struct Places {
 /// of 2013. The limit is at most 1,000,000,000; Full comes exactly where a phone would have more rows. The rows' numbers
 /// are such as `append` asks for. It never answers Failed.
 pub fn migrate(alloc: Global, old: &Seq<OldPhone>, limit: u64) -> Result<Seq<NewPhone>, StoreError>
-    requires limit { limit ≤ 1000000000 }
+    requires limit { limit ≤ ROW_LIMIT }
     requires rows { All (λ o. AreAppended None o.rows) old.now }
     ensures answer { Migrates limit old.now result }
 {
@@ -128,7 +129,7 @@ fn move_phone(
     later: Option<&OldPhone>,
     limit: u64,
 ) -> Result<NewPhone, StoreError>
-    requires limit { limit ≤ 1000000000 }
+    requires limit { limit ≤ ROW_LIMIT }
     requires there { option_copied earlier ≡ None → option_copied later ≡ None → ⊥ }
     requires earlier { IfSome (option_copied earlier) (λ o. AreAppended None o.rows) }
     requires later { IfSome (option_copied later) (λ o. AreAppended None o.rows) }
@@ -166,7 +167,7 @@ fn join(
     later: &OldPhone,
     limit: u64,
 ) -> Result<NewPhone, StoreError>
-    requires limit { limit ≤ 1000000000 }
+    requires limit { limit ≤ ROW_LIMIT }
     requires rows { AreAppended None earlier.now.rows }
     ensures { Moves limit digits (Some earlier.now) (Some later.now) result }
 {
@@ -190,7 +191,7 @@ fn take_all_in(
     more: &[Row],
     limit: u64,
 ) -> Result<(), StoreError>
-    requires limit { limit ≤ 1000000000 }
+    requires limit { limit ≤ ROW_LIMIT }
     requires rows { AreRows limit rows.old }
     ensures { TakesAllIn limit rows.old rows.new more.now result }
 {
@@ -202,7 +203,7 @@ fn take_all_in(
 
 // Takes a row as a unit over the rows so far.
 fn take_in(alloc: Global, rows: &mut Seq<Row>, row: &Row, limit: u64) -> Result<(), StoreError>
-    requires limit { limit ≤ 1000000000 }
+    requires limit { limit ≤ ROW_LIMIT }
     requires rows { AreRows limit rows.old }
     ensures { TakesIn limit rows.old rows.new row.now result }
 {

@@ -1,6 +1,7 @@
 //! What keeps a terminal's fixes and units.
 
 ghost use Rattle.std.specs.Prelude.{◌≡◌, ◌<◌, ◌≤◌, ℕ, Bool, Option, IfOk, IfSome, length};
+ghost use Rattle.jt_value.specs.declared.limits.TheConstants.{CODE_LIMIT, FIX_LIMIT};
 ghost use Rattle.jt_store.specs.Tables.{HasCause, IsSteady, Reads, Told};
 ghost use Rattle.jt_store.specs.Vaults.{Accepts, AreInOrder, Changes, Forms, Held, IsLoaded, IsUnit, IsWhole, MayCommit, Records, Sets, octets_of};
 
@@ -34,7 +35,7 @@ pub trait Vault {
         ensures order { IfOk result (λ loaded. AreInOrder loaded.mark loaded.next loaded.units loaded.code) }
         ensures whole { Told (holds self.old) IsWhole }
         ensures limit { limit self.new ≡ limit self.old }
-        ensures bound { limit self.old ≤ 100000 }
+        ensures bound { limit self.old ≤ FIX_LIMIT }
         ensures cause { HasCause (faults self.old) (faults self.new) result }
         ensures steady { IsSteady (may_fail self.old) (may_fail self.new) result };
 
@@ -43,7 +44,7 @@ pub trait Vault {
     fn note_fix(&mut self, alloc: Global, fix: &Fix) -> Result<(), StoreError>
         ensures answer { Records (limit self.old) fix.now (holds self.old) (holds self.new) result }
         ensures limit { limit self.new ≡ limit self.old }
-        ensures bound { limit self.old ≤ 100000 }
+        ensures bound { limit self.old ≤ FIX_LIMIT }
         ensures cause { HasCause (faults self.old) (faults self.new) result }
         ensures steady { IsSteady (may_fail self.old) (may_fail self.new) result };
 
@@ -54,7 +55,7 @@ pub trait Vault {
         requires may { Told (holds self.old) (λ held. MayCommit held unit.now) }
         ensures answer { Changes (Forms unit.now) (holds self.old) (holds self.new) result }
         ensures limit { limit self.new ≡ limit self.old }
-        ensures bound { limit self.old ≤ 100000 }
+        ensures bound { limit self.old ≤ FIX_LIMIT }
         ensures cause { HasCause (faults self.old) (faults self.new) result }
         ensures steady { IsSteady (may_fail self.old) (may_fail self.new) result };
 
@@ -63,16 +64,16 @@ pub trait Vault {
         requires { Told (holds self.old) (λ held. held.accepted < length held.units) }
         ensures answer { Changes Accepts (holds self.old) (holds self.new) result }
         ensures limit { limit self.new ≡ limit self.old }
-        ensures bound { limit self.old ≤ 100000 }
+        ensures bound { limit self.old ≤ FIX_LIMIT }
         ensures cause { HasCause (faults self.old) (faults self.new) result }
         ensures steady { IsSteady (may_fail self.old) (may_fail self.new) result };
 
     /// Sets the platform's code, of at most 255 octets, or removes it.
     fn set_code(&mut self, alloc: Global, code: Option<&[u8]>) -> Result<(), StoreError>
-        requires { IfSome (octets_of code) (λ octets. length octets ≤ 255) }
+        requires { IfSome (octets_of code) (λ octets. length octets ≤ CODE_LIMIT) }
         ensures answer { Changes (Sets (octets_of code.entry)) (holds self.old) (holds self.new) result }
         ensures limit { limit self.new ≡ limit self.old }
-        ensures bound { limit self.old ≤ 100000 }
+        ensures bound { limit self.old ≤ FIX_LIMIT }
         ensures cause { HasCause (faults self.old) (faults self.new) result }
         ensures steady { IsSteady (may_fail self.old) (may_fail self.new) result };
 }

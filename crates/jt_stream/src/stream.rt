@@ -3,6 +3,7 @@
 ghost use Rattle.std.specs.Prelude.{◌≡◌, ◌<◌, ◌≤◌, ◌+◌, ◌^◌, [], ◌∷◌, ◌++◌, ◌↔◌, List, ℕ, false, length, take, Some, None, IsTrue, IsSome, IfSome, IfOk, IfErr};
 ghost use Rattle.std.specs.Option.{ForSome};
 ghost use Rattle.std.specs.Result.{ForOk};
+ghost use Rattle.jt_value.specs.declared.limits.TheConstants.{CONTENT_LIMIT};
 ghost use Rattle.jt_escape.specs.Span.{Ends, Whole};
 ghost use Rattle.jt_escape.specs.Splitter.{StandsFor, Continues, lent, told_in_place};
 ghost use Rattle.jt_header.specs.Content.{Content};
@@ -183,7 +184,7 @@ impl Stream {
         ensures more { result.1 ≡ Split.More → result.0 ≡ length piece.now }
         // No octet past the first that completes an item is taken.
         ensures first { (count : ℕ) → count < result.0 → IsSilentInPlace self.old.splitter (take count piece.now) }
-        ensures content { result.1 ≡ Split.Content → length (lent self.new.splitter (take result.0 piece.now)) ≤ 1045 }
+        ensures content { result.1 ≡ Split.Content → length (lent self.new.splitter (take result.0 piece.now)) ≤ CONTENT_LIMIT }
         ensures found { self.new.found ≡ false }
     {
         self.message = None;
@@ -195,7 +196,7 @@ impl Stream {
     /// the offset in the content.
     #[inline(always)]
     pub fn frame_in<'a>(&'a self, taken: &'a [u8]) -> Result<(u64, Header, &'a [u8]), Refusal>
-        requires { length (lent self.now.splitter taken.now) ≤ 1045 }
+        requires { length (lent self.now.splitter taken.now) ≤ CONTENT_LIMIT }
         ensures item { IfOk result (λ frame. AreItemsOf
             (Whole self.now.splitter.opened (lent self.now.splitter taken.now) ∷ [])
             (Frame frame.0 frame.1 frame.2.now ∷ [])) }

@@ -2,6 +2,7 @@
 use Rattle.std.specs.Prelude.{◌≤◌, ℕ, ◌==◌, nat_lt, if◌then◌else◌, List, [], ◌∷◌, ◌++◌, length, drop, Option, None, Some, slice_get}
 use Rattle.std.specs.FinMap.{empty, contains_key}
 use Rattle.std.specs.Option.{option_map}
+use Rattle.jt_value.specs.declared.limits.TheConstants.{OCTET_COUNT_LIMIT}
 use Rattle.jt_header.specs.declared.header.Header.{Header}
 use Rattle.jt_header.specs.declared.header.Packet.{Packet}
 use Rattle.jt_subpacket.specs.declared.key.PartKey.{PartKey}
@@ -85,7 +86,7 @@ left_by packets = left_over [] packets
 -- a whole message has at most 261,888 octets, and at most 255 numbers are missing
 abbrev pub IsWithinLimits : Fate → Type 0
 IsWithinLimits (Whole id serial body) = length body ≤ 261888
-IsWithinLimits (Resend first missing) = length missing ≤ 255
+IsWithinLimits (Resend first missing) = length missing ≤ OCTET_COUNT_LIMIT
 IsWithinLimits (TooMany total) = Unit {0}
 IsWithinLimits Repeat = Unit {0}
 IsWithinLimits Kept = Unit {0}

@@ -2,6 +2,7 @@
 
 ghost use Rattle.std.specs.Prelude.{◌≡◌, ◌≤◌, ◌<◌, List, [], ◌∷◌, length, slice_get, IfOk, IfSome, IsSome, OnOk, OnErr};
 ghost use Rattle.std.specs.List.{position};
+ghost use Rattle.jt_value.specs.declared.limits.TheConstants.{BODY_LIMIT};
 ghost use Rattle.jt_header.specs.Content.{IsPacket};
 ghost use Rattle.jt_subpacket.specs.Parts.{Message};
 ghost use Rattle.jt_subpacket.specs.Partials.{IsBounded, Partial, same_key};
@@ -187,7 +188,7 @@ impl Assembler {
     pub fn take(&mut self, header: &Header, body: &[u8]) -> Result<Taken, Memory>
         requires some { IsSome header.now.packet }
         requires packet { IsPacket header.now.packet }
-        requires short { length body.now ≤ 1023 }
+        requires short { length body.now ≤ BODY_LIMIT }
         ensures dropped { IfOk result (λ taken. taken.dropped ≡ (taken_by self.old header.now body.now).dropped) }
         ensures fate { IfOk result (λ taken. taken.fate ≡ (taken_by self.old header.now body.now).fate) }
         ensures partial { OnOk result (self.new ≡ (taken_by self.old header.now body.now).partial) }

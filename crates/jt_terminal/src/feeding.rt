@@ -2,6 +2,7 @@
 
 ghost use Rattle.std.specs.Prelude.{◌≡◌, ◌≤◌, ◌<◌, ◌+◌, ◌^◌, ◌++◌, None, Some, IfOk, IsSome, IsTrue, OnErr, OnOk, length, take};
 ghost use Rattle.std.specs.Option.{option_to_list};
+ghost use Rattle.jt_value.specs.declared.limits.TheConstants.{BODY_LIMIT, OCTET_COUNT_LIMIT};
 ghost use Rattle.jt_header.specs.Content.{IsPacket};
 ghost use Rattle.jt_codec.specs.Bodies.{Fits};
 ghost use Rattle.jt_subpacket.specs.Fates.{IsWithinLimits, taken_by};
@@ -107,7 +108,7 @@ fn hear_lack<V: Vault>(
     numbers: Seq<u16>,
 ) -> Result<Option<GiveUp>, TerminalError>
     requires sound { IsSound (V.holds vault.old) state.old }
-    requires few { length numbers ≤ 255 }
+    requires few { length numbers ≤ OCTET_COUNT_LIMIT }
     ensures ok { IfOk result (λ end. Ran state.old.settings (rule.heard state.old (rule.Lacks header.now first numbers)) state.new (V.holds vault.old) (V.holds vault.new) out.old out.new end) }
     ensures err { OnErr result (CutShort (rule.heard state.old (rule.Lacks header.now first numbers)).steps (V.holds vault.old) (V.holds vault.new)) }
     ensures tables { OnErr result (AllTablesOrNone state.old (rule.heard state.old (rule.Lacks header.now first numbers)).state state.new) }
@@ -199,7 +200,7 @@ fn hear_packet<V: Vault>(
 ) -> Result<Option<GiveUp>, TerminalError>
     requires some { IsSome header.now.packet }
     requires packet { IsPacket header.now.packet }
-    requires short { length body.now ≤ 1023 }
+    requires short { length body.now ≤ BODY_LIMIT }
     requires sound { IsSound (V.holds vault.old) state.old }
     ensures ok { IfOk result (λ end. Ran state.old.settings (line.hears state.old (line.of_packet header.now (taken_by assembler.old header.now body.now).fate)) state.new (V.holds vault.old) (V.holds vault.new) out.old out.new end) }
     ensures err { OnErr result (CutShort (line.hears state.old (line.of_packet header.now (taken_by assembler.old header.now body.now).fate)).steps (V.holds vault.old) (V.holds vault.new)) }
@@ -228,7 +229,7 @@ fn hear_frame<V: Vault>(
     body: &[u8],
 ) -> Result<Option<GiveUp>, TerminalError>
     requires packet { IsPacket header.now.packet }
-    requires short { length body.now ≤ 1023 }
+    requires short { length body.now ≤ BODY_LIMIT }
     requires sound { IsSound (V.holds vault.old) state.old }
     ensures ok { IfOk result (λ end. Ran state.old.settings (line.hears state.old (line.of_frame assembler.old header.now body.now header.now.packet)) state.new (V.holds vault.old) (V.holds vault.new) out.old out.new end) }
     ensures err { OnErr result (CutShort (line.hears state.old (line.of_frame assembler.old header.now body.now header.now.packet)).steps (V.holds vault.old) (V.holds vault.new)) }

@@ -2,6 +2,7 @@
 
 ghost use Rattle.std.specs.Prelude.{◌≡◌, ◌≤◌, ◌++◌, Bool, true, false, Some, None, length, IfOk, OnErr, OnOk};
 ghost use Rattle.std.specs.FinMap.{empty};
+ghost use Rattle.jt_value.specs.declared.limits.TheConstants.{OCTET_COUNT_LIMIT};
 ghost use Rattle.jt_params.specs.Params as layouts;
 ghost use Rattle.jt_params.specs.Tables.{HasOctets, HaveOctets, dword_of, listed, selected};
 ghost use Rattle.jt_codec.specs.Bodies.{body_octets};
@@ -78,7 +79,7 @@ fn timing_after(timing: Timing, params: &[Param]) -> Timing
 
 // Whether the table took the parameters, and with them the times.
 fn take_params(state: &mut State, params: &Seq<Param>) -> Result<bool, Memory>
-    requires few { length params.now ≤ 255 }
+    requires few { length params.now ≤ OCTET_COUNT_LIMIT }
     ensures ok { IfOk result (λ taken. TookParams taken state.old params.now state.new) }
     ensures err { OnErr result (state.new ≡ state.old) }
     ensures octets { HaveOctets params.now → HasOctets state.old.params → HasOctets state.new.params }
@@ -102,7 +103,7 @@ pub(crate) fn set_params_of(
     out: &mut Seq<Octets>,
 ) -> Result<(), Memory>
     requires good { AreSettings state.old.settings }
-    requires few { length params.now ≤ 255 }
+    requires few { length params.now ≤ OCTET_COUNT_LIMIT }
     requires octets { HaveOctets params.now }
     requires held { HasOctets state.old.params }
     ensures state { OnOk result (state.new ≡ (rule.answers state.old (table.takes_params state.old header.now params.now (params_after params.now state.old.params))).state) }
@@ -124,7 +125,7 @@ fn params_body(
     reply: u16,
     params: Seq<Param>,
 ) -> Result<Octets, Memory>
-    requires few { length params ≤ 255 }
+    requires few { length params ≤ OCTET_COUNT_LIMIT }
     requires octets { HaveOctets params }
     ensures { IfOk result (λ octets. octets ≡ body_octets edition (message.Params reply params)) }
 {
@@ -141,7 +142,7 @@ fn tell(
     out: &mut Seq<Octets>,
 ) -> Result<(), Memory>
     requires good { AreSettings state.old.settings }
-    requires few { length params ≤ 255 }
+    requires few { length params ≤ OCTET_COUNT_LIMIT }
     requires octets { HaveOctets params }
     ensures state { OnOk result (state.new ≡ (rule.answers state.old (table.tells_params state.old header.now params)).state) }
     ensures out { OnOk result (out.new ≡ out.old ++ rule.sends state.old.settings (rule.answers state.old (table.tells_params state.old header.now params)).steps) }
@@ -179,7 +180,7 @@ pub(crate) fn tell_some(
     out: &mut Seq<Octets>,
 ) -> Result<(), Memory>
     requires good { AreSettings state.old.settings }
-    requires few { length ids.now ≤ 255 }
+    requires few { length ids.now ≤ OCTET_COUNT_LIMIT }
     requires held { HasOctets state.old.params }
     ensures state { OnOk result (state.new ≡ (rule.answers state.old (table.tells_params state.old header.now (selected state.old.params ids.now))).state) }
     ensures out { OnOk result (out.new ≡ out.old ++ rule.sends state.old.settings (rule.answers state.old (table.tells_params state.old header.now (selected state.old.params ids.now))).steps) }

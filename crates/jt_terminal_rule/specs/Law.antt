@@ -9,7 +9,7 @@ use Rattle.jt_store.specs.Vaults.{AreInOrder, Held, IsLoaded, IsUnit, Notes, Acc
 use Rattle.jt_store.specs.declared.unit.Loaded.{Loaded}
 use Rattle.jt_terminal_rule.specs.declared.settings.Settings.{Settings}
 use Rattle.jt_terminal_rule.specs.Forming.{batch_of, fitting, unit_of}
-use Rattle.jt_value.specs.declared.limits.TheConstants.{BODY_LIMIT}
+use Rattle.jt_value.specs.declared.limits.TheConstants.{BODY_LIMIT, NO_MARK, UNIT_WINDOW}
 use Rattle.jt_value.specs.declared.ids.TheConstants.{HEARTBEAT, POSITION, REGISTER}
 use Rattle.jt_header.specs.declared.header.Header.{Header}
 use Rattle.jt_codec.specs.Bodies.{body_octets}
@@ -41,11 +41,11 @@ pub record UnitCarriesFirstFixes : Type 0 where
 
 -- control messages never move the next serial past a gap of 32,766
 abbrev pub ControlKeepsTheLastPlace : Type 0
-ControlKeepsTheLastPlace = (s : State) → s.mark < 65536 → s.next < 65536 → gap_of s.mark s.next ≤ 32766 → gap_of s.mark (after_control s) ≤ 32766
+ControlKeepsTheLastPlace = (s : State) → s.mark < 65536 → s.next < 65536 → gap_of s.mark s.next ≤ UNIT_WINDOW → gap_of s.mark (after_control s) ≤ UNIT_WINDOW
 
 -- nor does a message in packets, and one in one packet takes one serial
 pub record PacketsKeepTheLastPlace : Type 0 where
-  pub near : (s : State) (count : ℕ) → s.mark < 65536 → s.next < 65536 → gap_of s.mark s.next ≤ 32766 → gap_of s.mark (after_packets s count) ≤ 32766
+  pub near : (s : State) (count : ℕ) → s.mark < 65536 → s.next < 65536 → gap_of s.mark s.next ≤ UNIT_WINDOW → gap_of s.mark (after_packets s count) ≤ UNIT_WINDOW
   pub one : (s : State) → after_packets s 1 ≡ after_control s
 
 -- Steps of the rule from the machine m, where the vault holds `held`: they are steps of the machine, the first of them directly after
@@ -121,10 +121,10 @@ StartIsARestart = (held : Held) (s : State) (settings : Settings) (loaded : Load
 
 -- what a vault holds and loads before anything was recorded
 abbrev pub nothing_held : Held
-nothing_held = record { recorded = []; units = []; accepted = 0; mark = 65535; next = 0; code = None }
+nothing_held = record { recorded = []; units = []; accepted = 0; mark = NO_MARK; next = 0; code = None }
 
 abbrev pub nothing_loaded : Loaded
-nothing_loaded = record { fixes = []; units = []; mark = 65535; next = 0; code = None; recorded = 0; accepted = 0 }
+nothing_loaded = record { fixes = []; units = []; mark = NO_MARK; next = 0; code = None; recorded = 0; accepted = 0 }
 
 -- a terminal that starts over such a vault is in order, and agrees with it
 abbrev pub FirstStartIsInOrder : Type 0

@@ -1,5 +1,6 @@
 -- A terminal over a vault that tells what it holds, as the machine of `Steps`; and what stays true between both. To be believed.
 use Rattle.std.specs.Prelude.{◌≡◌, ℕ, ◌+◌, ◌%◌, ◌<◌, ◌≤◌, drop, Bool, true, false, List, [], ◌∷◌, ◌++◌, length, Option, None, Some, All, IfSome}
+use Rattle.jt_value.specs.declared.limits.TheConstants.{CODE_LIMIT}
 use Rattle.jt_value.specs.Serials.{gap_of}
 use Rattle.jt_position.specs.Fixes.{IsFix}
 use Rattle.jt_store.specs.declared.row.Row.{Row}
@@ -100,7 +101,7 @@ abbrev pub MayChange : Held → Change → Type 0
 MayChange held (Notes fix) = IsFix fix
 MayChange held (Forms unit) = IsUnit unit × vaults.MayCommit held unit
 MayChange held Accepts = held.accepted < length held.units
-MayChange held (Sets code) = IfSome code (λ octets. length octets ≤ 255)
+MayChange held (Sets code) = IfSome code (λ octets. length octets ≤ CODE_LIMIT)
 
 -- a vault that holds this takes each change of these steps
 abbrev pub MayCommit : Held → List Step → Type 0

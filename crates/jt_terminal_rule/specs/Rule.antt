@@ -3,6 +3,7 @@
 use Rattle.std.specs.Prelude.{ℕ, zero, suc, ◌+◌, ◌-◌, ◌*◌, ◌^◌, min, List, [], ◌∷◌, ◌++◌, drop, length, slice_get, Option, None, Some, Bool, true, false, not, ◌==◌, ◌&&◌, nat_lt, nat_le, if◌then◌else◌}
 use Rattle.std.specs.FinMap.{empty}
 use Rattle.std.specs.Option.{option_map, unwrap_or}
+use Rattle.jt_value.specs.declared.limits.TheConstants.{CODE_LIMIT, SERIAL_WINDOW, UNIT_WINDOW}
 use Rattle.jt_value.specs.Serials.{gap_of, serial_of}
 use Rattle.jt_value.specs.declared.ids.TheConstants.{AUTH, HEARTBEAT, REGISTER}
 use Rattle.jt_header.specs.declared.header.Header.{Header}
@@ -131,11 +132,11 @@ sends settings (Loses ∷ steps) = sends settings steps
 -- A control message takes the next serial, and moves it on unless the gap from the mark is 32,766 or more: the last place before a gap
 -- of 32,767 is kept for a unit.
 abbrev pub after_control : State → ℕ
-after_control s = if nat_lt (gap_of s.mark s.next) 32766 then serial_of (s.next + 1) else s.next
+after_control s = if nat_lt (gap_of s.mark s.next) UNIT_WINDOW then serial_of (s.next + 1) else s.next
 
 -- The same of a message in so many packets, which takes a serial for each of them, but not past that gap.
 abbrev pub after_packets : State → ℕ → ℕ
-after_packets s count = if nat_lt (gap_of s.mark s.next) 32766 then serial_of (s.next + min count (32766 - gap_of s.mark s.next)) else s.next
+after_packets s count = if nat_lt (gap_of s.mark s.next) UNIT_WINDOW then serial_of (s.next + min count (UNIT_WINDOW - gap_of s.mark s.next)) else s.next
 
 -- ---- waits
 
@@ -216,7 +217,7 @@ one_sent s = record s { sent = s.sent + 1; wait = if s.sent == 0 then begun s el
 abbrev pub forms_one : State → List (List ℕ) → Option Ruled
 forms_one s [] = None
 forms_one s (fix ∷ more) =
-    if nat_lt (gap_of s.mark s.next) 32767
+    if nat_lt (gap_of s.mark s.next) SERIAL_WINDOW
     then (let unit = unit_of s.next fix (fix ∷ more) in Some (record {
       state = one_sent (record s { units = s.units ++ unit ∷ []; waiting = drop unit.count (fix ∷ more); next = serial_of (s.next + 1) });
       steps = Changes (Forms unit) ∷ Sends s.sent unit ∷ [];
@@ -248,7 +249,7 @@ fills s = fill window s
 
 -- the reply gives a code, which may have at most 255 octets (this project's own limit)
 abbrev pub is_registered : RegisterReply → Bool
-is_registered reply = (reply.result == 0) && nat_le (length reply.code) 255
+is_registered reply = (reply.result == 0) && nat_le (length reply.code) CODE_LIMIT
 
 -- the code is stored, and the terminal authenticates itself with it
 abbrev pub coded : State → List ℕ → Ruled

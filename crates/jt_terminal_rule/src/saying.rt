@@ -1,6 +1,7 @@
 //! What a terminal says: its frames, and the messages that are no unit.
 
 ghost use Rattle.std.specs.Prelude.{◌≡◌, ◌<◌, ◌≤◌, ◌^◌, ◌++◌, ◌∷◌, [], length, slice_get, OnOk, OnErr, IfOk, IfSome};
+ghost use Rattle.jt_value.specs.declared.limits.TheConstants.{BODY_LIMIT, CODE_LIMIT};
 ghost use Rattle.jt_header.specs.Content.{IsHeader};
 ghost use Rattle.jt_terminal_rule.specs.Messages.{AreSettings, BeginsWith, frame_of, header_of, register_octets, auth_octets};
 ghost use Rattle.jt_terminal_rule.specs.Rule as rule;
@@ -79,7 +80,7 @@ fn register_body(alloc: Global, settings: &Settings) -> Result<Octets, Memory>
 // The body of an authentication with this code.
 fn auth_body(alloc: Global, settings: &Settings, code: &[u8]) -> Result<Octets, Memory>
     requires good { AreSettings settings.now }
-    requires short { length code.now ≤ 255 }
+    requires short { length code.now ≤ CODE_LIMIT }
     ensures { IfOk result (λ body. body ≡ auth_octets settings.now code.now) }
 {
     let auth = Auth {
@@ -115,7 +116,7 @@ pub fn say_auth(
     out: &mut Seq<Octets>,
 ) -> Result<(), Memory>
     requires good { AreSettings settings.now }
-    requires short { length code.now ≤ 255 }
+    requires short { length code.now ≤ CODE_LIMIT }
     ensures out { OnOk result (out.new ≡ out.old ++ frame_of (header_of settings.now.phone 0x0102 serial) (auth_octets settings.now code.now) ∷ []) }
     ensures kept { BeginsWith out.new out.old }
 {
@@ -131,7 +132,7 @@ pub fn say_unit(
     out: &mut Seq<Octets>,
 ) -> Result<(), Memory>
     requires good { AreSettings settings.now }
-    requires body { length unit.now.body ≤ 1023 }
+    requires body { length unit.now.body ≤ BODY_LIMIT }
     ensures out { OnOk result (out.new ≡ out.old ++ frame_of (header_of settings.now.phone unit.now.id unit.now.serial) unit.now.body ∷ []) }
     ensures kept { BeginsWith out.new out.old }
 {
@@ -161,7 +162,7 @@ pub(crate) fn introduces(
     out: &mut Seq<Octets>,
 ) -> Result<(), Memory>
     requires good { AreSettings state.old.settings }
-    requires short { IfSome state.old.code (λ code. length code ≤ 255) }
+    requires short { IfSome state.old.code (λ code. length code ≤ CODE_LIMIT) }
     ensures state { OnOk result (state.new ≡ (rule.introduces state.old state.old.code).state) }
     ensures out { OnOk result (out.new ≡ out.old ++ rule.sends state.old.settings (rule.introduces state.old state.old.code).steps) }
     ensures err { OnErr result (state.new ≡ state.old) }
@@ -184,7 +185,7 @@ pub(crate) fn introduces(
 /// A line was opened.
 pub fn opened(alloc: Global, state: &mut State, out: &mut Seq<Octets>) -> Result<(), Memory>
     requires good { AreSettings state.old.settings }
-    requires short { IfSome state.old.code (λ code. length code ≤ 255) }
+    requires short { IfSome state.old.code (λ code. length code ≤ CODE_LIMIT) }
     ensures state { OnOk result (state.new ≡ (rule.opened state.old).state) }
     ensures out { OnOk result (out.new ≡ out.old ++ rule.sends state.old.settings (rule.opened state.old).steps) }
     ensures err { OnErr result (state.new ≡ record state.old { sent = 0 }) }
@@ -236,8 +237,8 @@ pub fn beats_if_silent(
 // What is waited for, again.
 fn again(alloc: Global, state: &State, out: &mut Seq<Octets>) -> Result<(), Memory>
     requires good { AreSettings state.now.settings }
-    requires short { IfSome state.now.code (λ code. length code ≤ 255) }
-    requires units { IfSome (slice_get state.now.units 0) (λ unit. length unit.body ≤ 1023) }
+    requires short { IfSome state.now.code (λ code. length code ≤ CODE_LIMIT) }
+    requires units { IfSome (slice_get state.now.units 0) (λ unit. length unit.body ≤ BODY_LIMIT) }
     ensures out { OnOk result (out.new ≡ out.old ++ rule.sends state.now.settings (rule.again state.now state.now.phase)) }
     ensures kept { BeginsWith out.new out.old }
 {
@@ -258,8 +259,8 @@ fn again(alloc: Global, state: &State, out: &mut Seq<Octets>) -> Result<(), Memo
 /// What is waited for is sent again, and the next wait begins.
 pub fn repeats(alloc: Global, state: &mut State, out: &mut Seq<Octets>) -> Result<(), Memory>
     requires good { AreSettings state.old.settings }
-    requires short { IfSome state.old.code (λ code. length code ≤ 255) }
-    requires units { IfSome (slice_get state.old.units 0) (λ unit. length unit.body ≤ 1023) }
+    requires short { IfSome state.old.code (λ code. length code ≤ CODE_LIMIT) }
+    requires units { IfSome (slice_get state.old.units 0) (λ unit. length unit.body ≤ BODY_LIMIT) }
     requires more { state.old.wait.sendings ≤ state.old.wait.repeats }
     ensures state { OnOk result (state.new ≡ (rule.repeats state.old).state) }
     ensures out { OnOk result (out.new ≡ out.old ++ rule.sends state.old.settings (rule.repeats state.old).steps) }

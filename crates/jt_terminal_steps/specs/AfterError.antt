@@ -1,5 +1,6 @@
 -- What an error in an event leaves of a terminal's state, beside that no line is in use. To be believed.
 use Rattle.std.specs.Prelude.{ℕ, ◌≡◌, ◌⊎◌, ◌+◌, List, [], ◌∷◌, ◌++◌, drop, Option, Bool, true, false, ◌==◌, ◌&&◌, nat_lt, if◌then◌else◌}
+use Rattle.jt_value.specs.declared.limits.TheConstants.{UNIT_WINDOW}
 use Rattle.jt_value.specs.Serials.{gap_of, serial_of}
 use Rattle.jt_codec.specs.declared.message.Message.{Message}
 use Rattle.jt_codec.specs.declared.message.Message.TheVariants as message
@@ -41,7 +42,7 @@ lists_changed (Sets code) k = record k { code = code }
 -- The serial that is next once a message that is no unit was sent under this one: it is taken if it was next, unless the gap from the mark is
 -- 32,766 or more.
 abbrev pub next_said : ℕ → ℕ → ℕ → ℕ
-next_said mark next serial = if nat_lt (gap_of mark next) 32766 && (serial == next) then serial_of (next + 1) else next
+next_said mark next serial = if nat_lt (gap_of mark next) UNIT_WINDOW && (serial == next) then serial_of (next + 1) else next
 
 -- these steps were done
 abbrev pub lists_after : List Step → Lists → Lists

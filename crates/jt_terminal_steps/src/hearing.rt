@@ -1,6 +1,7 @@
 //! What a terminal does at the platform's messages.
 
 ghost use Rattle.std.specs.Prelude.{◌≡◌, ◌≤◌, ◌<◌, IfOk, IsOk, OnOk, OnErr, None, Some, false, length};
+ghost use Rattle.jt_value.specs.declared.limits.TheConstants.{OCTET_COUNT_LIMIT};
 ghost use Rattle.jt_codec.specs.Bodies.{Fits, body_octets};
 ghost use Rattle.jt_store.specs.Vaults.{Accepts, changed};
 ghost use Rattle.jt_terminal_rule.specs.Messages as messages;
@@ -57,7 +58,7 @@ fn coded<V: Vault>(
     out: &mut Seq<Octets>,
     code: &Octets,
 ) -> Result<(), TerminalError>
-    requires short { length code.now ≤ 255 }
+    requires short { length code.now ≤ CODE_LIMIT }
     requires sound { IsSound (V.holds vault.old) state.old }
     ensures ok { OnOk result (Ran state.old.settings (rule.coded state.old code.now) state.new (V.holds vault.old) (V.holds vault.new) out.old out.new None) }
     ensures err { OnErr result (CutShort (rule.coded state.old code.now).steps (V.holds vault.old) (V.holds vault.new)) }
@@ -452,7 +453,7 @@ fn asks_and_fills<V: Vault>(
     numbers: Seq<u16>,
 ) -> Result<(), TerminalError>
     requires sound { IsSound (V.holds vault.old) state.old }
-    requires few { length numbers ≤ 255 }
+    requires few { length numbers ≤ OCTET_COUNT_LIMIT }
     ensures ok { OnOk result (Ran state.old.settings (rule.and_then (rule.answers state.old (table.answer_to_lack state.old state.old.settings.phone.edition first numbers)) rule.fills) state.new (V.holds vault.old) (V.holds vault.new) out.old out.new None) }
     ensures err { OnErr result (CutShort (rule.and_then (rule.answers state.old (table.answer_to_lack state.old state.old.settings.phone.edition first numbers)) rule.fills).steps (V.holds vault.old) (V.holds vault.new)) }
     ensures lists { OnErr result (CutLists (rule.and_then (rule.answers state.old (table.answer_to_lack state.old state.old.settings.phone.edition first numbers)) rule.fills).steps (lists_of state.old) (lists_of state.new)) }
@@ -475,7 +476,7 @@ pub fn asks_if_live<V: Vault>(
     numbers: Seq<u16>,
 ) -> Result<(), TerminalError>
     requires sound { IsSound (V.holds vault.old) state.old }
-    requires few { length numbers ≤ 255 }
+    requires few { length numbers ≤ OCTET_COUNT_LIMIT }
     ensures ok { OnOk result (Ran state.old.settings (rule.answers_if_live state.old.phase state.old (table.answer_to_lack state.old state.old.settings.phone.edition first numbers)) state.new (V.holds vault.old) (V.holds vault.new) out.old out.new None) }
     ensures err { OnErr result (CutShort (rule.answers_if_live state.old.phase state.old (table.answer_to_lack state.old state.old.settings.phone.edition first numbers)).steps (V.holds vault.old) (V.holds vault.new)) }
     ensures lists { OnErr result (CutLists (rule.answers_if_live state.old.phase state.old (table.answer_to_lack state.old state.old.settings.phone.edition first numbers)).steps (lists_of state.old) (lists_of state.new)) }

@@ -1,6 +1,7 @@
 //! What counting asks of an entry, and all that a check asks.
 
 ghost use Rattle.std.specs.Prelude.{◌≡◌, ◌<◌, ◌≤◌, ◌^◌, Some, length, IfOk};
+ghost use Rattle.jt_value.specs.declared.limits.TheConstants.{CONTENT_LIMIT};
 ghost use Rattle.jt_escape.specs.Splitter.{lent};
 ghost use Rattle.jt_stream.specs.Item.{Frame};
 ghost use Rattle.jt_view.specs.Entry.{entry_of};
@@ -39,7 +40,7 @@ fn judge_body(alloc: Global, place: u64, header: &Header, body: &[u8]) -> Result
 // Whether the frame that the stream just took is refused.
 #[inline(always)]
 fn judge_frame(alloc: Global, stream: &Stream, taken: &[u8]) -> Result<Judged, Memory>
-    requires { length (lent stream.now.splitter taken.now) ≤ 1045 }
+    requires { length (lent stream.now.splitter taken.now) ≤ CONTENT_LIMIT }
     ensures { IfOk result (JudgesTold Split.Content stream.now.splitter taken.now) }
 {
     match stream.frame_in(taken) {
@@ -57,7 +58,7 @@ pub fn judge_told(
     taken: &[u8],
     split: Split,
 ) -> Result<Judged, Memory>
-    requires { split ≡ Split.Content → length (lent stream.now.splitter taken.now) ≤ 1045 }
+    requires { split ≡ Split.Content → length (lent stream.now.splitter taken.now) ≤ CONTENT_LIMIT }
     ensures { IfOk result (JudgesTold split stream.now.splitter taken.now) }
 {
     match split {

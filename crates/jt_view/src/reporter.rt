@@ -1,6 +1,7 @@
 //! The report of an input that comes in pieces.
 
 ghost use Rattle.std.specs.Prelude.{◌≡◌, ◌⊎◌, IfSome, ◌<◌, ◌≤◌, ◌+◌, ◌-◌, ◌^◌, ℕ, List, [], None, length, string_bytes, IfOk};
+ghost use Rattle.jt_value.specs.declared.limits.TheConstants.{INPUT_LIMIT};
 ghost use Rattle.jt_view.specs.Report.{answer_of, closing_of};
 ghost use Rattle.jt_view.specs.Taking.{Stands, StandsFor, Takes, EndsTooLong};
 
@@ -179,7 +180,7 @@ impl Teller for Reporter {
 
     ghost has_told = { λ _ _ _. Unit {0} };
 
-    ghost can_take = { λ reporter. (reporter.most ≤ 2 ^ 40) × (reporter.taken ≤ reporter.most) × (reporter.tally.stream.splitter.place ≤ reporter.taken) };
+    ghost can_take = { λ reporter. (reporter.most ≤ INPUT_LIMIT) × (reporter.taken ≤ reporter.most) × (reporter.tally.stream.splitter.place ≤ reporter.taken) };
 
     ghost room = { λ reporter. reporter.most - reporter.taken };
 

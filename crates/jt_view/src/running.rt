@@ -2,6 +2,7 @@
 
 ghost use Rattle.std.specs.Prelude.{◌≡◌, ◌≢◌, ◌⊎◌, ◌≤◌, ◌^◌, IfSome};
 ghost use Rattle.std.specs.Io.KnownBytes.{IsAtEnd, Appends};
+ghost use Rattle.jt_value.specs.declared.limits.TheConstants.{INPUT_LIMIT};
 ghost use Rattle.jt_value.specs.Counts.{Rose};
 ghost use Rattle.jt_input.specs.Answer.{IsFault, PrintsTaken, ReadsNoFurther, Runs, StopsAtWrite};
 ghost use Rattle.jt_view.specs.Answer.{IsOpen};
@@ -22,7 +23,7 @@ pub fn report<S: Source, K: Sink>(
     command: Command,
     most: u64,
 ) -> Status
-    requires { most ≤ 2 ^ 40 }
+    requires { most ≤ INPUT_LIMIT }
     ensures runs { Runs (answer_of command most) (S.left source.old) (S.left source.new) (K.written sink.old) (K.written sink.new) result }
     // So, where the source tells its octets, and no fault came:
     ensures whole { IfSome (S.left source.old) (λ octets. IsFault result ⊎ ((result ≡ (answer_of command most octets).status)

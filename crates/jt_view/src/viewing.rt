@@ -1,6 +1,7 @@
 //! The lines of what a stream tells, each put at the end of a text.
 
 ghost use Rattle.std.specs.Prelude.{◌≡◌, ◌<◌, ◌≤◌, ◌^◌, length, string_bytes, IfOk};
+ghost use Rattle.jt_value.specs.declared.limits.TheConstants.{CONTENT_LIMIT};
 ghost use Rattle.jt_escape.specs.Splitter.{lent};
 ghost use Rattle.jt_stream.specs.Item.{Frame};
 ghost use Rattle.jt_view.specs.Entry as entries;
@@ -79,7 +80,7 @@ fn view_frame(
     line: &mut Line,
     text: &mut String,
 ) -> Result<Judged, Memory>
-    requires { length (lent stream.now.splitter taken.now) ≤ 1045 }
+    requires { length (lent stream.now.splitter taken.now) ≤ CONTENT_LIMIT }
     ensures { IfOk result (λ judgement. ViewsTold Split.Content stream.now.splitter taken.now judgement (string_bytes text.old) (string_bytes text.new)) }
 {
     match stream.frame_in(taken) {
@@ -100,7 +101,7 @@ pub fn view_told(
     line: &mut Line,
     text: &mut String,
 ) -> Result<Judged, Memory>
-    requires { split ≡ Split.Content → length (lent stream.now.splitter taken.now) ≤ 1045 }
+    requires { split ≡ Split.Content → length (lent stream.now.splitter taken.now) ≤ CONTENT_LIMIT }
     ensures { IfOk result (λ judgement. ViewsTold split stream.now.splitter taken.now judgement (string_bytes text.old) (string_bytes text.new)) }
 {
     match split {

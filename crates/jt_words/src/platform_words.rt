@@ -7,6 +7,7 @@ ghost use Rattle.jt_words.specs.Platform.{PlatformWords as AreWords, AreOptions}
 
 use crate::option_words::option_pair;
 use jt_input::number;
+use jt_value::limits::PORT_LIMIT;
 
 /// What `platform` is told.
 #[derive(Clone, Copy, Debug, PartialEq, Eq)]
@@ -20,8 +21,6 @@ pub struct PlatformWords {
 const PORT: &[u8] = b"port";
 
 const SESSIONS: &[u8] = b"sessions";
-
-const PORT_MOST: u32 = 65_535;
 
 const SESSIONS_MOST: u32 = 1_024;
 
@@ -62,7 +61,7 @@ impl PlatformWords {
             return None;
         }
         let (port, sessions) = values(options)?;
-        let port = in_range(port, PORT_MOST)?;
+        let port = in_range(port, PORT_LIMIT)?;
         let sessions = in_range(sessions, SESSIONS_MOST)?;
         Some(PlatformWords {
             port: u16::try_from(port).ok()?,

@@ -3,6 +3,7 @@
 use Rattle.std.specs.Prelude.{◌≡◌, ℕ, zero, suc, ◌+◌, ◌-◌, ◌<◌, ◌≤◌, Bool, true, false, ◌&&◌, ◌==◌, nat_lt, nat_le, if◌then◌else◌, IsTrue, List, [], ◌∷◌, ◌++◌, length, Option, Some, None, All, slice_get}
 use Rattle.std.specs.List.{filter, list_any, range_with_len}
 use mathlib.Core.List.{IsPrefix}
+use Rattle.jt_value.specs.declared.limits.TheConstants.{UNIT_WINDOW}
 use Rattle.jt_value.specs.declared.ids.TheConstants.{POSITION}
 use Rattle.jt_position.specs.Fixes.{IsFix}
 use Rattle.jt_header.specs.declared.header.Header.{Header}
@@ -42,7 +43,7 @@ past_accepted units (suc last) = past (slice_get units last)
 pub record MayForm (w : World) (unit : Row) : Type 0 where
   pub above : All (λ (older : Row). older.number < unit.number) w.units
   pub after_accepted : past_accepted w.units w.accepted ≤ unit.number
-  pub near : unit.number < past_accepted w.units w.accepted + 32766
+  pub near : unit.number < past_accepted w.units w.accepted + UNIT_WINDOW
   pub unwrapped : unit.number < 65536
   pub position : unit.id ≡ POSITION
   pub next : IsPrefix (fixes_in w.units ++ unit.body ∷ []) w.recorded

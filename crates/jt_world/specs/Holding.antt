@@ -11,7 +11,7 @@ use Rattle.jt_stream.specs.Unplaced.{Unplaced, Message, Fault}
 use Rattle.jt_world.specs.declared.row.Row.{Row}
 use Rattle.jt_world.specs.declared.acknowledgement.Acknowledgement.{Acknowledgement}
 use Rattle.jt_world.specs.Messages.{is_acceptance, unit_frame}
-use Rattle.jt_world.specs.Script.{waiting}
+use Rattle.jt_world.specs.Script.{fix_limit, waiting}
 use Rattle.jt_world.specs.World.{World, Wire, completed}
 
 -- a wire, and whether the reader has already seen its next octet
@@ -71,7 +71,7 @@ AllPositions fixes = All (λ (fix : List ℕ). IsTrue (is_position fix)) fixes
 pub record IsNumbered (recorded : List (List ℕ)) (formed accepted : ℕ) : Type 0 where
   pub accepted_formed : accepted ≤ formed
   pub formed_recorded : formed ≤ length recorded
-  pub limited : length recorded ≤ 32766
+  pub limited : length recorded ≤ fix_limit
   pub positions : AllPositions recorded
 
 -- what the platform holds: its rows, and the serial of its next frame

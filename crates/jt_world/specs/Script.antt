@@ -1,5 +1,6 @@
 -- The world after a script line, and what the line stored. To be believed.
 use Rattle.std.specs.Prelude.{◌≡◌, ℕ, zero, suc, ◌-◌, ◌<◌, min, if◌then◌else◌, List, [], ◌∷◌, length, map, drop, Option, Some, None}
+use Rattle.jt_value.specs.declared.limits.TheConstants.{UNIT_WINDOW}
 use Rattle.jt_value.specs.declared.ids.TheConstants.{POSITION}
 use Rattle.jt_position.specs.Fixes.{position_at}
 use Rattle.jt_position.specs.Positions.{position}
@@ -13,7 +14,7 @@ use Rattle.jt_world.specs.Events.{Record, Form, Send, Up, Down, Accept, after, m
 
 -- the most fixes that are recorded in this world
 abbrev pub fix_limit : ℕ
-fix_limit = 32766
+fix_limit = UNIT_WINDOW
 
 -- In this world there is line 1 alone, the clock stands still, and the fixes are fewer than the limit before one is recorded.
 abbrev pub IsAllowed : World → WorldEvent → Type 0

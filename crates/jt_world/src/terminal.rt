@@ -19,13 +19,13 @@ use jt_codec::frame_into;
 use jt_header::Header;
 use jt_position::{Fix, law_fixes};
 use jt_value::ids::POSITION;
-use jt_value::limits::FRAME_LIMIT;
+use jt_value::limits::{FRAME_LIMIT, UNIT_WINDOW};
 use jt_value::{Edition, Memory, Phone};
 use std::alloc::Global;
 use std::marker::Model;
 
 /// The most fixes that are recorded.
-const FIX_LIMIT: usize = 32_766;
+const RECORDED_LIMIT: usize = UNIT_WINDOW as usize;
 
 /// What the terminal holds. The unit of each place carries the fix of that place alone, under that number.
 #[derive(Drop)]
@@ -129,7 +129,7 @@ impl Terminal {
     pub(crate) fn has_room(&self) -> bool
         ensures { IsTrue result ↔ (length self.now.recorded < fix_limit) }
     {
-        self.recorded.len() < FIX_LIMIT
+        self.recorded.len() < RECORDED_LIMIT
     }
 
     /// Records a fix.
