@@ -16,7 +16,7 @@ ghost use Rattle.jt_report_command.specs.Steps.{CutsShort, TellsAttempts, VaultK
 ghost use Rattle.jt_report_command.specs.Running.{EndsSo, RunsReport, scene_of};
 ghost use Rattle.jt_report_command.specs.Settings.{AreSpoken, settings_of};
 
-use crate::settings::settings;
+use crate::settings::settings_for;
 use crate::telling::{tell_bad_line, tell_beyond, tell_failed, tell_full, tell_outcome};
 use crate::{FixesError, ReportWords, note_fixes};
 use jt_agent::report_all;
@@ -175,7 +175,7 @@ pub fn report<S: Source, K: Sink, D: Dial, C: Clock, V: Vault>(
         terminal,
         tries,
     } = words;
-    let settings = match settings(alloc, phone, plate, terminal) {
+    let settings = match settings_for(alloc, phone, plate, terminal) {
         Ok(settings) => settings,
         Err(Memory) => {
             return ReportRun {
