@@ -22,6 +22,7 @@ use jt_store::Keeper;
 use jt_value::{Memory, Octets, Phone, Seq};
 use std::alloc::Global;
 use std::marker::Model;
+use std::mem::replace;
 use std::snapshot::Snapshot;
 
 // NotLive or Fenced, where the session is not live for the phone or not its holder.
@@ -328,6 +329,20 @@ impl<P: Keeper> Hub<P> {
             self.owed -= 1;
         }
         reply
+    }
+
+    /// Begins anew in place, with no memory taken: an empty history over the registrations and rows that the keeper has now, with
+    /// the same fleet and secret. The history that was is handed back.
+    pub fn restart(&mut self) -> Seq<Entry>
+        ensures history { result ≡ self.old.history }
+        ensures hub { self.new ≡ record { keeper = self.old.keeper; start = self.old.keeper; fleet = self.old.fleet; secret = self.old.secret; history = []; reserved = 0 } }
+        ensures keeper { IsAt (P.tables self.old.start) (P.tables self.old.keeper) (P.limit self.old.start) (P.limit self.old.keeper) self.old.history }
+    {
+        let log = replace(&mut self.log, Log::new(self.alloc));
+        self.start = Snapshot::of(&self.keeper);
+        self.reserved = 0;
+        self.owed = 0;
+        log.into_seq()
     }
 
     /// The keeper, which is where the history leaves it, and the history, with no memory taken.

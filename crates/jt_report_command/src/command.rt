@@ -16,7 +16,7 @@ ghost use Rattle.jt_report_command.specs.Steps.{TellsAttempts, VaultKeeps, came_
 ghost use Rattle.jt_report_command.specs.Running.{EndsSo, RunsReport, scene_of};
 ghost use Rattle.jt_report_command.specs.Settings.{AreSpoken, settings_of};
 
-use crate::settings::settings;
+use crate::settings::settings_for;
 use crate::telling::{tell_bad_line, tell_outcome};
 use crate::{FixesError, ReportWords, note_fixes};
 use jt_agent::report_all;
@@ -179,7 +179,7 @@ pub fn report<S: Source, K: Sink, D: Dial, C: Clock, V: Vault>(
         terminal,
         tries,
     } = words;
-    let settings = match settings(alloc, phone, plate, terminal) {
+    let settings = match settings_for(alloc, phone, plate, terminal) {
         Ok(settings) => settings,
         Err(Memory) => {
             return ReportRun {

@@ -101,8 +101,9 @@ fn tail(edition: Edition) -> Option<AuthTail>
     }
 }
 
-/// The settings of a phone, a plate and a terminal id, as `report` has them (this project's own).
-pub(crate) fn settings(
+/// The settings of a phone, a plate of at most 255 octets and a terminal id of at most as many octets as an id of the phone's edition
+/// has, as `report` has them (this project's own). Memory comes where memory is refused.
+pub fn settings_for(
     alloc: Global,
     phone: Phone,
     plate: Octets,

@@ -62,6 +62,13 @@ impl MemVault {
             calls: Calls::new(failing),
         }
     }
+
+    /// How many units are accepted.
+    pub fn accepted(&self) -> usize
+        ensures { result ≡ self.now.held.accepted }
+    {
+        self.accepted
+    }
 }
 
 // A code that is lent, as one of its own.

@@ -5,6 +5,7 @@ ghost use Rattle.std.specs.Option.{option_to_list};
 ghost use Rattle.jt_store.specs.Tables.{HasCause, IsSteady, Told};
 ghost use Rattle.jt_value.specs.Counts.{Rose};
 ghost use Rattle.jt_store.specs.Vaults.{Held, Notes, Records, settled};
+ghost use Rattle.jt_terminal_rule.specs.Machines.{is_up};
 ghost use Rattle.jt_terminal_rule.specs.Messages.{AreSettings};
 ghost use Rattle.jt_terminal_rule.specs.Rule as rule;
 ghost use Rattle.jt_terminal.specs.Feeding.{HasFedFront, WasCut, scene};
@@ -249,6 +250,16 @@ fn is_done(state: &State) -> bool
     state.units.is_empty() && state.waiting.is_empty()
 }
 
+// Whether a line is in use.
+fn is_in_use(state: &State) -> bool
+    ensures { result ≡ is_up state.now.phase }
+{
+    match state.phase {
+        Phase::Down => false,
+        Phase::Registering(_) | Phase::Authenticating(_) | Phase::Live(_) => true,
+    }
+}
+
 /// A terminal over a vault. Contracts see its vault and its state.
 #[derive(Drop)]
 pub struct Terminal<V: Vault> {
@@ -298,6 +309,24 @@ impl<V: Vault> Terminal<V> {
             }
             Err(error) => Err((vault, error)),
         }
+    }
+
+    /// Starts anew in place, without a line, over what the vault loads and with these settings. After an error the terminal is as
+    /// before.
+    pub fn restart(&mut self, alloc: Global, settings: Settings) -> Result<(), StoreError>
+        requires { AreSettings settings }
+        ensures ok { OnOk result (IsStarted settings (V.holds self.old.vault) self.new.state) }
+        ensures err { OnErr result (self.new.state ≡ self.old.state) }
+        ensures holds { V.holds self.new.vault ≡ V.holds self.old.vault }
+        ensures sound { OnOk result (IsSound (V.holds self.new.vault) self.new.state) }
+        ensures limit { V.limit self.new.vault ≡ V.limit self.old.vault }
+    {
+        let params = first_params(alloc, &settings)?;
+        let loaded = self.vault.load(alloc)?;
+        look_at_fixes(loaded.fixes.as_slice());
+        look_at_serials(loaded.units.as_slice());
+        self.state = started(alloc, settings, loaded, params);
+        Ok(())
     }
 
     /// Records a fix behind the others. Full comes exactly where as many fixes as the vault's limit are not accepted, and has
@@ -402,6 +431,21 @@ impl<V: Vault> Terminal<V> {
     {
         let _state = &self.state;
         (self.state.recorded, self.state.accepted)
+    }
+
+    /// Whether a line is in use.
+    pub fn is_up(&self) -> bool
+        ensures { result ≡ is_up self.now.state.phase }
+    {
+        is_in_use(&self.state)
+    }
+
+    /// The vault, which is lent.
+    pub fn vault(&self) -> &V
+        ensures { result.now ≡ self.now.vault }
+    {
+        let _state = &self.state;
+        &self.vault
     }
 
     /// The vault, with no memory taken.
