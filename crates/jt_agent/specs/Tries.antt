@@ -87,11 +87,11 @@ Reports tries Memory old now = (ends : List AttemptEnd) × (length ends < tries)
     × ((Tries ends old now × (is_done now.state ≡ false)) ⊎ Breaks ends old now attempted.Memory)
 
 -- the ends that an outcome tells
-abbrev pub ends_told : Outcome → List AttemptEnd
-ends_told (Done ends) = ends
-ends_told (Unsent ends) = ends
-ends_told (StoreFault ends) = ends
-ends_told Memory = []
+abbrev pub ends_in : Outcome → List AttemptEnd
+ends_in (Done ends) = ends
+ends_in (Unsent ends) = ends
+ends_in (StoreFault ends) = ends
+ends_in Memory = []
 
 -- how many of these attempts ended for want of a link
 abbrev pub dials_in : List AttemptEnd → ℕ

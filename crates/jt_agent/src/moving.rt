@@ -7,7 +7,7 @@ ghost use Rattle.jt_outside.specs.Sink.{WritesAll, WriteAllHasCause};
 ghost use Rattle.jt_outside.specs.Link.{wire_of};
 ghost use Rattle.jt_terminal_rule.specs.Rule.{rule};
 ghost use Rattle.jt_terminal_steps.specs.Running.{IsEvent, time_after};
-ghost use Rattle.jt_terminal.specs.Line.{StandsForLine, fed};
+ghost use Rattle.jt_terminal.specs.Line.{StandsForLine, rule_at_octets};
 ghost use Rattle.jt_value.specs.Octets.{AreOctets};
 ghost use Rattle.jt_agent.specs.Attempt.{LeavesAt, VaultStays, at_link};
 ghost use Rattle.jt_agent.specs.Course.{Reads};
@@ -97,7 +97,7 @@ pub(crate) fn hear<K: Link, V: Vault>(
     octets: &[u8],
 ) -> Option<Attempted>
     requires { line.old.stream.place + length octets.now < 2 ^ 63 }
-    ensures comes { (seen : List ℕ) → StandsForLine line.old seen → Comes result (fed terminal.old.state seen octets.now) (LeavesAt terminal.old.state seen (Reads octets.now))
+    ensures comes { (seen : List ℕ) → StandsForLine line.old seen → Comes result (rule_at_octets terminal.old.state seen octets.now) (LeavesAt terminal.old.state seen (Reads octets.now))
         (at_link terminal.old.state (V.holds terminal.old.vault) (V.faults terminal.old.vault) (wire_of K.inbound K.written K.faults link.old))
         (at_link terminal.new.state (V.holds terminal.new.vault) (V.faults terminal.new.vault) (wire_of K.inbound K.written K.faults link.new)) }
     ensures line { (seen : List ℕ) → StandsForLine line.old seen → result ≡ None → StandsForLine line.new (seen ++ octets.now) }

@@ -5,7 +5,7 @@ ghost use Rattle.jt_value.specs.Counts.{Rose, RoseBy};
 ghost use Rattle.jt_outside.specs.Link.{wire_of};
 ghost use Rattle.jt_terminal_rule.specs.declared.state.Phase.TheVariants.{Down};
 ghost use Rattle.jt_agent.specs.Attempt.{VaultStays};
-ghost use Rattle.jt_agent.specs.Tries.{IsStoreFault, Reports, TriesOnce, dials_in, ends_told, between};
+ghost use Rattle.jt_agent.specs.Tries.{IsStoreFault, Reports, TriesOnce, dials_in, ends_in, between};
 ghost use Rattle.jt_agent.specs.declared.ending.Attempted.TheVariants.{StoreFault};
 
 use crate::ending::{AttemptEnd, Attempted};
@@ -82,7 +82,7 @@ pub fn report_all<D: Dial, C: Clock, V: Vault>(
         (between terminal.old.state (V.holds terminal.old.vault) (V.faults terminal.old.vault) (C.time clock.old) (D.pool dial.old) (D.faults dial.old))
         (between terminal.new.state (V.holds terminal.new.vault) (V.faults terminal.new.vault) (C.time clock.new) (D.pool dial.new) (D.faults dial.new)) }
     // The dial's count rose for each attempt that ended for want of a link.
-    ensures dials { RoseBy (dials_in (ends_told result)) (D.faults dial.old) (D.faults dial.new) }
+    ensures dials { RoseBy (dials_in (ends_in result)) (D.faults dial.old) (D.faults dial.new) }
     // The vault failed only where its count rose in this call.
     ensures failed { IsStoreFault result → Rose (V.faults terminal.old.vault) (V.faults terminal.new.vault) }
     // So more attempts may follow.

@@ -1,7 +1,7 @@
 -- Words that ask one thing ask nothing else.
 use Rattle.std.proofs.Common.{◌≡◌, ℕ, List, Option, Some, None, IfSome, MatchOption, refl, ap, sym, subst}
-use Rattle.jt_report_command.specs.ReportWords.{Told, AreWords as AreReportWords}
-use Rattle.jt_report_command.specs.Telling.{told_of}
+use Rattle.jt_report_command.specs.ReportWords.{ReportValues, AreWords as AreReportWords}
+use Rattle.jt_report_command.specs.Telling.{values_in_words}
 use Rattle.jt_report_command.specs.declared.report_words.ReportWords.{ReportWords}
 use Rattle.jt_words.specs.Platform.{PlatformWords as AreWords}
 use Rattle.jt_cli.specs.Ask.{Ask, Act, ReportFixes, ServeLinks, Asks, AskOnly, AskNothing, TakesMemory}
@@ -38,23 +38,23 @@ of_platform port sessions words are that = record { asks = are; only = platform_
 -- ---- fixes to report
 
 report_only : (found : Option ReportWords) (told : ReportWords) (words : List (List ℕ)) → found ≡ Some told
-    → ((other : Told) → AreReportWords other words → MatchOption found ⊥ (λ t. told_of t ≡ other)) → AreNoTask words → AreNoPlatform words
-    → (other : Ask) → Asks other words → other ≡ ReportFixes (told_of told)
+    → ((other : ReportValues) → AreReportWords other words → MatchOption found ⊥ (λ t. values_in_words t ≡ other)) → AreNoTask words → AreNoPlatform words
+    → (other : Ask) → Asks other words → other ≡ ReportFixes (values_in_words told)
 report_only found told words is that task platform (Act other) asks = absurd (no_task_is words other task asks)
 report_only found told words is that task platform (ReportFixes other) asks = ap ReportFixes (sym (same_told found told other is (that other asks)))
 report_only found told words is that task platform (ServeLinks port sessions) asks = absurd (platform port sessions asks)
 
 pub of_report : (found : Option ReportWords) (told : ReportWords) (words : List (List ℕ)) → found ≡ Some told
-    → IfSome found (λ t. AreReportWords (told_of t) words)
-    → ((other : Told) → AreReportWords other words → MatchOption found ⊥ (λ t. told_of t ≡ other)) → AreNoTask words → AreNoPlatform words
-    → AskOnly (ReportFixes (told_of told)) words
+    → IfSome found (λ t. AreReportWords (values_in_words t) words)
+    → ((other : ReportValues) → AreReportWords other words → MatchOption found ⊥ (λ t. values_in_words t ≡ other)) → AreNoTask words → AreNoPlatform words
+    → AskOnly (ReportFixes (values_in_words told)) words
 of_report found told words is are that task platform =
     record { asks = is_told words found told is are; only = report_only found told words is that task platform }
 
 -- ---- nothing, or what memory was wanted for
 
 pub of_nothing : (found : Option ReportWords) (words : List (List ℕ)) → found ≡ None
-    → ((other : Told) → AreReportWords other words → MatchOption found ⊥ (λ t. told_of t ≡ other)) → AreNoTask words → AreNoPlatform words
+    → ((other : ReportValues) → AreReportWords other words → MatchOption found ⊥ (λ t. values_in_words t ≡ other)) → AreNoTask words → AreNoPlatform words
     → AskNothing words
 of_nothing found words is that task platform (Act other) asks = no_task_is words other task asks
 of_nothing found words is that task platform (ReportFixes told) asks = no_told found told is (that told asks)
@@ -78,7 +78,7 @@ pub nothing_alone : (read words : List (List ℕ)) → read ≡ words → AskNot
 nothing_alone read words is nothing =
     subst (λ (w : List (List ℕ)). AreNoTask w × AreNoReport w) is (none_of (task_of read) (λ task. nothing (Act task)), λ told. nothing (ReportFixes told))
 
-serve_no_report : (port sessions : ℕ) (told : Told) → ReportFixes told ≡ ServeLinks port sessions → ⊥
+serve_no_report : (port sessions : ℕ) (told : ReportValues) → ReportFixes told ≡ ServeLinks port sessions → ⊥
 serve_no_report port sessions told e = cc e
 
 pub serve_alone : (port sessions : ℕ) (read words : List (List ℕ)) → read ≡ words → AskOnly (ServeLinks port sessions) read → AreNoTask words × AreNoReport words

@@ -5,7 +5,7 @@ use Rattle.std.specs.Str.{bytes_eq}
 use Rattle.std.proofs.lemmas.Slice.Eq.{bytes_eq-Decides}
 use Rattle.jt_view.specs.declared.command.Encoding.TheVariants.{Hex}
 use Rattle.jt_words.specs.Platform.{PlatformWords as AreWords}
-use Rattle.jt_report_command.specs.ReportWords.{Told, AreWords as AreReportWords}
+use Rattle.jt_report_command.specs.ReportWords.{ReportValues, AreWords as AreReportWords}
 use Rattle.jt_cli.specs.Words.{task_named, task_of, telling}
 use Rattle.jt_cli.specs.declared.task.Task.{Task}
 
@@ -49,7 +49,7 @@ unfolding task_named telling
 platform_alone port sessions words are = by_first words are.options (codes "platform") are.command refl refl
 
 -- the words of `report` are those of no task
-pub report_alone : (told : Told) (words : List (List ℕ)) → AreReportWords told words → task_of words ≡ None
+pub report_alone : (told : ReportValues) (words : List (List ℕ)) → AreReportWords told words → task_of words ≡ None
 unfolding task_named telling
 report_alone told words are = by_first words are.words_are.options (codes "report") are.words_are.command refl refl
 
@@ -62,5 +62,5 @@ two_commands : (words first second : List (List ℕ)) → words ≡ codes "platf
 two_commands words first second is other = let letters = ap first_letter (sym is ∙ other) in omega (arith, letters)
 
 -- and not those of `platform`
-pub platform_or_report : (port sessions : ℕ) (told : Told) (words : List (List ℕ)) → AreWords port sessions words → AreReportWords told words → ⊥
+pub platform_or_report : (port sessions : ℕ) (told : ReportValues) (words : List (List ℕ)) → AreWords port sessions words → AreReportWords told words → ⊥
 platform_or_report port sessions told words are report = two_commands words are.options report.words_are.options are.command report.words_are.command

@@ -6,7 +6,7 @@ use Rattle.jt_outside.specs.Pool.{Pool}
 use Rattle.jt_platform.specs.History.{newest, tables_after}
 use Rattle.jt_platform_command.specs.Platform.{first_limit}
 use Rattle.jt_store.specs.Tables.{Tables}
-use Rattle.jt_report_command.specs.ReportWords.{Told, AreWords as AreReportWords}
+use Rattle.jt_report_command.specs.ReportWords.{ReportValues, AreWords as AreReportWords}
 use Rattle.jt_view.specs.declared.command.Command.{Command}
 use Rattle.jt_words.specs.Platform.{PlatformWords as AreWords}
 use Rattle.jt_input.specs.declared.status.Status.{Status}
@@ -58,7 +58,7 @@ module _ {S K D L C P V : Type 0} (eyes : Eyes S K D C P V) (O : Type 0) (pool :
   plays are = (ran.asked (Act Rehearse) (asks_of Rehearse words are)).acts
 
   -- ---- report, reported, unsent, vault_fault
-  pub reports : (told : Told) → AreReportWords told words → Reports eyes told old ended
+  pub reports : (told : ReportValues) → AreReportWords told words → Reports eyes told old ended
   reports told are = ran.asked (ReportFixes told) are
 
   -- ---- platform
@@ -69,14 +69,14 @@ module _ {S K D L C P V : Type 0} (eyes : Eyes S K D C P V) (O : Type 0) (pool :
 
   of_ask : {X : Type 0} (ask : Ask) → Asks ask words → Does eyes (Serves eyes O pool net_faults) ask old ended
       → ((task : Task) → task_of words ≡ Some task → Streams eyes task old ended → X)
-      → ((told : Told) → AreReportWords told words → Reports eyes told old ended → X)
+      → ((told : ReportValues) → AreReportWords told words → Reports eyes told old ended → X)
       → ((port sessions : ℕ) → AreWords port sessions words → Serves eyes O pool net_faults sessions old ended → X) → X
   of_ask (Act task) asks does t r s = t task asks does
   of_ask (ReportFixes told) asks does t r s = r told asks does
   of_ask (ServeLinks port sessions) asks does t r s = s port sessions asks does
 
   by_row : {X : Type 0} → ((task : Task) → task_of words ≡ Some task → Streams eyes task old ended → X)
-      → ((told : Told) → AreReportWords told words → Reports eyes told old ended → X)
+      → ((told : ReportValues) → AreReportWords told words → Reports eyes told old ended → X)
       → ((port sessions : ℕ) → AreWords port sessions words → Serves eyes O pool net_faults sessions old ended → X)
       → (Refuses eyes old ended → X) → X
   by_row t r s n = elim ran.one [
@@ -173,13 +173,13 @@ module _ {S K D L C P V : Type 0} (eyes : Eyes S K D C P V)
     (ran : Ran eyes (λ sessions. Refuses eyes) words old ended) where
   of_ask_alone : {X : Type 0} (ask : Ask) → Asks ask words → Does eyes (λ sessions. Refuses eyes) ask old ended
       → ((task : Task) → task_of words ≡ Some task → Streams eyes task old ended → X)
-      → ((told : Told) → AreReportWords told words → Reports eyes told old ended → X) → (Refuses eyes old ended → X) → X
+      → ((told : ReportValues) → AreReportWords told words → Reports eyes told old ended → X) → (Refuses eyes old ended → X) → X
   of_ask_alone (Act task) asks does t r n = t task asks does
   of_ask_alone (ReportFixes told) asks does t r n = r told asks does
   of_ask_alone (ServeLinks port sessions) asks does t r n = n does
 
   by_row_alone : {X : Type 0} → ((task : Task) → task_of words ≡ Some task → Streams eyes task old ended → X)
-      → ((told : Told) → AreReportWords told words → Reports eyes told old ended → X) → (Refuses eyes old ended → X) → X
+      → ((told : ReportValues) → AreReportWords told words → Reports eyes told old ended → X) → (Refuses eyes old ended → X) → X
   by_row_alone t r n = elim ran.one [
     | inl done ↦ of_ask_alone done.0 done.1 done.2 t r n
     | inr refuses ↦ n refuses

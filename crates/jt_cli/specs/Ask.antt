@@ -1,6 +1,6 @@
 -- What words ask of the program. To be believed.
 use Rattle.std.specs.Prelude.{◌≡◌, ℕ, List, Some}
-use Rattle.jt_report_command.specs.ReportWords.{Told, AreWords as AreReportWords}
+use Rattle.jt_report_command.specs.ReportWords.{ReportValues, AreWords as AreReportWords}
 use Rattle.jt_words.specs.Platform.{PlatformWords}
 use Rattle.jt_cli.specs.Words.{task_of}
 use Rattle.jt_cli.specs.declared.task.Task.{Task}
@@ -9,7 +9,7 @@ use Rattle.jt_cli.specs.declared.task.Task.{Task}
 -- serve, at a port and so many
 pub data Ask : Type 0 where
   Act : Task → Ask
-  ReportFixes : Told → Ask
+  ReportFixes : ReportValues → Ask
   ServeLinks : ℕ → ℕ → Ask
 
 -- the words after the program's name that ask this

@@ -7,7 +7,7 @@ use Rattle.jt_view.specs.declared.command.Report.TheVariants.{View, Check}
 use Rattle.jt_cli.specs.declared.task.Task.{Task}
 use Rattle.jt_cli.specs.declared.task.Task.TheVariants as tasks
 use Rattle.jt_words.specs.Platform.{PlatformWords}
-use Rattle.jt_report_command.specs.ReportWords.{Told, AreWords as AreReportWords}
+use Rattle.jt_report_command.specs.ReportWords.{ReportValues, AreWords as AreReportWords}
 
 -- ---- the words of tasks, a line each
 
@@ -43,4 +43,4 @@ AreNoPlatform words = (port sessions : ℕ) → PlatformWords port sessions word
 
 -- they are no words of `report`
 abbrev pub AreNoReport : List (List ℕ) → Type 0
-AreNoReport words = (told : Told) → AreReportWords told words → ⊥
+AreNoReport words = (told : ReportValues) → AreReportWords told words → ⊥

@@ -2,7 +2,7 @@
 
 ghost use Rattle.std.specs.Prelude.{◌≡◌, ◌≢◌, []};
 ghost use Rattle.jt_value.specs.Counts.{Rose};
-ghost use Rattle.jt_input.specs.Answer.{Answers};
+ghost use Rattle.jt_input.specs.Answer.{AnswersReply};
 ghost use Rattle.jt_cli.specs.Acting.{Acts};
 ghost use Rattle.jt_cli.specs.Running.{Refuses, Streams, eyes_of};
 ghost use Rattle.jt_cli.specs.Usage.{usage};
@@ -22,7 +22,7 @@ use std::alloc::Global;
 // Writes the usage line.
 #[tactic(auto, unfolding(crate::specs::Usage::usage))]
 fn write_usage<K: Sink>(alloc: Global, sink: &mut K) -> Status
-    ensures answer { Answers result usage (K.written sink.old) (K.written sink.new) }
+    ensures answer { AnswersReply result usage (K.written sink.old) (K.written sink.new) }
     ensures not_read_fault { result ≢ Status.ReadFault }
     ensures write_fault { result ≡ Status.WriteFault →
         Rose (K.faults sink.old) (K.faults sink.new) }

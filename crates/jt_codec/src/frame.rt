@@ -9,7 +9,7 @@ ghost use Rattle.jt_header.specs.declared.header.Header.{Header};
 ghost use Rattle.jt_codec.specs.Answer.{IsUnlessMemory};
 ghost use Rattle.jt_codec.specs.Frames as frames;
 ghost use Rattle.jt_codec.specs.Frames.{Frame, FrameAnswers, IsRefused};
-ghost use Rattle.jt_codec.specs.Parsing.{message_read, parsed};
+ghost use Rattle.jt_codec.specs.Parsing.{message_read, parse_of};
 ghost use Rattle.jt_codec.specs.declared.message.Message.{Message};
 
 use crate::body::read_body;
@@ -78,10 +78,10 @@ pub fn read_message(alloc: Global, header: &Header, body: &[u8]) -> Result<Messa
 }
 
 // What `parse_frame` answers, as a function of the content.
-#[tactic(auto, unfolding(crate::specs::Parsing::parsed))]
+#[tactic(auto, unfolding(crate::specs::Parsing::parse_of))]
 fn parse(alloc: Global, content: &[u8]) -> Result<(Header, Message), CodecError>
     requires { length content.now ≤ CONTENT_LIMIT }
-    ensures { IsUnlessMemory result (parsed content.now) }
+    ensures { IsUnlessMemory result (parse_of content.now) }
 {
     let (header, body) = read_header(content)?;
     let start = content.len() - 1 - body.len();
@@ -102,7 +102,7 @@ pub fn parse_frame(alloc: Global, content: &[u8]) -> Result<(Header, Message), C
     ensures every_refusal { (refusal : Refusal) → IsRefused content.now refusal
         → IsUnlessMemory result (Err refusal) }
     // The same as a function of the content.
-    ensures parsed { IsUnlessMemory result (parsed content.now) }
+    ensures parsed { IsUnlessMemory result (parse_of content.now) }
 {
     law_of_contents();
     parse(alloc, content)

@@ -21,7 +21,7 @@ abbrev pub IsSending : Line → List Up → ℕ → ℕ → Type 0
 IsSending line older place formed = (newer : List Up) × (all_up line ≡ newer ++ Sending place formed ∷ older)
 
 -- The units accepted are no more than the rows, and these no more than the units. The rows are the first units, with their numbers.
-pub record Counts (w : World) : Type 0 where
+pub record CountsInOrder (w : World) : Type 0 where
   pub accepted : w.accepted ≤ length w.keeper.rows
   pub stored : length w.keeper.rows ≤ length w.units
   pub first_units : w.keeper.rows ≡ take (length w.keeper.rows) w.units
@@ -73,7 +73,7 @@ pub record Window (w : World) : Type 0 where
   pub below : w.using ≡ true → (before behind : List Down) (place formed : ℕ) → (w.lines w.count).unread ≡ before ++ Acceptance place formed ∷ behind → number_at w.units place < past_accepted w.units w.accepted + UNIT_WINDOW
 
 pub record Parts (w : World) : Type 0 where
-  pub counts : Counts w
+  pub counts : CountsInOrder w
   pub numbers : Numbers w
   pub order : Order w
   pub closeness : Closeness w

@@ -5,7 +5,7 @@ ghost use Rattle.jt_value.specs.declared.refusal.Refusal.{Refusal};
 ghost use Rattle.jt_escape.specs.declared.splitter.Mode.TheVariants.{Outside, Straying, Inside, Escaping, Skipping};
 ghost use Rattle.jt_escape.specs.Span.{Ends, HasNoFlag, IsContent, refusal_at};
 ghost use Rattle.jt_escape.specs.Scan.{State, opening, passing, passing_all, keeping, keeping_all, gathering, standing, lending, after_in, after, events_in, events_of, end_in, IsPlain, Runs, RunsInPlace, StandsAtFront};
-ghost use Rattle.jt_escape.specs.Splitter.{StandsFor, Continues, Takes, TakesInPlace, IsSilent, IsSilentInPlace, told, lent, told_in_place};
+ghost use Rattle.jt_escape.specs.Splitter.{StandsFor, Continues, Takes, TakesInPlace, IsSilent, IsSilentInPlace, split_events, lent, split_events_in_place};
 
 use crate::framing::{ESCAPE, ESCAPE_CODE, FLAG, FLAG_CODE};
 use arrayvec::ArrayVec;
@@ -199,7 +199,7 @@ impl Splitter {
     fn take_inside(&mut self, octet: u8) -> Split
         requires { self.old.place < 2 ^ 63 }
         ensures next { self.new ≡ after_in Inside self.old octet }
-        ensures told { told result self.new ≡ events_in Inside self.old octet }
+        ensures told { split_events result self.new ≡ events_in Inside self.old octet }
     {
         let at = self.place;
         if octet == FLAG {
@@ -228,7 +228,7 @@ impl Splitter {
         requires place { self.old.place < 2 ^ 63 }
         requires mode { self.old.mode ≡ Escaping }
         ensures next { self.new ≡ after_in Escaping self.old octet }
-        ensures told { told result self.new ≡ events_in Escaping self.old octet }
+        ensures told { split_events result self.new ≡ events_in Escaping self.old octet }
     {
         let at = self.place;
         match octet {
@@ -255,7 +255,7 @@ impl Splitter {
     fn take_outside(&mut self, octet: u8) -> Split
         requires { self.old.place < 2 ^ 63 }
         ensures next { self.new ≡ after_in Outside self.old octet }
-        ensures told { told result self.new ≡ events_in Outside self.old octet }
+        ensures told { split_events result self.new ≡ events_in Outside self.old octet }
     {
         let at = self.place;
         if octet == FLAG {
@@ -272,7 +272,7 @@ impl Splitter {
     fn step(&mut self, octet: u8) -> Split
         requires { self.old.place < 2 ^ 63 }
         ensures next { self.new ≡ after self.old octet }
-        ensures told { told result self.new ≡ events_of self.old octet }
+        ensures told { split_events result self.new ≡ events_of self.old octet }
     {
         match self.mode {
             Mode::Outside => self.take_outside(octet),
@@ -513,7 +513,7 @@ impl Splitter {
         ensures within { (run ≤ result.0) × (result.0 ≤ length octets.now) }
         ensures place { self.new.place + run ≡ self.old.place + result.0 }
         ensures runs { (before : State) → Runs before self.old (take run octets.now) []
-            → Runs before self.new (take result.0 octets.now) (told result.1 self.new) }
+            → Runs before self.new (take result.0 octets.now) (split_events result.1 self.new) }
         ensures content { result.1 ≡ Split.Content → 0 < length self.new.content }
     {
         if run == octets.len() {
@@ -532,7 +532,7 @@ impl Splitter {
         ensures some { 0 < result.0 }
         ensures within { result.0 ≤ length octets.now }
         ensures place { self.new.place ≡ self.old.place + result.0 }
-        ensures runs { Runs self.old self.new (take result.0 octets.now) (told result.1 self.new) }
+        ensures runs { Runs self.old self.new (take result.0 octets.now) (split_events result.1 self.new) }
         ensures content { result.1 ≡ Split.Content → 0 < length self.new.content }
     {
         let run = self.keep_content(octets);
@@ -548,7 +548,7 @@ impl Splitter {
         ensures some { 0 < result.0 }
         ensures within { result.0 ≤ length octets.now }
         ensures place { self.new.place ≡ self.old.place + result.0 }
-        ensures runs { Runs self.old self.new (take result.0 octets.now) (told result.1 self.new) }
+        ensures runs { Runs self.old self.new (take result.0 octets.now) (split_events result.1 self.new) }
         ensures content { result.1 ≡ Split.Content → 0 < length self.new.content }
     {
         let run = self.pass_run(octets);
@@ -563,7 +563,7 @@ impl Splitter {
         ensures some { 0 < result.0 }
         ensures within { result.0 ≤ length octets.now }
         ensures place { self.new.place ≡ self.old.place + result.0 }
-        ensures runs { Runs self.old self.new (take result.0 octets.now) (told result.1 self.new) }
+        ensures runs { Runs self.old self.new (take result.0 octets.now) (split_events result.1 self.new) }
         ensures content { result.1 ≡ Split.Content → 0 < length self.new.content }
     {
         match self.mode {
@@ -578,7 +578,7 @@ impl Splitter {
         ensures within { result.0 ≤ length piece.now }
         ensures some { 0 < length piece.now → 0 < result.0 }
         ensures place { self.new.place ≡ self.old.place + result.0 }
-        ensures runs { Runs self.old self.new (take result.0 piece.now) (told result.1 self.new) }
+        ensures runs { Runs self.old self.new (take result.0 piece.now) (split_events result.1 self.new) }
         ensures more { result.1 ≡ Split.More → result.0 ≡ length piece.now }
         ensures content { result.1 ≡ Split.Content → 0 < length self.new.content }
     {
@@ -602,9 +602,9 @@ impl Splitter {
         ensures taken { result.0 ≤ length piece.now }
         ensures some { 0 < length piece.now → 0 < result.0 }
         ensures place { self.new.place ≡ self.old.place + result.0 }
-        ensures events { Takes self.old self.new (take result.0 piece.now) (told result.1 self.new) }
+        ensures events { Takes self.old self.new (take result.0 piece.now) (split_events result.1 self.new) }
         // The same also holds after `take_in_place`.
-        ensures in_place { TakesInPlace self.old self.new (take result.0 piece.now) (told result.1 self.new) }
+        ensures in_place { TakesInPlace self.old self.new (take result.0 piece.now) (split_events result.1 self.new) }
         ensures more { result.1 ≡ Split.More → result.0 ≡ length piece.now }
         // No octet past the first that completes something is taken.
         ensures first { (count : ℕ) → count < result.0 → IsSilent self.old (take count piece.now) }
@@ -648,7 +648,7 @@ impl Splitter {
         ensures some { taken < length piece.now → taken < result.0 }
         ensures place { self.new.place + taken ≡ self.old.place + result.0 }
         ensures runs { (before : State) → Runs before self.old (take taken piece.now) []
-            → RunsInPlace before self.new (take result.0 piece.now) (told_in_place result.1 self.new (take result.0 piece.now)) }
+            → RunsInPlace before self.new (take result.0 piece.now) (split_events_in_place result.1 self.new (take result.0 piece.now)) }
         ensures more { result.1 ≡ Split.More → result.0 ≡ length piece.now }
         ensures content { result.1 ≡ Split.Content → IsContent (lent self.new (take result.0 piece.now)) }
     {
@@ -670,7 +670,7 @@ impl Splitter {
         ensures within { (0 < result.0) × (result.0 ≤ length piece.now) }
         ensures place { self.new.place ≡ self.old.place + result.0 }
         ensures runs { RunsInPlace self.old self.new (take result.0 piece.now)
-            (told_in_place result.1 self.new (take result.0 piece.now)) }
+            (split_events_in_place result.1 self.new (take result.0 piece.now)) }
         ensures more { result.1 ≡ Split.More → result.0 ≡ length piece.now }
         ensures content { result.1 ≡ Split.Content → IsContent (lent self.new (take result.0 piece.now)) }
     {
@@ -690,7 +690,7 @@ impl Splitter {
         ensures within { (0 < result.0) × (result.0 ≤ length piece.now) }
         ensures place { self.new.place ≡ self.old.place + result.0 }
         ensures runs { RunsInPlace self.old self.new (take result.0 piece.now)
-            (told_in_place result.1 self.new (take result.0 piece.now)) }
+            (split_events_in_place result.1 self.new (take result.0 piece.now)) }
         ensures more { result.1 ≡ Split.More → result.0 ≡ length piece.now }
         ensures content { result.1 ≡ Split.Content → IsContent (lent self.new (take result.0 piece.now)) }
     {
@@ -712,7 +712,7 @@ impl Splitter {
         ensures some { 0 < length piece.now → 0 < result.0 }
         ensures place { self.new.place ≡ self.old.place + result.0 }
         ensures events { TakesInPlace self.old self.new (take result.0 piece.now)
-            (told_in_place result.1 self.new (take result.0 piece.now)) }
+            (split_events_in_place result.1 self.new (take result.0 piece.now)) }
         ensures more { result.1 ≡ Split.More → result.0 ≡ length piece.now }
         // No octet past the first that completes something is taken.
         ensures first { (count : ℕ) → count < result.0 → IsSilentInPlace self.old (take count piece.now) }
@@ -741,9 +741,9 @@ impl Splitter {
     pub fn push(&mut self, octet: u8) -> Split
         requires { self.old.place < 2 ^ 63 }
         ensures place { self.new.place ≡ self.old.place + 1 }
-        ensures events { Takes self.old self.new (octet ∷ []) (told result self.new) }
+        ensures events { Takes self.old self.new (octet ∷ []) (split_events result self.new) }
         // The same also holds after `take_in_place`.
-        ensures in_place { TakesInPlace self.old self.new (octet ∷ []) (told result self.new) }
+        ensures in_place { TakesInPlace self.old self.new (octet ∷ []) (split_events result self.new) }
         ensures content { result ≡ Split.Content → 0 < length self.new.content }
     {
         self.step(octet)

@@ -25,16 +25,16 @@ IsBegun held = 0 < length (begun_of held) → IsTrue (is_within (held.number + 1
 
 -- These octets were taken: whatever text the cutter stood for, it now stands for that text and then the octets, and to the
 -- lines of that text these were added.
-pub record Takes (old new : Held) (octets : List ℕ) (gained : List (List ℕ)) : Type 0 where
+pub record CutsOctets (old new : Held) (octets : List ℕ) (gained : List (List ℕ)) : Type 0 where
   pub cuts : (text : List ℕ) (lines : List (List ℕ)) → Cuts text lines (begun_of old)
       → Cuts (text ++ octets) (lines ++ gained) (begun_of new)
   pub number : new.number ≡ old.number + length gained
 
 -- the lines that an answer tells of the cutter that the call left
-abbrev pub told : Cut → Held → List (List ℕ)
-told cut.More held = []
-told cut.Line held = held.line ∷ []
-told cut.Bad held = []
+abbrev pub cut_lines : Cut → Held → List (List ℕ)
+cut_lines cut.More held = []
+cut_lines cut.Line held = held.line ∷ []
+cut_lines cut.Bad held = []
 
 -- Whatever text the cutter stands for, and whatever follows it and these octets: the line behind those that were told is
 -- beyond the limits.

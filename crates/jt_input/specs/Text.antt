@@ -17,12 +17,12 @@ AreLines [] = Unit {0}
 AreLines (line ∷ lines) = IsLine line × AreLines lines
 
 -- a line and the line feed behind it
-abbrev pub terminated : List ℕ → List ℕ
-terminated line = line ++ 0x0A ∷ []
+abbrev pub with_line_feed : List ℕ → List ℕ
+with_line_feed line = line ++ 0x0A ∷ []
 
 -- the text is these lines, each with its line feed, and what there is of one line more
 pub record Cuts (text : List ℕ) (lines : List (List ℕ)) (begun : List ℕ) : Type 0 where
-  pub whole : text ≡ flat_map terminated lines ++ begun
+  pub whole : text ≡ flat_map with_line_feed lines ++ begun
   pub each : AreLines lines
   pub unfinished : IsLine begun
 

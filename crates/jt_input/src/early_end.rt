@@ -2,7 +2,7 @@
 
 ghost use Rattle.std.specs.Prelude.{◌≡◌, ◌≢◌, ◌⊎◌, ◌++◌, string_bytes, OnOk};
 ghost use Rattle.jt_value.specs.Counts.{Rose};
-ghost use Rattle.jt_input.specs.Answer.{Answers, CutsShort};
+ghost use Rattle.jt_input.specs.Answer.{AnswersReply, CutsShort};
 ghost use Rattle.jt_input.specs.EarlyEnds.{early_reply, full_line, list_line};
 
 use crate::line_teller::push_bad_line;
@@ -71,7 +71,7 @@ impl EarlyEnd {
 /// Writes a text, all at once, and hands its status on, or WriteFault where a write failed. Want of memory is told whatever
 /// becomes of the write.
 pub fn write_reply<K: Sink>(sink: &mut K, text: &[u8], status: Status) -> Status
-    ensures answers { Answers result (record { text = text.now; status = status })
+    ensures answers { AnswersReply result (record { text = text.now; status = status })
         (K.written sink.old) (K.written sink.new) }
     ensures status { (result ≡ status) ⊎ (result ≡ Status.WriteFault) }
     ensures memory { status ≡ Status.Memory → result ≡ Status.Memory }
@@ -88,7 +88,7 @@ pub fn write_reply<K: Sink>(sink: &mut K, text: &[u8], status: Status) -> Status
 /// Writes the line that tells what ended a command early. WriteFault says that a write failed, Memory that there was none for
 /// the line; what was written then is the front of it.
 pub fn answer_early_end<K: Sink>(alloc: Global, sink: &mut K, end: EarlyEnd) -> Status
-    ensures answers { Answers result (early_reply end) (K.written sink.old) (K.written sink.new) }
+    ensures answers { AnswersReply result (early_reply end) (K.written sink.old) (K.written sink.new) }
     ensures status { (result ≡ (early_reply end).status) ⊎ CutsShort result }
     ensures write_fault { result ≡ Status.WriteFault → Rose (K.faults sink.old) (K.faults sink.new) }
     ensures no_read_fault { result ≢ Status.ReadFault }

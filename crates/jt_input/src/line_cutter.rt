@@ -2,7 +2,7 @@
 
 ghost use Rattle.std.specs.Prelude.{◌≡◌, ◌≤◌, ◌<◌, ◌+◌, ◌++◌, [], ◌∷◌, List, ℕ, length, take, true, false, IsTrue, IfSome, ◌==◌, position, option_to_list, option_copied};
 ghost use Rattle.jt_input.specs.Text.{Cuts, lines_of, is_within};
-ghost use Rattle.jt_input.specs.Cutter.{Takes, IsBegun, IsBeyond, begun_of, room_of, told};
+ghost use Rattle.jt_input.specs.Cutter.{CutsOctets, IsBegun, IsBeyond, begun_of, room_of, cut_lines};
 
 use arrayvec::ArrayVec;
 use std::marker::Model;
@@ -99,7 +99,7 @@ impl LineCutter {
     /// were taken and end none, or `Bad` where the next line is beyond the limits; then none was taken.
     pub fn take(&mut self, piece: &[u8]) -> (usize, Cut)
         ensures taken { result.0 ≤ length piece.now }
-        ensures takes { Takes self.old self.new (take result.0 piece.now) (told result.1 self.new) }
+        ensures takes { CutsOctets self.old self.new (take result.0 piece.now) (cut_lines result.1 self.new) }
         ensures more { result.1 ≡ Cut.More → result.0 ≡ length piece.now }
         ensures room { room_of self.new + result.0 ≤ room_of self.old }
         ensures line { result.1 ≡ Cut.Line → (0 < result.0) × IsTrue (is_within self.new.number self.new.line) }

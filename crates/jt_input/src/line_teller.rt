@@ -3,7 +3,7 @@
 ghost use Rattle.std.specs.Prelude.{◌≡◌, ◌⊎◌, ◌<◌, ◌≤◌, ◌+◌, ◌++◌, ◌^◌, ℕ, List, [], Some, None, Option, length, string_bytes, IfOk, IfSome, OnOk};
 ghost use Rattle.jt_input.specs.Cutter.{room_of};
 ghost use Rattle.jt_input.specs.Answer.{EndsEarly};
-ghost use Rattle.jt_input.specs.Telling.{Takes, Ends};
+ghost use Rattle.jt_input.specs.Telling.{TakesPiece, Ends};
 ghost use Rattle.jt_input.specs.Lines.{answer_of, bad_line, HasHeard, HasClosed};
 ghost use Rattle.jt_input.specs.LineSteps.{Steps};
 

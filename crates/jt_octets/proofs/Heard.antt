@@ -15,8 +15,8 @@ use Rattle.jt_terminal_rule.specs.Rule.{Heard}
 use Rattle.jt_terminal_rule.specs.Steps.{TerminalStep, writes}
 use Rattle.jt_terminal_rule.specs.Steps as step
 use Rattle.jt_delivery.specs.World.{Setting}
-use Rattle.jt_octets.specs.World.{World, Line, completed, empty, line_at, moved, new_line, newest, newest_place, taken_of, written}
-use Rattle.jt_octets.specs.Steps.{Event, Does, Up, Down, Cut, RestartPlatform, MayCome, MayGoOn, MayRead, after, after_read, after_step, after_take, line_behind, shut, talked, writing}
+use Rattle.jt_octets.specs.World.{World, Line, completed_item, empty, line_at, with_one_taken, new_line, newest, newest_place, taken_of, written}
+use Rattle.jt_octets.specs.Steps.{Event, Does, Up, Down, Cut, RestartPlatform, MayCome, MayGoOn, MayRead, after, after_read, after_step, after_take, line_behind, shut, talk_after_item, writing}
 use Rattle.jt_value.specs.Reaching.{MayAll, after_all}
 use Rattle.jt_octets.specs.Reaching.{Reached}
 use Rattle.jt_octets.specs.Claim.{EachReachedHears, heard_along, heard_at, heard_by, heard_of, heard_on}
@@ -91,12 +91,12 @@ line_heard w place = heard_of [] (items (taken_of (line_at w.lines place).down))
 unheard : (old now : World) (place : ℕ) → taken_of (line_at now.lines place).down ≡ taken_of (line_at old.lines place).down → line_heard old place ++ [] ≡ line_heard now place
 unheard old now place same = append-nil (line_heard old place) ∙ ap (λ (octets : List ℕ). heard_of [] (items octets)) (sym same)
 
-take_heard : (w : World) (place : ℕ) (way : Way) → IsExact w → place < length w.lines → (o : Option State) → MayGoOn w place o (completed (line_at w.lines place).up) way → (q : ℕ)
-    → line_heard w q ++ [] ≡ line_heard (after_take w place o (completed (line_at w.lines place).up) way) q
+take_heard : (w : World) (place : ℕ) (way : Way) → IsExact w → place < length w.lines → (o : Option State) → MayGoOn w place o (completed_item (line_at w.lines place).up) way → (q : ℕ)
+    → line_heard w q ++ [] ≡ line_heard (after_take w place o (completed_item (line_at w.lines place).up) way) q
 take_heard w place way e lt None goes q = absurd goes
 take_heard w place way e lt (Some s) goes q =
-    let k = talked s (completed (line_at w.lines place).up) way in
-    unheard w (after_take w place (Some s) (completed (line_at w.lines place).up) way) q
+    let k = talk_after_item s (completed_item (line_at w.lines place).up) way in
+    unheard w (after_take w place (Some s) (completed_item (line_at w.lines place).up) way) q
     (put_taken w.lines place (line_behind (line_at w.lines place) k) (taken_same (line_at w.lines place).down k.written (e.each place lt).down_within) q)
 
 module _ (w : World) (takes : Bool) (e : IsExact w) (may : MayRead w takes) where
@@ -104,7 +104,7 @@ module _ (w : World) (takes : Bool) (e : IsExact w) (may : MayRead w takes) wher
   n = newest_place w.lines
 
   abbrev x : Line
-  x = record (newest w) { down = moved (newest w).down }
+  x = record (newest w) { down = with_one_taken (newest w).down }
 
   read_own : (item : Option Unplaced) → Behind (newest w).down item → line_heard w n ++ heard_on (heard_by w item) n ≡ heard_of [] (items (taken_of x.down))
   read_own None behind = append-nil (line_heard w n) ∙ ap (heard_of []) (sym behind)
@@ -128,7 +128,7 @@ module _ (w : World) (takes : Bool) (e : IsExact w) (may : MayRead w takes) wher
 one_heard : StreamLaws → (w : World) (event : Event) → IsExact w → MayCome w event → (place : ℕ) → line_heard w place ++ heard_on (heard_at w event) place ≡ line_heard (after w event) place
 one_heard laws w (Does s) e may place = unheard w (after_step w s) place (does_taken w s place)
 one_heard laws w (Up at way) e may place = take_heard w at way e may.opened (line_at w.lines at).session may.goes place
-one_heard laws w (Down takes) e may place = read_heard w takes e may (completed (newest w).down) (one_behind laws (newest w).down may.left) place (cases_eq place (newest_place w.lines))
+one_heard laws w (Down takes) e may place = read_heard w takes e may (completed_item (newest w).down) (one_behind laws (newest w).down may.left) place (cases_eq place (newest_place w.lines))
 one_heard laws w (Cut at) e may place = unheard w (after w (Cut at)) place (put_taken w.lines at (shut (line_at w.lines at)) refl place)
 one_heard laws w RestartPlatform e may place = unheard w (after w RestartPlatform) place (shut_taken w.lines place)
 

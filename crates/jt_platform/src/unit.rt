@@ -2,7 +2,7 @@
 
 ghost use Rattle.std.specs.Prelude.{◌≡◌, ◌↔◌, IsTrue};
 ghost use Rattle.jt_value.specs.Sameness.{key_of};
-ghost use Rattle.jt_store.specs.Tables.{Told, MayAppend, Reads, HasCause, IsSteady, last_of};
+ghost use Rattle.jt_store.specs.Tables.{WhereKnown, MayAppend, Reads, HasCause, IsSteady, last_of};
 ghost use Rattle.jt_platform.specs.Calls.{reply_to, StoreDone, UnitDone, IsThere};
 ghost use Rattle.jt_platform.specs.Hub.{HasReason};
 
@@ -29,7 +29,7 @@ fn is_same_row(row: &Row, id: u16, body: &[u8]) -> bool
 }
 
 fn append<P: Keeper>(alloc: Global, keeper: &mut P, phone: &Phone, row: &Row, anew: bool) -> Reply
-    requires may { Told (P.tables keeper.old) (λ t. MayAppend (last_of (t.rows (key_of phone.now))) row.now.number) }
+    requires may { WhereKnown (P.tables keeper.old) (λ t. MayAppend (last_of (t.rows (key_of phone.now))) row.now.number) }
     ensures done { StoreDone (P.tables keeper.old) (P.tables keeper.new) (P.limit keeper.old) (key_of phone.now) row.now anew result }
     ensures limit { P.limit keeper.new ≡ P.limit keeper.old }
     ensures reason { HasReason (P.faults keeper.old) (P.faults keeper.new) (P.may_fail keeper.old) (P.may_fail keeper.new) result }
@@ -54,7 +54,7 @@ fn store<P: Keeper>(
     body: &mut Octets,
     anew: bool,
 ) -> Reply
-    requires may { Told (P.tables keeper.old) (λ t. MayAppend (last_of (t.rows (key_of phone.now))) number) }
+    requires may { WhereKnown (P.tables keeper.old) (λ t. MayAppend (last_of (t.rows (key_of phone.now))) number) }
     ensures done { StoreDone (P.tables keeper.old) (P.tables keeper.new) (P.limit keeper.old) (key_of phone.now) (record { number = number; id = id; body = body.old }) anew result }
     ensures body { body.new ≡ body.old }
     ensures limit { P.limit keeper.new ≡ P.limit keeper.old }

@@ -2,7 +2,7 @@
 
 ghost use Rattle.std.specs.Prelude.{◌≡◌, ◌≢◌, ◌⊎◌, ◌++◌, string_bytes, OnOk, if◌then◌else◌};
 ghost use Rattle.jt_value.specs.Counts.{Rose};
-ghost use Rattle.jt_input.specs.Answer.{Answers, IsFault};
+ghost use Rattle.jt_input.specs.Answer.{AnswersReply, IsFault};
 ghost use Rattle.jt_input.specs.declared.status.Status.TheVariants.{Memory};
 ghost use Rattle.jt_platform_command.specs.Platform.{Served, is_memory, last_reply, platform_text, some_end};
 ghost use Rattle.jt_platform_command.specs.Running.{EndsOf};
@@ -38,7 +38,7 @@ pub(crate) fn tell_served<K: Sink>(
     reports: &[Report],
     history: &[Entry],
 ) -> Status
-    ensures answers { Answers result (platform_text (Served end reports.now history.now)) (K.written sink.old) (K.written sink.new) }
+    ensures answers { AnswersReply result (platform_text (Served end reports.now history.now)) (K.written sink.old) (K.written sink.new) }
     ensures status { (result ≡ (if some_end is_memory reports.now then Memory else (last_reply end reports.now).status)) ⊎ IsFault result }
     ensures write_fault { result ≡ Status.WriteFault → Rose (K.faults sink.old) (K.faults sink.new) }
     ensures no_read_fault { result ≢ Status.ReadFault }

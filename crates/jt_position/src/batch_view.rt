@@ -64,11 +64,11 @@ impl<'a> Positions<'a> {
 
 impl<'a> Iterator for Positions<'a> {
     ghost use Rattle.std.specs.Iterator.{YieldsFirstBy, item_count};
-    ghost use Rattle.jt_position.specs.BatchViews.{viewed_position};
+    ghost use Rattle.jt_position.specs.BatchViews.{position_in_view};
 
     type Item = PositionView<'a>;
 
-    ghost next_gives = { YieldsFirstBy viewed_position (λ left. left) };
+    ghost next_gives = { YieldsFirstBy position_in_view (λ left. left) };
 
     ghost remaining = { item_count (λ left. left) };
 

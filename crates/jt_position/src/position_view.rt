@@ -63,11 +63,11 @@ impl<'a> Items<'a> {
 
 impl<'a> Iterator for Items<'a> {
     ghost use Rattle.std.specs.Iterator.{YieldsFirstBy, item_count};
-    ghost use Rattle.jt_position.specs.Views.{owned};
+    ghost use Rattle.jt_position.specs.Views.{item_in_view};
 
     type Item = ItemView<'a>;
 
-    ghost next_gives = { YieldsFirstBy owned (λ left. left) };
+    ghost next_gives = { YieldsFirstBy item_in_view (λ left. left) };
 
     ghost remaining = { item_count (λ left. left) };
 

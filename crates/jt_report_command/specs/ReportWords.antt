@@ -29,7 +29,7 @@ pub record AreWritten (written : Written) (words : List (List ℕ)) : Type 0 whe
   pub edition : values_of (codes "edition") options ≡ option_to_list written.edition
 
 -- what `report` is told
-pub record Told : Type 0 where
+pub record ReportValues : Type 0 where
   pub host : List ℕ
   pub port : ℕ
   pub phone : Phone
@@ -38,7 +38,7 @@ pub record Told : Type 0 where
   pub tries : ℕ
 
 -- What the values tell. Numbers are written in decimal digits, without a sign and without a leading zero.
-pub record Tells (written : Written) (told : Told) : Type 0 where
+pub record TellsWords (written : Written) (told : ReportValues) : Type 0 where
   pub host : (written.host ≡ told.host) × IsTrue (is_host told.host)
   pub port : (written.port ≡ decimal told.port) × (1 ≤ told.port) × (told.port ≤ PORT_LIMIT)
   pub edition : edition_in written.edition ≡ Some told.phone.edition
@@ -54,7 +54,7 @@ pub record AreCommand (written : Written) (words : List (List ℕ)) : Type 0 whe
   pub values : AreWritten written options
 
 -- the words of `report` that tell this
-pub record AreWords (told : Told) (words : List (List ℕ)) : Type 0 where
+pub record AreWords (told : ReportValues) (words : List (List ℕ)) : Type 0 where
   pub written : Written
   pub words_are : AreCommand written words
-  pub tells : Tells written told
+  pub tells : TellsWords written told

@@ -2,15 +2,15 @@
 use Rattle.std.specs.Prelude.{◌≡◌, ◌≤◌, Some, string_bytes, option_copied}
 use Rattle.std.specs.Fmt.{decimal}
 use Rattle.jt_value.specs.declared.limits.TheConstants.{PORT_LIMIT}
-use Rattle.jt_report_command.specs.ReportWords.{Told, Written as WrittenAs}
+use Rattle.jt_report_command.specs.ReportWords.{ReportValues, Written as WrittenAs}
 use Rattle.jt_report_command.specs.Values.{edition_in, phone_in}
 use Rattle.jt_report_command.specs.declared.report_words.ReportWords.{ReportWords}
 use Rattle.jt_report_command.specs.declared.report_words.Written.{Written}
 use Rattle.jt_report_command.specs.declared.report_words.Plain.{Plain}
 
 -- what the answer tells
-abbrev pub told_of : ReportWords → Told
-told_of words = record { host = string_bytes words.host; port = words.port; phone = words.phone; plate = words.plate; terminal = words.terminal; tries = words.tries }
+abbrev pub values_in_words : ReportWords → ReportValues
+values_in_words words = record { host = string_bytes words.host; port = words.port; phone = words.phone; plate = words.plate; terminal = words.terminal; tries = words.tries }
 
 -- the values as lists of octets
 abbrev pub written_of : Written → WrittenAs

@@ -1,8 +1,8 @@
 //! The words of `report`.
 
 ghost use Rattle.std.specs.Prelude.{◌≡◌, map, string_bytes, Some, IfOk, IfSome, MatchOption};
-ghost use Rattle.jt_report_command.specs.ReportWords.{AreCommand, AreWords, AreWritten, Tells, Told, Written as WrittenAs};
-ghost use Rattle.jt_report_command.specs.Telling.{told_of, written_of, TellsPlain};
+ghost use Rattle.jt_report_command.specs.ReportWords.{AreCommand, AreWords, AreWritten, TellsWords, ReportValues, Written as WrittenAs};
+ghost use Rattle.jt_report_command.specs.Telling.{values_in_words, written_of, TellsPlain};
 ghost use Rattle.jt_report_command.specs.Values.{terminal_most as most_of_terminal};
 ghost use Rattle.jt_report_command.specs.declared.report_words.Plain.{Plain as PlainValues};
 
@@ -108,9 +108,9 @@ fn plain_values(written: &Written) -> Option<Plain>
 
 // What the values tell.
 fn tell(alloc: Global, written: &Written) -> Result<Option<ReportWords>, Memory>
-    ensures told { IfOk result (λ found. IfSome found (λ told. Tells (written_of written.now) (told_of told))) }
-    ensures that_one { (told : Told) → Tells (written_of written.now) told →
-        IfOk result (λ found. MatchOption found ⊥ (λ found. told_of found ≡ told)) }
+    ensures told { IfOk result (λ found. IfSome found (λ told. TellsWords (written_of written.now) (values_in_words told))) }
+    ensures that_one { (told : ReportValues) → TellsWords (written_of written.now) told →
+        IfOk result (λ found. MatchOption found ⊥ (λ found. values_in_words found ≡ told)) }
 {
     let Some(Plain { port, phone, tries }) = plain_values(written) else {
         return Ok(None);
@@ -137,9 +137,9 @@ fn tell(alloc: Global, written: &Written) -> Result<Option<ReportWords>, Memory>
 impl ReportWords {
     /// Reads the words after the program's name. None means that they are no words of `report`.
     pub fn from_words(alloc: Global, words: &[String]) -> Result<Option<ReportWords>, Memory>
-        ensures told { IfOk result (λ found. IfSome found (λ told. AreWords (told_of told) (map string_bytes words.now))) }
-        ensures that_one { (told : Told) → AreWords told (map string_bytes words.now) →
-            IfOk result (λ found. MatchOption found ⊥ (λ found. told_of found ≡ told)) }
+        ensures told { IfOk result (λ found. IfSome found (λ told. AreWords (values_in_words told) (map string_bytes words.now))) }
+        ensures that_one { (told : ReportValues) → AreWords told (map string_bytes words.now) →
+            IfOk result (λ found. MatchOption found ⊥ (λ found. values_in_words found ≡ told)) }
     {
         match values_in(words) {
             Some(written) => tell(alloc, &written),

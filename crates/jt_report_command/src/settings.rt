@@ -7,7 +7,7 @@ ghost use Rattle.jt_register.specs.Registration.{maker_len, model_len, register,
 ghost use Rattle.jt_terminal_rule.specs.Messages.{AreSettings};
 ghost use Rattle.jt_terminal_rule.specs.Tails.{IsTail};
 ghost use Rattle.jt_value.specs.Octets.{AreOctets};
-ghost use Rattle.jt_report_command.specs.Settings.{filled, register_of, settings_of, tail_of, zeros as zero_octets};
+ghost use Rattle.jt_report_command.specs.Settings.{zero_filled, register_of, settings_of, tail_of, zeros as zero_octets};
 
 use jt_layout::octets_fit;
 use jt_register::{AuthTail, Register};
@@ -52,7 +52,7 @@ fn zeros(alloc: Global, count: usize) -> Result<Octets, Memory>
 // These octets, filled with zero octets up to so many.
 fn fill(alloc: Global, octets: Octets, count: usize) -> Result<Octets, Memory>
     requires { length octets ≤ count }
-    ensures are { IfOk result (λ full. full ≡ filled count octets) }
+    ensures are { IfOk result (λ full. full ≡ zero_filled count octets) }
     ensures fit { IfOk result (λ full. AreOctets full × (length full ≡ count)) }
 {
     let missing = count.saturating_sub(octets.len());

@@ -2,7 +2,7 @@
 
 ghost use Rattle.std.specs.Prelude.{◌≡◌, ◌⊎◌};
 ghost use Rattle.jt_value.specs.Counts.{Rose};
-ghost use Rattle.jt_input.specs.Answer.{Answers, CutsShort};
+ghost use Rattle.jt_input.specs.Answer.{AnswersReply, CutsShort};
 ghost use Rattle.jt_report_command.specs.Came.{BadLine, Reported, report_text};
 ghost use Rattle.jt_report_command.specs.Report.{outcome_reply};
 
@@ -21,7 +21,7 @@ pub(crate) fn tell_bad_line<K: Sink>(
     number: u64,
     said: &FixLine,
 ) -> Status
-    ensures answers { Answers result (report_text (BadLine number said.now)) (K.written sink.old) (K.written sink.new) }
+    ensures answers { AnswersReply result (report_text (BadLine number said.now)) (K.written sink.old) (K.written sink.new) }
     ensures status { (result ≡ Status.Refused) ⊎ CutsShort result }
     ensures write_fault { result ≡ Status.WriteFault → Rose (K.faults sink.old) (K.faults sink.new) }
 {
@@ -41,7 +41,7 @@ pub(crate) fn tell_outcome<K: Sink>(
     accepted: u64,
     recorded: u64,
 ) -> Status
-    ensures answers { Answers result (report_text (Reported outcome.now accepted recorded)) (K.written sink.old) (K.written sink.new) }
+    ensures answers { AnswersReply result (report_text (Reported outcome.now accepted recorded)) (K.written sink.old) (K.written sink.new) }
     ensures status { (result ≡ (outcome_reply outcome.now accepted recorded).status) ⊎ CutsShort result }
     ensures write_fault { result ≡ Status.WriteFault → Rose (K.faults sink.old) (K.faults sink.new) }
 {

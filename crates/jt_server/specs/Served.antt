@@ -9,7 +9,7 @@ use Rattle.jt_value.specs.declared.phone.Phone.{Phone}
 use Rattle.jt_value.specs.Counts.{Rose}
 use Rattle.jt_outside.specs.Link.{Wire}
 use Rattle.jt_outside.specs.Pool.{Pool, Script, Used, used_of, IsNew}
-use Rattle.jt_store.specs.Tables.{Told}
+use Rattle.jt_store.specs.Tables.{WhereKnown}
 use Rattle.jt_turn.specs.Histories.{entries_of}
 use Rattle.jt_turn.specs.Passes.{PassState}
 use Rattle.jt_platform.specs.Allowed.{Opening}
@@ -36,7 +36,7 @@ pub record IsFullAfter (o : Opening) (h : List Entry) (q : Option Request) (l : 
   pub octets : List ℕ
   pub asked : q ≡ Some (ask.Unit phone serial id octets)
   pub limit : l ≡ o.limit
-  pub rows : Told (tables_after o.tables (newest h)) (λ t. length (t.rows (key_of phone)) ≡ l)
+  pub rows : WhereKnown (tables_after o.tables (newest h)) (λ t. length (t.rows (key_of phone)) ≡ l)
 
 -- A link that came so was served under this number, and came back so. The history's entries of the number are those of the pass that
 -- served it, and where the report's end is ListFull the phone has as many rows as it may have after the whole history.

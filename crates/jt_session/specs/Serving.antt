@@ -55,7 +55,7 @@ AnswersEnd count said fed before now None = (fed ≡ On) × (count ≡ length sa
 AnswersEnd count said fed before now (Some end) = ((end ≡ ends.LinkFault) × Rose before now) ⊎ ((fed ≡ Stop end) × (count ≡ length said))
 
 -- the session heard the octets, and so many octets of the answers were written
-pub record Answers {O : Type 0} (o : Option Opening) (s now : Seen) (octets : List ℕ) (pass pass_now : PassState Request Reply O) (link link_now : Wire) (count : ℕ) (end : Option End) : Type 0 where
+pub record AnswersRead {O : Type 0} (o : Option Opening) (s now : Seen) (octets : List ℕ) (pass pass_now : PassState Request Reply O) (link link_now : Wire) (count : ℕ) (end : Option End) : Type 0 where
   pub said : List ℕ
   pub fed : Fed
   pub hears : Hears o s now octets pass pass_now [] said fed

@@ -10,9 +10,9 @@ ghost use Rattle.jt_layout.specs.Layout.{word};
 ghost use Rattle.jt_codec.specs.Resend.{count as count_part};
 ghost use Rattle.jt_stream.specs.Unplaced.{Message as Frame};
 ghost use Rattle.jt_subpacket.specs.Fates.{taken_by};
-ghost use Rattle.jt_session.specs.Talk.{answers_packet, asked_by, first_phone, frame_said, message_of, one_if, quiet_own, reads_on, refuses, stopped};
+ghost use Rattle.jt_session.specs.Talk.{answers_packet, asked_by, first_phone, frame_said, message_of, one_if, own_turn_without_request, reads_on, refuses, state_at_want};
 ghost use Rattle.jt_session.specs.Talk as talk;
-ghost use Rattle.jt_session.specs.Reading.{AreBelow, CameTo, FrameCame, IsOneMore, OctetsCame, joined, takes_in};
+ghost use Rattle.jt_session.specs.Reading.{AreBelow, CameTo, FrameCame, IsOneMore, OctetsCame, whole_message, takes_in};
 
 use crate::kept::Kept;
 use crate::request::request_of;
@@ -162,7 +162,7 @@ impl Kept {
         requires some { IsSome header.now.packet }
         requires short { length body.now ≤ BODY_LIMIT }
         requires room { FRAME_LIMIT ≤ out.old.spare }
-        ensures came { CameTo (asked_by (joined self.old header.now body.now)) (joined self.old header.now body.now) (takes_in self.old header.now body.now) (answers_packet (takes_in self.old header.now body.now) header.now (taken_by self.old.partial header.now body.now).fate) self.old self.new out.old.items out.new.items out.new.spare result }
+        ensures came { CameTo (asked_by (whole_message self.old header.now body.now)) (whole_message self.old header.now body.now) (takes_in self.old header.now body.now) (answers_packet (takes_in self.old header.now body.now) header.now (taken_by self.old.partial header.now body.now).fate) self.old self.new out.old.items out.new.items out.new.spare result }
         ensures few { IsOneMore (record self.old { frames = self.new.frames }) self.new }
         ensures frames { self.new.frames ≡ self.old.frames }
         ensures bound { length out.new.items ≤ length out.old.items + FRAME_LIMIT }
@@ -211,7 +211,7 @@ impl Kept {
         requires header { IsHeader header.now }
         requires short { length body.now ≤ BODY_LIMIT }
         requires room { FRAME_LIMIT ≤ out.old.spare }
-        ensures came { CameTo (asked_by (message_of self.old header.now body.now header.now.packet)) (message_of self.old header.now body.now header.now.packet) (reads_on self.old header.now body.now header.now.packet) (quiet_own self.old header.now body.now header.now.packet) (stopped self.old (Frame header.now body.now)) self.new out.old.items out.new.items out.new.spare result }
+        ensures came { CameTo (asked_by (message_of self.old header.now body.now header.now.packet)) (message_of self.old header.now body.now header.now.packet) (reads_on self.old header.now body.now header.now.packet) (own_turn_without_request self.old header.now body.now header.now.packet) (state_at_want self.old (Frame header.now body.now)) self.new out.old.items out.new.items out.new.spare result }
         ensures few { IsOneMore self.old self.new }
         ensures bound { length out.new.items ≤ length out.old.items + FRAME_LIMIT }
     {

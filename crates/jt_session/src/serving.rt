@@ -7,7 +7,7 @@ ghost use Rattle.jt_outside.specs.Link.{wire_of};
 ghost use Rattle.jt_platform.specs.Hub.{opening_of};
 ghost use Rattle.jt_session.specs.TurnLaw.{IsNew};
 ghost use Rattle.jt_session.specs.Hearing.{IsSamePass};
-ghost use Rattle.jt_session.specs.Serving.{Answers, Converses, Serves, ServesUpTo};
+ghost use Rattle.jt_session.specs.Serving.{AnswersRead, Converses, Serves, ServesUpTo};
 
 use crate::counts::Counts;
 use crate::end::{End, Fed};
@@ -51,7 +51,7 @@ fn answer<R: Wait, K: Link, P: Keeper>(
     requires waits { session.old.waiting ≡ None }
     requires on { session.old.over ≡ false }
     requires short { session.old.stream.place + length octets.now < 2 ^ 63 }
-    ensures answers { Answers (option_map (λ o. opening_of (P.tables o.start) (P.limit o.start) o.fleet o.secret) pass.old.opening) session.old session.new octets.now pass.old pass.new (wire_of K.inbound K.written K.faults link.old) (wire_of K.inbound K.written K.faults link.new) result.0 result.1 }
+    ensures answers { AnswersRead (option_map (λ o. opening_of (P.tables o.start) (P.limit o.start) o.fleet o.secret) pass.old.opening) session.old session.new octets.now pass.old pass.new (wire_of K.inbound K.written K.faults link.old) (wire_of K.inbound K.written K.faults link.new) result.0 result.1 }
     ensures same { IsSamePass pass.old pass.new }
     ensures on { result.1 ≡ None → session.new.over ≡ false }
     ensures waiting { session.new.waiting ≡ None }

@@ -6,7 +6,7 @@ ghost use Rattle.jt_escape.specs.Splitter.{StandsFor};
 ghost use Rattle.jt_session.specs.Talk.{start};
 ghost use Rattle.jt_session.specs.Replies.{HasRoomFor};
 ghost use Rattle.jt_session.specs.Sessions as sessions;
-ghost use Rattle.jt_session.specs.Sessions.{HasRoom, IsRepliedTo, LedTo, Takes, counts};
+ghost use Rattle.jt_session.specs.Sessions.{HasRoom, IsRepliedTo, LedTo, TakesUnasked, counts};
 ghost use Rattle.jt_session.specs.Steps.{GoesOn};
 ghost use Rattle.jt_session.specs.Waiting.{ends_by};
 
@@ -53,7 +53,7 @@ impl Model for Session {
 }
 
 fn fed_by(reply: &Reply) -> Fed
-    ensures { result ≡ sessions.fed_by reply.now }
+    ensures { result ≡ sessions.feed_end reply.now }
 {
     match reply {
         Reply::Fenced(other) => Fed::Stop(End::Fenced(*other)),
@@ -163,7 +163,7 @@ impl Session {
         ensures more { result.1 ≡ Step.More → result.0 ≡ length octets.now }
         ensures place { self.new.stream.place ≡ self.old.stream.place + result.0 }
         // What was taken, asked of the items before and written.
-        ensures turns { Takes self.old self.new (take result.0 octets.now) out.old.items out.new.items }
+        ensures turns { TakesUnasked self.old self.new (take result.0 octets.now) out.old.items out.new.items }
         ensures led { LedTo self.new result.1 }
         ensures room { HasRoom out.new.spare result.1 }
         ensures bound { length out.new.items ≤ length out.old.items + FRAME_LIMIT * result.0 }
@@ -189,7 +189,7 @@ impl Session {
         requires on { self.old.over ≡ false }
         requires room { FRAME_LIMIT ≤ out.old.spare }
         requires code { HasRoomFor reply.now }
-        ensures fed { result ≡ sessions.fed_by reply.now }
+        ensures fed { result ≡ sessions.feed_end reply.now }
         ensures turn { IfSome self.old.waiting (IsRepliedTo self.old self.new reply.now out.old.items out.new.items) }
         ensures on { (result ≡ Fed.On) ↔ (self.new.over ≡ false) }
         ensures waiting { self.new.waiting ≡ None }

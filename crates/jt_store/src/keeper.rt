@@ -3,7 +3,7 @@
 ghost use Rattle.std.specs.Prelude.{◌≡◌, ◌<◌, ◌≤◌, ◌^◌, ℕ, Bool, None, Some, Option, IfOk, IfSome, OnOk};
 ghost use Rattle.jt_value.specs.declared.limits.TheConstants.{ROW_LIMIT};
 ghost use Rattle.jt_value.specs.Sameness.{key_of};
-ghost use Rattle.jt_store.specs.Tables.{Tables, Told, IsTrimmed, MayRegister, MayAppend, AreRows, AreNamedOnce, last_of, Finds, FindsFrom, plates, terminals, IsOwner, row_added, registered_set, Reads, Writes, Appends, HasCause, IsSteady};
+ghost use Rattle.jt_store.specs.Tables.{Tables, WhereKnown, IsTrimmed, MayRegister, MayAppend, AreRows, AreNamedOnce, last_of, Finds, FindsFrom, plates, terminals, IsOwner, row_added, registered_set, Reads, Writes, Appends, HasCause, IsSteady};
 
 use crate::error::StoreError;
 use crate::row::{Registered, Row};
@@ -30,7 +30,7 @@ pub trait Keeper {
     /// What the phone is registered with. None exactly where it is not registered.
     fn registered(&mut self, alloc: Global, phone: &Phone) -> Result<Option<Registered>, StoreError>
         ensures answer { Reads (tables self.old) (tables self.new) (λ t found. found ≡ t.registered (key_of phone.now)) result }
-        ensures names { OnOk result (Told (tables self.old) (λ t. AreNamedOnce t.registered)) }
+        ensures names { OnOk result (WhereKnown (tables self.old) (λ t. AreNamedOnce t.registered)) }
         ensures limit { limit self.new ≡ limit self.old }
         ensures bound { limit self.old ≤ ROW_LIMIT }
         ensures cause { HasCause (faults self.old) (faults self.new) result }
@@ -39,7 +39,7 @@ pub trait Keeper {
     /// The phone of 2019 with the digits of the one that is registered with this plate. None exactly where none is.
     fn plate_owner(&mut self, alloc: Global, plate: &[u8]) -> Result<Option<Phone>, StoreError>
         ensures answer { Reads (tables self.old) (tables self.new) (λ t found. IsOwner plates t.registered plate.now found) result }
-        ensures names { OnOk result (Told (tables self.old) (λ t. AreNamedOnce t.registered)) }
+        ensures names { OnOk result (WhereKnown (tables self.old) (λ t. AreNamedOnce t.registered)) }
         ensures limit { limit self.new ≡ limit self.old }
         ensures bound { limit self.old ≤ ROW_LIMIT }
         ensures cause { HasCause (faults self.old) (faults self.new) result }
@@ -52,7 +52,7 @@ pub trait Keeper {
         terminal: &[u8],
     ) -> Result<Option<Phone>, StoreError>
         ensures answer { Reads (tables self.old) (tables self.new) (λ t found. IsOwner terminals t.registered terminal.now found) result }
-        ensures names { OnOk result (Told (tables self.old) (λ t. AreNamedOnce t.registered)) }
+        ensures names { OnOk result (WhereKnown (tables self.old) (λ t. AreNamedOnce t.registered)) }
         ensures limit { limit self.new ≡ limit self.old }
         ensures bound { limit self.old ≤ ROW_LIMIT }
         ensures cause { HasCause (faults self.old) (faults self.new) result }
@@ -67,7 +67,7 @@ pub trait Keeper {
         registered: &Registered,
     ) -> Result<(), StoreError>
         requires trimmed { IsTrimmed registered.now.terminal }
-        requires may { Told (tables self.old) (λ t. MayRegister t.registered (key_of phone.now) registered.now) }
+        requires may { WhereKnown (tables self.old) (λ t. MayRegister t.registered (key_of phone.now) registered.now) }
         ensures answer { Writes (tables self.old) (registered_set (key_of phone.now) (Some registered.now) (tables self.old)) (tables self.new) result }
         ensures limit { limit self.new ≡ limit self.old }
         ensures bound { limit self.old ≤ ROW_LIMIT }
@@ -86,7 +86,7 @@ pub trait Keeper {
     fn last(&mut self, alloc: Global, phone: &Phone) -> Result<Option<u64>, StoreError>
         ensures answer { Reads (tables self.old) (tables self.new) (λ t last. last ≡ last_of (t.rows (key_of phone.now))) result }
         ensures low { IfOk result (λ last. IfSome last (λ n. n < 2 ^ 47)) }
-        ensures rows { Told (tables self.old) (λ t. AreRows (limit self.old) (t.rows (key_of phone.now))) }
+        ensures rows { WhereKnown (tables self.old) (λ t. AreRows (limit self.old) (t.rows (key_of phone.now))) }
         ensures limit { limit self.new ≡ limit self.old }
         ensures bound { limit self.old ≤ ROW_LIMIT }
         ensures cause { HasCause (faults self.old) (faults self.new) result }
@@ -100,7 +100,7 @@ pub trait Keeper {
         number: u64,
     ) -> Result<Option<Row>, StoreError>
         ensures answer { Reads (tables self.old) (tables self.new) (λ t found. Finds (t.rows (key_of phone.now)) number found) result }
-        ensures rows { Told (tables self.old) (λ t. AreRows (limit self.old) (t.rows (key_of phone.now))) }
+        ensures rows { WhereKnown (tables self.old) (λ t. AreRows (limit self.old) (t.rows (key_of phone.now))) }
         ensures limit { limit self.new ≡ limit self.old }
         ensures bound { limit self.old ≤ ROW_LIMIT }
         ensures cause { HasCause (faults self.old) (faults self.new) result }
@@ -115,7 +115,7 @@ pub trait Keeper {
     ) -> Result<Option<Row>, StoreError>
         ensures answer { Reads (tables self.old) (tables self.new) (λ t found. FindsFrom (t.rows (key_of phone.now)) number found) result }
         ensures within { IfOk result (λ found. IfSome found (λ row. (number ≤ row.number) × (row.number < 2 ^ 47))) }
-        ensures rows { Told (tables self.old) (λ t. AreRows (limit self.old) (t.rows (key_of phone.now))) }
+        ensures rows { WhereKnown (tables self.old) (λ t. AreRows (limit self.old) (t.rows (key_of phone.now))) }
         ensures limit { limit self.new ≡ limit self.old }
         ensures bound { limit self.old ≤ ROW_LIMIT }
         ensures cause { HasCause (faults self.old) (faults self.new) result }
@@ -124,7 +124,7 @@ pub trait Keeper {
     /// Puts a row at the end of the phone's. The first number is below 65,536, each other 1 to 131,071 above the last.
     /// Full comes exactly where the phone has as many rows as the limit, and has the limit.
     fn append(&mut self, alloc: Global, phone: &Phone, row: &Row) -> Result<(), StoreError>
-        requires { Told (tables self.old) (λ t. MayAppend (last_of (t.rows (key_of phone.now))) row.now.number) }
+        requires { WhereKnown (tables self.old) (λ t. MayAppend (last_of (t.rows (key_of phone.now))) row.now.number) }
         ensures answer { Appends (limit self.old) (key_of phone.now) row.now (tables self.old) (tables self.new) result }
         ensures limit { limit self.new ≡ limit self.old }
         ensures bound { limit self.old ≤ ROW_LIMIT }

@@ -28,11 +28,11 @@ pub struct MemKeeper {
 
 impl Model for MemKeeper {
     ghost use Rattle.std.specs.Prelude.{◌≤◌, List, ℕ};
-    ghost use Rattle.jt_store.specs.Memory.{list_under, Kept};
+    ghost use Rattle.jt_store.specs.Memory.{list_under, KeeperState};
     ghost use Rattle.jt_store.specs.Tables.{AreRows};
     ghost use Rattle.jt_value.specs.declared.limits.TheConstants.{ROW_LIMIT};
 
-    ghost Value = { Kept };
+    ghost Value = { KeeperState };
 
     ghost view = { λ keeper. record { registered = keeper.registry; rows = keeper.rows; limit = keeper.limit; calls = keeper.calls } };
 

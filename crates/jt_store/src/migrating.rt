@@ -6,7 +6,7 @@ ghost use Rattle.jt_value.specs.declared.limits.TheConstants.{ROW_LIMIT};
 ghost use Rattle.jt_value.specs.Sameness.{key_of, same_key};
 ghost use Rattle.jt_store.specs.Memory.{under};
 ghost use Rattle.jt_store.specs.Migrating.{AreAppended, Migrates};
-ghost use Rattle.jt_store.specs.Places.{IsNumbered, IsStored, Moves, TakesAllIn, TakesIn, noted, places_in, standing};
+ghost use Rattle.jt_store.specs.Places.{IsNumbered, IsStored, Moves, TakesAllIn, TakesIn, with_row_place, places_in, standing};
 ghost use Rattle.jt_store.specs.Tables.{AreRows, Rises, last_of};
 
 use crate::by_phone::Key;
@@ -85,7 +85,7 @@ fn gather(alloc: Global, old: &[OldPhone]) -> Result<BTreeMap<Key, Places>, Memo
 // Notes the place of one more phone.
 fn note(places: &mut BTreeMap<Key, Places>, phone: &Phone, place: usize) -> Result<(), Memory>
     ensures { OnOk result ((q : List ℕ) → under places.new.entries q
-        ≡ (if same_key (key_of phone.now) q then Some (noted (under places.old.entries q) phone.now.edition place) else under places.old.entries q)) }
+        ≡ (if same_key (key_of phone.now) q then Some (with_row_place (under places.old.entries q) phone.now.edition place) else under places.old.entries q)) }
 {
     let now = with_place(places.get(&phone.digits).copied(), phone.edition, place);
     places.insert(phone.digits, now)?;
@@ -94,7 +94,7 @@ fn note(places: &mut BTreeMap<Key, Places>, phone: &Phone, place: usize) -> Resu
 
 // The places with one more. The first of an edition stays.
 fn with_place(places: Option<Places>, edition: Edition, place: usize) -> Places
-    ensures { result ≡ noted places edition place }
+    ensures { result ≡ with_row_place places edition place }
 {
     let (earlier, later) = match places {
         Some(places) => (places.earlier, places.later),

@@ -5,12 +5,12 @@ ghost use Rattle.std.specs.Option.{ForSome};
 ghost use Rattle.std.specs.Result.{ForOk};
 ghost use Rattle.jt_value.specs.declared.limits.TheConstants.{CONTENT_LIMIT};
 ghost use Rattle.jt_escape.specs.Span.{Ends, Whole};
-ghost use Rattle.jt_escape.specs.Splitter.{StandsFor, Continues, lent, told_in_place};
+ghost use Rattle.jt_escape.specs.Splitter.{StandsFor, Continues, lent, split_events_in_place};
 ghost use Rattle.jt_header.specs.Content.{Content};
 ghost use Rattle.jt_header.specs.Reason.{Reads};
-ghost use Rattle.jt_stream.specs.Item.{Item, Frame, Refused, placed, AreItemsOf};
+ghost use Rattle.jt_stream.specs.Item.{Item, Frame, Refused, refusal_in_frame, AreItemsOf};
 ghost use Rattle.jt_stream.specs.Message.{IsMessage, completed};
-ghost use Rattle.jt_stream.specs.Stream.{Gains, GainsInPlace, IsSilent, IsSilentInPlace, told};
+ghost use Rattle.jt_stream.specs.Stream.{Gains, GainsInPlace, IsSilent, IsSilentInPlace, stream_items};
 
 use jt_escape::{Split, Splitter};
 use jt_header::{Header, read_header};
@@ -60,8 +60,8 @@ impl Model for Stream {
 }
 
 /// What is refused in the content of the frame that opens at this place, as it is refused in the stream.
-pub fn placed(opened: u64, refusal: Refusal) -> Refusal
-    ensures { result ≡ placed opened refusal }
+pub fn refusal_in_frame(opened: u64, refusal: Refusal) -> Refusal
+    ensures { result ≡ refusal_in_frame opened refusal }
 {
     Refusal {
         at: opened,
@@ -82,7 +82,7 @@ fn judge(splitter: &Splitter) -> Result<Message, Refusal>
             header,
             start: content.len() - 1 - body.len(),
         }),
-        Err(refusal) => Err(placed(splitter.opened(), refusal)),
+        Err(refusal) => Err(refusal_in_frame(splitter.opened(), refusal)),
     }
 }
 
@@ -129,10 +129,10 @@ impl Stream {
         ensures taken { result.0 ≤ length piece.now }
         ensures some { 0 < length piece.now → 0 < result.0 }
         ensures place { self.new.splitter.place ≡ self.old.splitter.place + result.0 }
-        ensures items { Gains self.old.splitter self.new.splitter (take result.0 piece.now) (told result.1 self.new.splitter) }
+        ensures items { Gains self.old.splitter self.new.splitter (take result.0 piece.now) (stream_items result.1 self.new.splitter) }
         // The same also holds after `take_in_place`.
         ensures in_place { GainsInPlace self.old.splitter self.new.splitter (take result.0 piece.now)
-            (told result.1 self.new.splitter) }
+            (stream_items result.1 self.new.splitter) }
         ensures more { result.1 ≡ StreamItem.More → result.0 ≡ length piece.now }
         // No octet past the first that completes an item is taken.
         ensures first { (count : ℕ) → count < result.0 → IsSilent self.old.splitter (take count piece.now) }
@@ -179,7 +179,7 @@ impl Stream {
             Continues self.new.splitter (stream ++ take result.0 piece.now) }
         // The items of a content are those of `frame_in`.
         ensures items { (items : List Item) →
-            AreItemsOf (told_in_place result.1 self.new.splitter (take result.0 piece.now)) items →
+            AreItemsOf (split_events_in_place result.1 self.new.splitter (take result.0 piece.now)) items →
             GainsInPlace self.old.splitter self.new.splitter (take result.0 piece.now) items }
         ensures more { result.1 ≡ Split.More → result.0 ≡ length piece.now }
         // No octet past the first that completes an item is taken.
@@ -211,7 +211,7 @@ impl Stream {
         let opened = self.splitter.opened();
         match read_header(self.splitter.content_in(taken)) {
             Ok((header, body)) => Ok((opened, header, body)),
-            Err(refusal) => Err(placed(opened, refusal)),
+            Err(refusal) => Err(refusal_in_frame(opened, refusal)),
         }
     }
 

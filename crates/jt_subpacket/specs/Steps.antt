@@ -7,7 +7,7 @@ use Rattle.jt_value.specs.declared.limits.TheConstants.{BODY_LIMIT}
 use Rattle.jt_header.specs.declared.header.Header.{Header}
 use Rattle.jt_subpacket.specs.Parts.{Message, packet_header, packet_octets}
 use Rattle.jt_subpacket.specs.Partials.{Partial, Pieces, HasNumbers, missing, numbers, piece, with_piece}
-use Rattle.jt_subpacket.specs.Fates.{told}
+use Rattle.jt_subpacket.specs.Fates.{packet_fate}
 use Rattle.jt_subpacket.specs.declared.taken.Fate.{Fate}
 
 -- ---- split
@@ -64,7 +64,7 @@ pub record AreKept (ps : List Partial) : Type 0 where
 abbrev pub fate_at : Partial → ℕ → List ℕ → Fate
 fate_at p number body =
     let now = with_piece p.pieces number body in
-    told p.key number p.pieces now (missing p.key.total now)
+    packet_fate p.key number p.pieces now (missing p.key.total now)
 
 -- the partial messages with another at a place, or none there
 abbrev pub left_there : List Partial → ℕ → Partial → List ℕ → List Partial
@@ -78,6 +78,6 @@ left_at ps place p number body =
     left_there ps place (record { key = p.key; pieces = now }) (missing p.key.total now)
 
 -- a packet of this partial message was told this fate, and these messages were left
-pub record Answers (ps : List Partial) (place number : ℕ) (body : List ℕ) (fate : Fate) (now : List Partial) (p : Partial) : Type 0 where
+pub record AnswersPacket (ps : List Partial) (place number : ℕ) (body : List ℕ) (fate : Fate) (now : List Partial) (p : Partial) : Type 0 where
   pub fate_is : fate ≡ fate_at p number body
   pub now_is : now ≡ left_at ps place p number body

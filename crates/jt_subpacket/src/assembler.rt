@@ -7,7 +7,7 @@ ghost use Rattle.jt_header.specs.Content.{IsPacket};
 ghost use Rattle.jt_subpacket.specs.Parts.{Message};
 ghost use Rattle.jt_subpacket.specs.Partials.{IsBounded, Partial, same_key};
 ghost use Rattle.jt_subpacket.specs.Fates.{IsWithinLimits, begins, left_by, taken_as, taken_by};
-ghost use Rattle.jt_subpacket.specs.Steps.{Answers, AreKept, IsPartial};
+ghost use Rattle.jt_subpacket.specs.Steps.{AnswersPacket, AreKept, IsPartial};
 
 use crate::key::PartKey;
 use crate::partial::PartialMessage;
@@ -96,7 +96,7 @@ fn go_on(
 ) -> Result<Fate, Memory>
     requires place { place < length partials.old.items }
     requires kept { (p : Partial) → slice_get partials.old.items place ≡ Some p → IsPartial p × (1 ≤ number) × (number ≤ p.key.total) }
-    ensures ok { IfOk result (λ fate. IfSome (slice_get partials.old.items place) (Answers partials.old.items place number body.now fate partials.new.items)) }
+    ensures ok { IfOk result (λ fate. IfSome (slice_get partials.old.items place) (AnswersPacket partials.old.items place number body.now fate partials.new.items)) }
     ensures err { OnErr result (partials.new.items ≡ partials.old.items) }
 {
     let partial = &mut partials[place];

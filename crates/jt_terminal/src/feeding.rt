@@ -20,7 +20,7 @@ use jt_store::Vault;
 use jt_stream::{Stream, StreamItem, law_items, law_one_list};
 use jt_subpacket::{Assembler, Fate, Taken, joined_header};
 use jt_terminal_rule::{GiveUp, State};
-use jt_terminal_steps::{TerminalError, asks_if_live, received, refuses_if_live};
+use jt_terminal_steps::{TerminalError, ask_if_live, on_message, refuse_if_live};
 use jt_value::{CodecError, Octets, Seq};
 use std::alloc::Global;
 
@@ -36,18 +36,18 @@ fn hear_read<V: Vault>(
 ) -> Result<Option<GiveUp>, TerminalError>
     requires fits { Fits header.now.edition message.now }
     requires sound { IsSound (V.holds vault.old) state.old }
-    ensures ok { IfOk result (λ end. Ran state.old.settings (rule.received state.old header.now message.now) state.new (V.holds vault.old) (V.holds vault.new) out.old out.new end) }
-    ensures err { OnErr result (CutShort (rule.received state.old header.now message.now).steps (V.holds vault.old) (V.holds vault.new)) }
-    ensures tables { OnErr result (AllTablesOrNone state.old (rule.received state.old header.now message.now).state state.new) }
-    ensures lists { OnErr result (CutLists (rule.received state.old header.now message.now).steps (lists_of state.old) (lists_of state.new)) }
+    ensures ok { IfOk result (λ end. Ran state.old.settings (rule.on_message state.old header.now message.now) state.new (V.holds vault.old) (V.holds vault.new) out.old out.new end) }
+    ensures err { OnErr result (CutShort (rule.on_message state.old header.now message.now).steps (V.holds vault.old) (V.holds vault.new)) }
+    ensures tables { OnErr result (AllTablesOrNone state.old (rule.on_message state.old header.now message.now).state state.new) }
+    ensures lists { OnErr result (CutLists (rule.on_message state.old header.now message.now).steps (lists_of state.old) (lists_of state.new)) }
     ensures unmoved { OnErr result (IsDown state.old → state.new ≡ state.old) }
-    ensures told { OnOk result (told.new ≡ told.old ++ option_to_list (rule.told state.old (rule.response_in message.now))) }
+    ensures told { OnOk result (told.new ≡ told.old ++ option_to_list (rule.named_place state.old (rule.response_in message.now))) }
     ensures sound { IsSound (V.holds vault.new) state.new }
     ensures same { IsSame state.old state.new }
     ensures outside { Outside (V.faults vault.old) (V.faults vault.new) (V.limit vault.old) (V.limit vault.new) (V.may_fail vault.old) (V.may_fail vault.new) result }
 {
     tell(state, message, told)?;
-    received(alloc, vault, state, out, header, message)
+    on_message(alloc, vault, state, out, header, message)
 }
 
 // The same of a message that is given up.
@@ -62,12 +62,12 @@ fn hear_message<V: Vault>(
 ) -> Result<Option<GiveUp>, TerminalError>
     requires fits { Fits header.now.edition message }
     requires sound { IsSound (V.holds vault.old) state.old }
-    ensures ok { IfOk result (λ end. Ran state.old.settings (rule.received state.old header.now message) state.new (V.holds vault.old) (V.holds vault.new) out.old out.new end) }
-    ensures err { OnErr result (CutShort (rule.received state.old header.now message).steps (V.holds vault.old) (V.holds vault.new)) }
-    ensures tables { OnErr result (AllTablesOrNone state.old (rule.received state.old header.now message).state state.new) }
-    ensures lists { OnErr result (CutLists (rule.received state.old header.now message).steps (lists_of state.old) (lists_of state.new)) }
+    ensures ok { IfOk result (λ end. Ran state.old.settings (rule.on_message state.old header.now message) state.new (V.holds vault.old) (V.holds vault.new) out.old out.new end) }
+    ensures err { OnErr result (CutShort (rule.on_message state.old header.now message).steps (V.holds vault.old) (V.holds vault.new)) }
+    ensures tables { OnErr result (AllTablesOrNone state.old (rule.on_message state.old header.now message).state state.new) }
+    ensures lists { OnErr result (CutLists (rule.on_message state.old header.now message).steps (lists_of state.old) (lists_of state.new)) }
     ensures unmoved { OnErr result (IsDown state.old → state.new ≡ state.old) }
-    ensures told { OnOk result (told.new ≡ told.old ++ option_to_list (rule.told state.old (rule.response_in message))) }
+    ensures told { OnOk result (told.new ≡ told.old ++ option_to_list (rule.named_place state.old (rule.response_in message))) }
     ensures sound { IsSound (V.holds vault.new) state.new }
     ensures same { IsSame state.old state.new }
     ensures outside { Outside (V.faults vault.old) (V.faults vault.new) (V.limit vault.old) (V.limit vault.new) (V.may_fail vault.old) (V.may_fail vault.new) result }
@@ -84,16 +84,16 @@ fn hear_refused<V: Vault>(
     header: &Header,
 ) -> Result<Option<GiveUp>, TerminalError>
     requires sound { IsSound (V.holds vault.old) state.old }
-    ensures ok { IfOk result (λ end. Ran state.old.settings (rule.heard state.old (rule.Refused header.now)) state.new (V.holds vault.old) (V.holds vault.new) out.old out.new end) }
-    ensures err { OnErr result (CutShort (rule.heard state.old (rule.Refused header.now)).steps (V.holds vault.old) (V.holds vault.new)) }
-    ensures tables { OnErr result (AllTablesOrNone state.old (rule.heard state.old (rule.Refused header.now)).state state.new) }
-    ensures lists { OnErr result (CutLists (rule.heard state.old (rule.Refused header.now)).steps (lists_of state.old) (lists_of state.new)) }
+    ensures ok { IfOk result (λ end. Ran state.old.settings (rule.on_hearing state.old (rule.Refused header.now)) state.new (V.holds vault.old) (V.holds vault.new) out.old out.new end) }
+    ensures err { OnErr result (CutShort (rule.on_hearing state.old (rule.Refused header.now)).steps (V.holds vault.old) (V.holds vault.new)) }
+    ensures tables { OnErr result (AllTablesOrNone state.old (rule.on_hearing state.old (rule.Refused header.now)).state state.new) }
+    ensures lists { OnErr result (CutLists (rule.on_hearing state.old (rule.Refused header.now)).steps (lists_of state.old) (lists_of state.new)) }
     ensures unmoved { OnErr result (IsDown state.old → state.new ≡ state.old) }
     ensures sound { IsSound (V.holds vault.new) state.new }
     ensures same { IsSame state.old state.new }
     ensures outside { Outside (V.faults vault.old) (V.faults vault.new) (V.limit vault.old) (V.limit vault.new) (V.may_fail vault.old) (V.may_fail vault.new) result }
 {
-    refuses_if_live(alloc, vault, state, out, header)?;
+    refuse_if_live(alloc, vault, state, out, header)?;
     Ok(None)
 }
 
@@ -109,17 +109,17 @@ fn hear_lack<V: Vault>(
 ) -> Result<Option<GiveUp>, TerminalError>
     requires sound { IsSound (V.holds vault.old) state.old }
     requires few { length numbers ≤ OCTET_COUNT_LIMIT }
-    ensures ok { IfOk result (λ end. Ran state.old.settings (rule.heard state.old (rule.Lacks header.now first numbers)) state.new (V.holds vault.old) (V.holds vault.new) out.old out.new end) }
-    ensures err { OnErr result (CutShort (rule.heard state.old (rule.Lacks header.now first numbers)).steps (V.holds vault.old) (V.holds vault.new)) }
-    ensures tables { OnErr result (AllTablesOrNone state.old (rule.heard state.old (rule.Lacks header.now first numbers)).state state.new) }
-    ensures lists { OnErr result (CutLists (rule.heard state.old (rule.Lacks header.now first numbers)).steps (lists_of state.old) (lists_of state.new)) }
+    ensures ok { IfOk result (λ end. Ran state.old.settings (rule.on_hearing state.old (rule.Lacks header.now first numbers)) state.new (V.holds vault.old) (V.holds vault.new) out.old out.new end) }
+    ensures err { OnErr result (CutShort (rule.on_hearing state.old (rule.Lacks header.now first numbers)).steps (V.holds vault.old) (V.holds vault.new)) }
+    ensures tables { OnErr result (AllTablesOrNone state.old (rule.on_hearing state.old (rule.Lacks header.now first numbers)).state state.new) }
+    ensures lists { OnErr result (CutLists (rule.on_hearing state.old (rule.Lacks header.now first numbers)).steps (lists_of state.old) (lists_of state.new)) }
     ensures unmoved { OnErr result (IsDown state.old → state.new ≡ state.old) }
     ensures sound { IsSound (V.holds vault.new) state.new }
     ensures same { IsSame state.old state.new }
     ensures outside { Outside (V.faults vault.old) (V.faults vault.new) (V.limit vault.old) (V.limit vault.new) (V.may_fail vault.old) (V.may_fail vault.new) result }
 {
     let _header = header;
-    asks_if_live(alloc, vault, state, out, first, numbers)?;
+    ask_if_live(alloc, vault, state, out, first, numbers)?;
     Ok(None)
 }
 
@@ -134,12 +134,12 @@ fn hear_body<V: Vault>(
     body: &[u8],
 ) -> Result<Option<GiveUp>, TerminalError>
     requires sound { IsSound (V.holds vault.old) state.old }
-    ensures ok { IfOk result (λ end. Ran state.old.settings (rule.heard state.old (line.of_body header.now body.now)) state.new (V.holds vault.old) (V.holds vault.new) out.old out.new end) }
-    ensures err { OnErr result (CutShort (rule.heard state.old (line.of_body header.now body.now)).steps (V.holds vault.old) (V.holds vault.new)) }
-    ensures tables { OnErr result (AllTablesOrNone state.old (rule.heard state.old (line.of_body header.now body.now)).state state.new) }
-    ensures lists { OnErr result (CutLists (rule.heard state.old (line.of_body header.now body.now)).steps (lists_of state.old) (lists_of state.new)) }
+    ensures ok { IfOk result (λ end. Ran state.old.settings (rule.on_hearing state.old (line.of_body header.now body.now)) state.new (V.holds vault.old) (V.holds vault.new) out.old out.new end) }
+    ensures err { OnErr result (CutShort (rule.on_hearing state.old (line.of_body header.now body.now)).steps (V.holds vault.old) (V.holds vault.new)) }
+    ensures tables { OnErr result (AllTablesOrNone state.old (rule.on_hearing state.old (line.of_body header.now body.now)).state state.new) }
+    ensures lists { OnErr result (CutLists (rule.on_hearing state.old (line.of_body header.now body.now)).steps (lists_of state.old) (lists_of state.new)) }
     ensures unmoved { OnErr result (IsDown state.old → state.new ≡ state.old) }
-    ensures told { OnOk result (told.new ≡ told.old ++ option_to_list (rule.told state.old (response_heard (line.of_body header.now body.now)))) }
+    ensures told { OnOk result (told.new ≡ told.old ++ option_to_list (rule.named_place state.old (response_heard (line.of_body header.now body.now)))) }
     ensures sound { IsSound (V.holds vault.new) state.new }
     ensures same { IsSame state.old state.new }
     ensures outside { Outside (V.faults vault.old) (V.faults vault.new) (V.limit vault.old) (V.limit vault.new) (V.may_fail vault.old) (V.may_fail vault.new) result }
@@ -164,12 +164,12 @@ fn hear_fate<V: Vault>(
 ) -> Result<Option<GiveUp>, TerminalError>
     requires limits { IsWithinLimits fate }
     requires sound { IsSound (V.holds vault.old) state.old }
-    ensures ok { IfOk result (λ end. Ran state.old.settings (line.hears state.old (line.of_packet header.now fate)) state.new (V.holds vault.old) (V.holds vault.new) out.old out.new end) }
-    ensures err { OnErr result (CutShort (line.hears state.old (line.of_packet header.now fate)).steps (V.holds vault.old) (V.holds vault.new)) }
-    ensures tables { OnErr result (AllTablesOrNone state.old (line.hears state.old (line.of_packet header.now fate)).state state.new) }
-    ensures lists { OnErr result (CutLists (line.hears state.old (line.of_packet header.now fate)).steps (lists_of state.old) (lists_of state.new)) }
+    ensures ok { IfOk result (λ end. Ran state.old.settings (line.rule_at state.old (line.of_packet header.now fate)) state.new (V.holds vault.old) (V.holds vault.new) out.old out.new end) }
+    ensures err { OnErr result (CutShort (line.rule_at state.old (line.of_packet header.now fate)).steps (V.holds vault.old) (V.holds vault.new)) }
+    ensures tables { OnErr result (AllTablesOrNone state.old (line.rule_at state.old (line.of_packet header.now fate)).state state.new) }
+    ensures lists { OnErr result (CutLists (line.rule_at state.old (line.of_packet header.now fate)).steps (lists_of state.old) (lists_of state.new)) }
     ensures unmoved { OnErr result (IsDown state.old → state.new ≡ state.old) }
-    ensures told { OnOk result (told.new ≡ told.old ++ option_to_list (line.told_one state.old (line.of_packet header.now fate))) }
+    ensures told { OnOk result (told.new ≡ told.old ++ option_to_list (line.place_at state.old (line.of_packet header.now fate))) }
     ensures sound { IsSound (V.holds vault.new) state.new }
     ensures same { IsSame state.old state.new }
     ensures outside { Outside (V.faults vault.old) (V.faults vault.new) (V.limit vault.old) (V.limit vault.new) (V.may_fail vault.old) (V.may_fail vault.new) result }
@@ -202,12 +202,12 @@ fn hear_packet<V: Vault>(
     requires packet { IsPacket header.now.packet }
     requires short { length body.now ≤ BODY_LIMIT }
     requires sound { IsSound (V.holds vault.old) state.old }
-    ensures ok { IfOk result (λ end. Ran state.old.settings (line.hears state.old (line.of_packet header.now (taken_by assembler.old header.now body.now).fate)) state.new (V.holds vault.old) (V.holds vault.new) out.old out.new end) }
-    ensures err { OnErr result (CutShort (line.hears state.old (line.of_packet header.now (taken_by assembler.old header.now body.now).fate)).steps (V.holds vault.old) (V.holds vault.new)) }
-    ensures tables { OnErr result (AllTablesOrNone state.old (line.hears state.old (line.of_packet header.now (taken_by assembler.old header.now body.now).fate)).state state.new) }
-    ensures lists { OnErr result (CutLists (line.hears state.old (line.of_packet header.now (taken_by assembler.old header.now body.now).fate)).steps (lists_of state.old) (lists_of state.new)) }
+    ensures ok { IfOk result (λ end. Ran state.old.settings (line.rule_at state.old (line.of_packet header.now (taken_by assembler.old header.now body.now).fate)) state.new (V.holds vault.old) (V.holds vault.new) out.old out.new end) }
+    ensures err { OnErr result (CutShort (line.rule_at state.old (line.of_packet header.now (taken_by assembler.old header.now body.now).fate)).steps (V.holds vault.old) (V.holds vault.new)) }
+    ensures tables { OnErr result (AllTablesOrNone state.old (line.rule_at state.old (line.of_packet header.now (taken_by assembler.old header.now body.now).fate)).state state.new) }
+    ensures lists { OnErr result (CutLists (line.rule_at state.old (line.of_packet header.now (taken_by assembler.old header.now body.now).fate)).steps (lists_of state.old) (lists_of state.new)) }
     ensures unmoved { OnErr result (IsDown state.old → state.new ≡ state.old) }
-    ensures told { OnOk result (told.new ≡ told.old ++ option_to_list (line.told_one state.old (line.of_packet header.now (taken_by assembler.old header.now body.now).fate))) }
+    ensures told { OnOk result (told.new ≡ told.old ++ option_to_list (line.place_at state.old (line.of_packet header.now (taken_by assembler.old header.now body.now).fate))) }
     ensures partial { OnOk result (assembler.new ≡ (taken_by assembler.old header.now body.now).partial) }
     ensures sound { IsSound (V.holds vault.new) state.new }
     ensures same { IsSame state.old state.new }
@@ -231,12 +231,12 @@ fn hear_frame<V: Vault>(
     requires packet { IsPacket header.now.packet }
     requires short { length body.now ≤ BODY_LIMIT }
     requires sound { IsSound (V.holds vault.old) state.old }
-    ensures ok { IfOk result (λ end. Ran state.old.settings (line.hears state.old (line.of_frame assembler.old header.now body.now header.now.packet)) state.new (V.holds vault.old) (V.holds vault.new) out.old out.new end) }
-    ensures err { OnErr result (CutShort (line.hears state.old (line.of_frame assembler.old header.now body.now header.now.packet)).steps (V.holds vault.old) (V.holds vault.new)) }
-    ensures tables { OnErr result (AllTablesOrNone state.old (line.hears state.old (line.of_frame assembler.old header.now body.now header.now.packet)).state state.new) }
-    ensures lists { OnErr result (CutLists (line.hears state.old (line.of_frame assembler.old header.now body.now header.now.packet)).steps (lists_of state.old) (lists_of state.new)) }
+    ensures ok { IfOk result (λ end. Ran state.old.settings (line.rule_at state.old (line.of_frame assembler.old header.now body.now header.now.packet)) state.new (V.holds vault.old) (V.holds vault.new) out.old out.new end) }
+    ensures err { OnErr result (CutShort (line.rule_at state.old (line.of_frame assembler.old header.now body.now header.now.packet)).steps (V.holds vault.old) (V.holds vault.new)) }
+    ensures tables { OnErr result (AllTablesOrNone state.old (line.rule_at state.old (line.of_frame assembler.old header.now body.now header.now.packet)).state state.new) }
+    ensures lists { OnErr result (CutLists (line.rule_at state.old (line.of_frame assembler.old header.now body.now header.now.packet)).steps (lists_of state.old) (lists_of state.new)) }
     ensures unmoved { OnErr result (IsDown state.old → state.new ≡ state.old) }
-    ensures told { OnOk result (told.new ≡ told.old ++ option_to_list (line.told_one state.old (line.of_frame assembler.old header.now body.now header.now.packet))) }
+    ensures told { OnOk result (told.new ≡ told.old ++ option_to_list (line.place_at state.old (line.of_frame assembler.old header.now body.now header.now.packet))) }
     ensures partial { OnOk result (assembler.new ≡ line.kept_by_frame assembler.old header.now body.now header.now.packet) }
     ensures sound { IsSound (V.holds vault.new) state.new }
     ensures same { IsSame state.old state.new }
@@ -260,12 +260,12 @@ fn hear_last<V: Vault>(
 ) -> Result<Option<GiveUp>, TerminalError>
     requires found { IsTrue stream.now.found }
     requires sound { IsSound (V.holds vault.old) state.old }
-    ensures ok { IfOk result (λ end. Ran state.old.settings (line.hears state.old (line.of_item assembler.old (message_at stream.now.splitter.content))) state.new (V.holds vault.old) (V.holds vault.new) out.old out.new end) }
-    ensures err { OnErr result (CutShort (line.hears state.old (line.of_item assembler.old (message_at stream.now.splitter.content))).steps (V.holds vault.old) (V.holds vault.new)) }
-    ensures tables { OnErr result (AllTablesOrNone state.old (line.hears state.old (line.of_item assembler.old (message_at stream.now.splitter.content))).state state.new) }
-    ensures lists { OnErr result (CutLists (line.hears state.old (line.of_item assembler.old (message_at stream.now.splitter.content))).steps (lists_of state.old) (lists_of state.new)) }
+    ensures ok { IfOk result (λ end. Ran state.old.settings (line.rule_at state.old (line.of_item assembler.old (message_at stream.now.splitter.content))) state.new (V.holds vault.old) (V.holds vault.new) out.old out.new end) }
+    ensures err { OnErr result (CutShort (line.rule_at state.old (line.of_item assembler.old (message_at stream.now.splitter.content))).steps (V.holds vault.old) (V.holds vault.new)) }
+    ensures tables { OnErr result (AllTablesOrNone state.old (line.rule_at state.old (line.of_item assembler.old (message_at stream.now.splitter.content))).state state.new) }
+    ensures lists { OnErr result (CutLists (line.rule_at state.old (line.of_item assembler.old (message_at stream.now.splitter.content))).steps (lists_of state.old) (lists_of state.new)) }
     ensures unmoved { OnErr result (IsDown state.old → state.new ≡ state.old) }
-    ensures told { OnOk result (told.new ≡ told.old ++ option_to_list (line.told_one state.old (line.of_item assembler.old (message_at stream.now.splitter.content)))) }
+    ensures told { OnOk result (told.new ≡ told.old ++ option_to_list (line.place_at state.old (line.of_item assembler.old (message_at stream.now.splitter.content)))) }
     ensures partial { OnOk result (assembler.new ≡ line.kept_by assembler.old (message_at stream.now.splitter.content)) }
     ensures sound { IsSound (V.holds vault.new) state.new }
     ensures same { IsSame state.old state.new }

@@ -2,15 +2,15 @@
 
 ghost use Rattle.std.specs.Prelude.{ℕ, [], ◌+◌, ◌≡◌, ◌≤◌, ◌<◌, ◌^◌, ◌↔◌, false, Bool, IfErr, IfOk, IsErrOf, IsOk, IsTrue, None, OnErr, OnOk, Some, length};
 ghost use Rattle.std.specs.Option.{option_to_list};
-ghost use Rattle.jt_store.specs.Tables.{HasCause, IsSteady, Told};
+ghost use Rattle.jt_store.specs.Tables.{HasCause, IsSteady, WhereKnown};
 ghost use Rattle.jt_value.specs.Counts.{Rose};
-ghost use Rattle.jt_store.specs.Vaults.{Held, Notes, Records, settled};
+ghost use Rattle.jt_store.specs.Vaults.{Held, Notes, Records, accepted_count};
 ghost use Rattle.jt_terminal_rule.specs.Machines.{is_up};
 ghost use Rattle.jt_terminal_rule.specs.Messages.{AreSettings};
 ghost use Rattle.jt_terminal_rule.specs.Rule as rule;
 ghost use Rattle.jt_terminal.specs.Feeding.{HasFedFront, WasCut, scene};
 ghost use Rattle.jt_terminal_steps.specs.AfterError.{AllTablesOrNone, AreSameParams, CutLists, lists_of, sets_params};
-ghost use Rattle.jt_terminal_steps.specs.Running.{Counts, CutShort, IsDone, IsDown, IsEvent, IsRefused, IsSame, IsSound, IsStarted, Outside, Ran, TerminalValue, holds_after, time_after};
+ghost use Rattle.jt_terminal_steps.specs.Running.{CountsAsVault, CutShort, IsDone, IsDown, IsEvent, IsRefused, IsSame, IsSound, IsStarted, Outside, Ran, TerminalValue, holds_after, time_after};
 ghost use Rattle.jt_terminal_steps.specs.declared.error.TerminalError.TheVariants.{Store};
 ghost use Rattle.jt_terminal_rule.specs.declared.state.Event.TheVariants.{Lost, Tick};
 ghost use Rattle.jt_terminal_rule.specs.declared.state.GiveUp.TheVariants.{TimedOut};
@@ -29,8 +29,8 @@ use jt_store::{Loaded, StoreError, Vault};
 use jt_stream::Stream;
 use jt_subpacket::Assembler;
 use jt_terminal_answers::first_params;
-use jt_terminal_rule::{Event, GiveUp, Phase, Queue, Settings, State, Timing, Wait, lose, opened};
-use jt_terminal_steps::{TerminalError, beaten, received, ticked};
+use jt_terminal_rule::{Event, GiveUp, Phase, Queue, Settings, State, Timing, Wait, lose, on_open};
+use jt_terminal_steps::{TerminalError, on_beat, on_message, on_tick};
 use jt_value::{Memory, Octets, Seq};
 use std::alloc::Global;
 use std::marker::Model;
@@ -38,7 +38,7 @@ use std::marker::Model;
 // The state of a terminal that starts with what its vault loaded, and the parameters of its settings.
 fn started(alloc: Global, settings: Settings, loaded: Loaded, params: ParamTable) -> State
     requires { params ≡ set_params (rule.first_params settings) empty }
-    ensures state { result ≡ rule.started settings loaded }
+    ensures state { result ≡ rule.start_state settings loaded }
     ensures small { (result.mark < 65536) × (result.next < 65536) × (result.recorded < 2 ^ 64) × (result.accepted < 2 ^ 64) }
 {
     let Loaded {
@@ -84,7 +84,7 @@ fn started(alloc: Global, settings: Settings, loaded: Loaded, params: ParamTable
 
 // How many units stand before the one whose acceptance this event tells, if it tells one.
 fn told(state: &State, event: &Event) -> Option<u64>
-    ensures { result ≡ rule.told state.now (rule.response event.now) }
+    ensures { result ≡ rule.named_place state.now (rule.response event.now) }
 {
     match event {
         Event::Received(_, message) => told_by(state, message),
@@ -94,7 +94,7 @@ fn told(state: &State, event: &Event) -> Option<u64>
 
 // The same as a list. It takes memory where there is one.
 fn told_list(alloc: Global, state: &State, event: &Event) -> Result<Seq<u64>, Memory>
-    ensures list { IfOk result (λ list. list ≡ option_to_list (rule.told state.now (rule.response event.now))) }
+    ensures list { IfOk result (λ list. list ≡ option_to_list (rule.named_place state.now (rule.response event.now))) }
     ensures memory { OnErr result (time_after state.now event.now ≡ state.now.time) }
     ensures lost { event.now ≡ Lost → IsOk result }
 {
@@ -132,20 +132,20 @@ fn run_rule<V: Vault>(
 {
     match event {
         Event::Opened => {
-            opened(alloc, state, out)?;
+            on_open(alloc, state, out)?;
             Ok(None)
         }
-        Event::Received(header, message) => { received(alloc, vault, state, out, header, message) }
+        Event::Received(header, message) => { on_message(alloc, vault, state, out, header, message) }
         Event::Tick(now) => {
             state.time = *now;
-            ticked(alloc, vault, state, out)
+            on_tick(alloc, vault, state, out)
         }
         Event::Lost => {
             lose(state);
             Ok(None)
         }
         Event::Beat => {
-            beaten(alloc, vault, state, out)?;
+            on_beat(alloc, vault, state, out)?;
             Ok(None)
         }
     }
@@ -174,7 +174,7 @@ fn act<V: Vault>(
     ensures vault { OnOk result (V.holds vault.new ≡ holds_after (rule.rule state.old event.now).steps (V.holds vault.old)) }
     ensures frames { IfOk result (λ actions. actions.frames ≡ rule.sends state.old.settings (rule.rule state.old event.now).steps) }
     ensures end { IfOk result (λ actions. actions.end ≡ (rule.rule state.old event.now).end) }
-    ensures told { IfOk result (λ actions. actions.told ≡ option_to_list (rule.told state.old (rule.response event.now))) }
+    ensures told { IfOk result (λ actions. actions.told ≡ option_to_list (rule.named_place state.old (rule.response event.now))) }
     ensures late { (now since at : ℕ) → event.now ≡ Tick now → IfOk result (λ actions. actions.end ≡ Some (TimedOut since at) → IsLate state.old now since at) }
     ensures cut { OnErr result (CutShort (rule.rule state.old event.now).steps (V.holds vault.old) (V.holds vault.new)) }
     ensures down { OnErr result (IsDown state.new) }
@@ -332,7 +332,7 @@ impl<V: Vault> Terminal<V> {
     /// Records a fix behind the others. Full comes exactly where as many fixes as the vault's limit are not accepted, and has
     /// the limit. After each error the terminal is as before, and its vault holds what it held.
     pub fn note_fix(&mut self, alloc: Global, fix: &Fix) -> Result<(), StoreError>
-        ensures ok { OnOk result (self.new.state ≡ rule.noted self.old.state fix.now) }
+        ensures ok { OnOk result (self.new.state ≡ rule.with_fix self.old.state fix.now) }
         ensures err { OnErr result (self.new.state ≡ self.old.state) }
         ensures vault { Records (V.limit self.old.vault) fix.now (V.holds self.old.vault) (V.holds self.new.vault) result }
         ensures limit { V.limit self.new.vault ≡ V.limit self.old.vault }
@@ -371,7 +371,7 @@ impl<V: Vault> Terminal<V> {
         ensures end { IfOk result (λ actions. actions.end ≡ (rule.rule self.old.state event).end) }
         // A line is given up for want of an answer only once all waits have passed since the first sending.
         ensures late { (now since at : ℕ) → event ≡ Tick now → IfOk result (λ actions. actions.end ≡ Some (TimedOut since at) → IsLate self.old.state now since at) }
-        ensures told { IfOk result (λ actions. actions.told ≡ option_to_list (rule.told self.old.state (rule.response event))) }
+        ensures told { IfOk result (λ actions. actions.told ≡ option_to_list (rule.named_place self.old.state (rule.response event))) }
         ensures cut { OnErr result (CutShort (rule.rule self.old.state event).steps (V.holds self.old.vault) (V.holds self.new.vault)) }
         ensures down { OnErr result (IsDown self.new.state) }
         ensures sound { IsSound (V.holds self.new.vault) self.new.state }
@@ -419,7 +419,7 @@ impl<V: Vault> Terminal<V> {
     /// Whether every recorded fix is accepted.
     pub fn done(&self) -> bool
         ensures done { IsTrue result ↔ IsDone self.now.state }
-        ensures told { Told (V.holds self.now.vault) (λ held. IsTrue result ↔ (settled held ≡ length held.recorded)) }
+        ensures told { WhereKnown (V.holds self.now.vault) (λ held. IsTrue result ↔ (accepted_count held ≡ length held.recorded)) }
     {
         is_done(&self.state)
     }
@@ -427,7 +427,7 @@ impl<V: Vault> Terminal<V> {
     /// How many fixes were recorded and how many of them are accepted. Each count stays at 2^64 - 1.
     pub fn counts(&self) -> (u64, u64)
         ensures counts { (result.0 ≡ self.now.state.recorded) × (result.1 ≡ self.now.state.accepted) }
-        ensures told { Told (V.holds self.now.vault) (λ held. Counts held self.now.state) }
+        ensures told { WhereKnown (V.holds self.now.vault) (λ held. CountsAsVault held self.now.state) }
     {
         let _state = &self.state;
         (self.state.recorded, self.state.accepted)

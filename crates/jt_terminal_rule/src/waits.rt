@@ -45,8 +45,8 @@ pub fn after_packets(state: &State, count: usize) -> u16
 }
 
 /// A first sending now.
-pub fn begun(state: &State) -> Wait
-    ensures { result ≡ rule.begun state.now }
+pub fn first_wait(state: &State) -> Wait
+    ensures { result ≡ rule.first_wait state.now }
 {
     Wait {
         since: state.time,

@@ -9,7 +9,7 @@ use Rattle.jt_store.specs.Vaults.{Change, Notes, Forms, Accepts, Sets}
 use Rattle.jt_terminal_rule.specs.declared.state.State.{State}
 use Rattle.jt_terminal_rule.specs.declared.state.Event.{Event}
 use Rattle.jt_terminal_rule.specs.declared.state.Event.TheVariants.{Opened, Received, Tick, Lost, Beat}
-use Rattle.jt_terminal_rule.specs.Rule.{Step, risen}
+use Rattle.jt_terminal_rule.specs.Rule.{Step, capped_sum}
 use Rattle.jt_terminal_rule.specs.Rule as rule
 
 -- ---- fixes, units and serials
@@ -30,11 +30,11 @@ lists_of s = record { units = s.units; waiting = s.waiting; mark = s.mark; next 
 -- the oldest of these units is accepted, if there is one
 abbrev pub lists_accepted : List OneUnit → Lists → Lists
 lists_accepted [] k = k
-lists_accepted (unit ∷ more) k = record k { units = more; mark = unit.serial; accepted = risen k.accepted unit.count }
+lists_accepted (unit ∷ more) k = record k { units = more; mark = unit.serial; accepted = capped_sum k.accepted unit.count }
 
 -- the vault committed a change
 abbrev pub lists_changed : Change → Lists → Lists
-lists_changed (Notes fix) k = record k { waiting = k.waiting ++ fix ∷ []; recorded = risen k.recorded 1 }
+lists_changed (Notes fix) k = record k { waiting = k.waiting ++ fix ∷ []; recorded = capped_sum k.recorded 1 }
 lists_changed (Forms unit) k = record k { units = k.units ++ unit ∷ []; waiting = drop unit.count k.waiting; next = serial_of (k.next + 1) }
 lists_changed Accepts k = lists_accepted k.units k
 lists_changed (Sets code) k = record k { code = code }

@@ -3,7 +3,7 @@
 ghost use Rattle.std.specs.Prelude.{◌≡◌, ℕ, ◌≤◌, ◌++◌, length, string_bytes, codes, OnOk};
 ghost use Rattle.std.specs.Io.{StartsWith};
 ghost use Rattle.jt_codec.specs.declared.message.Message.TheVariants as message;
-ghost use Rattle.jt_codec.specs.Viewing.{viewed};
+ghost use Rattle.jt_codec.specs.Viewing.{message_in_view};
 ghost use Rattle.jt_text.specs.Fields.{ack_fields};
 ghost use Rattle.jt_text.specs.Frames.{frame_start, header_fields, view_line};
 
@@ -251,7 +251,7 @@ pub fn push_message_view_line(
     view: MessageView<'_>,
     body_len: u16,
 ) -> Result<(), AllocError>
-    ensures text { OnOk result (string_bytes text.new ≡ string_bytes text.old ++ view_line place header.now (viewed view.entry) body_len) }
+    ensures text { OnOk result (string_bytes text.new ≡ string_bytes text.old ++ view_line place header.now (message_in_view view.entry) body_len) }
     ensures kept { StartsWith (string_bytes text.new) (string_bytes text.old) }
 {
     match view {

@@ -2,7 +2,7 @@
 
 ghost use Rattle.std.specs.Prelude.{◌≡◌, ◌<◌, ◌+◌, ◌↔◌, List, ℕ, [], ◌∷◌, ◌++◌, length, option_to_list, IfOk, IfSome, OnOk, OnErr, IsTrue, None};
 ghost use Rattle.hex.specs.Hex.{is_hex_digit};
-ghost use Rattle.jt_view.specs.HexInput.{is_blank, octet_of, first_wrong, digits, octets_of, unpaired, IsOdd, StandsFor, Completes};
+ghost use Rattle.jt_view.specs.HexInput.{is_blank, octet_of, first_wrong, digits, octets_of_digits, unpaired, IsOdd, StandsFor, Completes};
 
 use jt_value::Memory;
 use std::marker::Model;
@@ -68,7 +68,7 @@ impl HexReader {
     fn take(&mut self, digit: u8, octets: &mut Vec<u8>) -> Result<(), Memory>
         requires { IsTrue (is_hex_digit digit) }
         ensures waits { OnOk result (self.new ≡ unpaired (option_to_list self.old ++ digit ∷ [])) }
-        ensures octets { OnOk result (octets.new.items ≡ octets.old.items ++ octets_of (option_to_list self.old ++ digit ∷ [])) }
+        ensures octets { OnOk result (octets.new.items ≡ octets.old.items ++ octets_of_digits (option_to_list self.old ++ digit ∷ [])) }
         ensures err { OnErr result (octets.new.items ≡ octets.old.items) }
     {
         match self.waiting.take() {

@@ -10,7 +10,7 @@ ghost use Rattle.jt_view.specs.Reporting.{JudgesTold, judged};
 use jt_codec::judge_message;
 use jt_escape::Split;
 use jt_header::Header;
-use jt_stream::{Stream, placed};
+use jt_stream::{Stream, refusal_in_frame};
 use jt_value::{Memory, Refusal};
 use std::alloc::Global;
 
@@ -33,7 +33,7 @@ fn judge_body(alloc: Global, place: u64, header: &Header, body: &[u8]) -> Result
 {
     match judge_message(alloc, header, body)? {
         None => Ok(Judged::Frame),
-        Some(refusal) => Ok(Judged::Refused(placed(place, refusal))),
+        Some(refusal) => Ok(Judged::Refused(refusal_in_frame(place, refusal))),
     }
 }
 

@@ -3,7 +3,7 @@
 ghost use Rattle.std.specs.Prelude.{◌≡◌, ◌⊎◌, IfSome, ◌<◌, ◌≤◌, ◌+◌, ◌-◌, ◌^◌, ℕ, List, [], None, length, string_bytes, IfOk};
 ghost use Rattle.jt_value.specs.declared.limits.TheConstants.{INPUT_LIMIT};
 ghost use Rattle.jt_view.specs.Report.{answer_of, closing_of};
-ghost use Rattle.jt_view.specs.Taking.{Stands, StandsFor, Takes, EndsTooLong};
+ghost use Rattle.jt_view.specs.Taking.{Stands, StandsFor, TakesInput, EndsTooLong};
 
 use crate::closing::Closing;
 use crate::command::{Command, Encoding};
@@ -71,7 +71,7 @@ impl Reporter {
         ensures place { IfOk result (λ settled. settled ≡ None → self.new.tally.stream.splitter.place ≤ self.new.taken) }
         ensures place_of_any { IfOk result (λ _. self.new.tally.stream.splitter.place < 2 ^ 63) }
         ensures refused { IfOk result (λ settled. IfSome settled (λ status. status ≡ Status.Refused)) }
-        ensures takes { IfOk result (λ settled. Takes settled self.old self.new piece.now (string_bytes text.old) (string_bytes text.new)) }
+        ensures takes { IfOk result (λ settled. TakesInput settled self.old self.new piece.now (string_bytes text.old) (string_bytes text.new)) }
     {
         law_all_items();
         law_octets_of_front();
@@ -98,7 +98,7 @@ impl Reporter {
         ensures place { IfOk result (λ settled. settled ≡ None → self.new.tally.stream.splitter.place ≤ self.new.taken) }
         ensures place_of_any { IfOk result (λ _. self.new.tally.stream.splitter.place < 2 ^ 63) }
         ensures refused { IfOk result (λ settled. IfSome settled (λ status. status ≡ Status.Refused)) }
-        ensures takes { IfOk result (λ settled. Takes settled self.old self.new piece.now (string_bytes text.old) (string_bytes text.new)) }
+        ensures takes { IfOk result (λ settled. TakesInput settled self.old self.new piece.now (string_bytes text.old) (string_bytes text.new)) }
     {
         law_all_items();
         law_octets_of_front();
@@ -142,7 +142,7 @@ impl Reporter {
         ensures place { IfOk result (λ settled. settled ≡ None → self.new.tally.stream.splitter.place ≤ self.new.taken) }
         ensures place_of_any { IfOk result (λ _. self.new.tally.stream.splitter.place < 2 ^ 63) }
         ensures refused { IfOk result (λ settled. IfSome settled (λ status. status ≡ Status.Refused)) }
-        ensures takes { IfOk result (λ settled. Takes settled self.old self.new piece.now (string_bytes text.old) (string_bytes text.new)) }
+        ensures takes { IfOk result (λ settled. TakesInput settled self.old self.new piece.now (string_bytes text.old) (string_bytes text.new)) }
     {
         match self.command.encoding {
             Encoding::Octets => self.take_octets(alloc, piece, text),

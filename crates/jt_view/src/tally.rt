@@ -3,7 +3,7 @@
 ghost use Rattle.std.specs.Prelude.{◌≡◌, ◌<◌, ◌≤◌, ◌+◌, ◌^◌, [], List, ℕ, Option, length, take, string_bytes, IfOk, option_to_list};
 ghost use Rattle.jt_escape.specs.Scan.{end_of_stream};
 ghost use Rattle.jt_view.specs.Entry.{Entry, first_refusal};
-ghost use Rattle.jt_view.specs.Reporting.{Counts, Views, Checks, IsCounted, judged};
+ghost use Rattle.jt_view.specs.Reporting.{CountsEntries, Views, Checks, IsCounted, judged};
 
 use crate::judged::{Judged, judge_told};
 use crate::viewing::view_told;
@@ -36,7 +36,7 @@ impl Model for Tally {
 impl Tally {
     /// Nothing was taken yet.
     pub fn new() -> Tally
-        ensures { Counts result [] }
+        ensures { CountsEntries result [] }
     {
         law_all_items();
         Tally {
@@ -109,7 +109,7 @@ impl Tally {
 
     /// The refusal of a stream that ends here, if it has one.
     pub fn finish(&self) -> Option<Refusal>
-        ensures { (octets : List ℕ) → Counts self.now octets → result ≡ end_of_stream octets }
+        ensures { (octets : List ℕ) → CountsEntries self.now octets → result ≡ end_of_stream octets }
     {
         law_one_end();
         self.stream.finish()

@@ -2,7 +2,7 @@
 
 ghost use Rattle.std.specs.Prelude.{◌≡◌, ◌≢◌, ◌⊎◌, ◌<◌, ◌≤◌, ◌+◌, ◌^◌, ◌++◌, ◌==◌, if◌then◌else◌, length, string_bytes, IfOk, OnOk};
 ghost use Rattle.jt_view.specs.Entry.{lines, end_entries, refusals};
-ghost use Rattle.jt_view.specs.Reporting.{Tells, TellsOn, Closes};
+ghost use Rattle.jt_view.specs.Reporting.{TellsOctets, TellsOn, Closes};
 
 use crate::closing::Closing;
 use crate::command::Report;
@@ -32,7 +32,7 @@ fn view(alloc: Global, tally: &mut Tally, octets: &[u8], text: &mut String) -> R
 fn check(alloc: Global, tally: &mut Tally, octets: &[u8], text: &mut String) -> Result<bool, Memory>
     requires { tally.old.stream.splitter.place + length octets.now < 2 ^ 63 }
     ensures place { IfOk result (λ _. tally.new.stream.splitter.place ≤ tally.old.stream.splitter.place + length octets.now) }
-    ensures tells { IfOk result (λ settled. Tells settled Report.Check tally.old tally.new octets.now (string_bytes text.old) (string_bytes text.new)) }
+    ensures tells { IfOk result (λ settled. TellsOctets settled Report.Check tally.old tally.new octets.now (string_bytes text.old) (string_bytes text.new)) }
 {
     law_all_items();
     let mut at = 0;
@@ -61,7 +61,7 @@ pub fn tell(
 ) -> Result<bool, Memory>
     requires { tally.old.stream.splitter.place + length octets.now < 2 ^ 63 }
     ensures place { IfOk result (λ _. tally.new.stream.splitter.place ≤ tally.old.stream.splitter.place + length octets.now) }
-    ensures tells { IfOk result (λ settled. Tells settled report tally.old tally.new octets.now (string_bytes text.old) (string_bytes text.new)) }
+    ensures tells { IfOk result (λ settled. TellsOctets settled report tally.old tally.new octets.now (string_bytes text.old) (string_bytes text.new)) }
 {
     match report {
         Report::View => {

@@ -12,7 +12,7 @@ use crate::judged::Judged;
 use jt_codec::{read_message, view_message};
 use jt_escape::Split;
 use jt_header::Header;
-use jt_stream::{Stream, placed};
+use jt_stream::{Stream, refusal_in_frame};
 use jt_text::{Line, push_message_line, push_message_view_line, push_refusal_line_with};
 use jt_value::{CodecError, Memory, Refusal};
 use std::alloc::Global;
@@ -43,7 +43,7 @@ fn view_made(
             push_message_line(text, line, place, header, &message, body.len() as u16)?;
             Ok(Judged::Frame)
         }
-        Err(CodecError::Refused(refusal)) => view_refusal(text, line, placed(place, refusal)),
+        Err(CodecError::Refused(refusal)) => view_refusal(text, line, refusal_in_frame(place, refusal)),
         Err(CodecError::Memory) => Err(Memory),
     }
 }
@@ -66,7 +66,7 @@ fn view_body(
             push_message_view_line(text, line, place, header, view, body.len() as u16)?;
             Ok(Judged::Frame)
         }
-        Some(Err(refusal)) => view_refusal(text, line, placed(place, refusal)),
+        Some(Err(refusal)) => view_refusal(text, line, refusal_in_frame(place, refusal)),
         None => view_made(alloc, place, header, body, line, text),
     }
 }

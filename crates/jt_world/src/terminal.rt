@@ -4,9 +4,9 @@ ghost use Rattle.std.specs.Prelude.{◌≡◌, ◌^◌, IfSome, ◌<◌, ◌≤�
 ghost use Rattle.jt_header.specs.Content.{IsHeader};
 ghost use Rattle.jt_position.specs.Fixes.{IsFix};
 ghost use Rattle.jt_stream.specs.Unplaced.{Unplaced, Message};
-ghost use Rattle.jt_world.specs.Events.{heard, told_of};
+ghost use Rattle.jt_world.specs.Events.{after_hearing, after_response};
 ghost use Rattle.jt_world.specs.Holding as holding;
-ghost use Rattle.jt_world.specs.Holding.{IsNoMessage, IsNumbered, Platform, frame_of_next, unit_at, world_of, accepts_at, told_by};
+ghost use Rattle.jt_world.specs.Holding.{IsNoMessage, IsNumbered, Platform, frame_of_next, unit_at, world_of, accepts_at, places_named};
 ghost use Rattle.jt_world.specs.Messages as messages;
 ghost use Rattle.jt_world.specs.Script.{accepting, fix_limit};
 ghost use Rattle.jt_world.specs.World as defined;
@@ -185,7 +185,7 @@ impl Terminal {
         requires { IfSome message (λ message. length message.1.now < 2 ^ 10) }
         ensures ok { OnOk result ((platform : Platform) (up down : defined.Wire) (item : Option Unplaced) →
             MatchOption message.entry (IsNoMessage item) (λ message. item ≡ Some (Message message.0 message.1.now)) →
-            world_of self.new platform up down ≡ heard (world_of self.old platform up down) item) }
+            world_of self.new platform up down ≡ after_hearing (world_of self.old platform up down) item) }
         ensures err { OnErr result (self.new ≡ self.old) }
     {
         match message {
@@ -202,7 +202,7 @@ impl Terminal {
 
     fn take_acknowledgement(&mut self, ack: Option<Acknowledgement>) -> Result<(), Memory>
         ensures ok { OnOk result ((platform : Platform) (up down : defined.Wire) →
-            world_of self.new platform up down ≡ told_of (world_of self.old platform up down) ack) }
+            world_of self.new platform up down ≡ after_response (world_of self.old platform up down) ack) }
         ensures err { OnErr result (self.new ≡ self.old) }
     {
         match ack {
@@ -217,7 +217,7 @@ impl Terminal {
     // Notes which unit an acknowledgement accepts.
     #[tactic(auto, using(std::proofs::lemmas::Grind::common_steps))]
     fn tell(&mut self, ack: Acknowledgement) -> Result<(), Memory>
-        ensures ok { OnOk result (self.new ≡ record self.old { told = self.old.told ++ told_by self.old ack; just = Some ack }) }
+        ensures ok { OnOk result (self.new ≡ record self.old { told = self.old.told ++ places_named self.old ack; just = Some ack }) }
         ensures err { OnErr result (self.new ≡ self.old) }
         ensures numbered { IsNumbered self.old.recorded self.old.formed self.old.accepted }
     {

@@ -5,8 +5,8 @@ ghost use Rattle.std.specs.List.{flat_map};
 ghost use Rattle.std.specs.Fmt.{decimal};
 ghost use Rattle.std.specs.Io.{StartsWith};
 ghost use Rattle.jt_position.specs.declared.item.Item.TheVariants as items;
-ghost use Rattle.jt_position.specs.BatchViews.{viewed_position};
-ghost use Rattle.jt_position.specs.Views.{owned};
+ghost use Rattle.jt_position.specs.BatchViews.{position_in_view};
+ghost use Rattle.jt_position.specs.Views.{item_in_view};
 ghost use Rattle.jt_text.specs.PositionFields.{batch_fields, batch_item_text, item_text, motion_text, place_text, position_fields, region_text};
 ghost use Rattle.jt_text.specs.Times.{time_text};
 ghost use Rattle.jt_text.specs.Values.{byte_digits};
@@ -159,9 +159,9 @@ fn push_travel(
     Ok(())
 }
 
-#[tactic(auto, unfolding(crate::specs::PositionFields::item_text, jt_position::specs::Views::owned, hex::specs::Hex::encode_with))]
+#[tactic(auto, unfolding(crate::specs::PositionFields::item_text, jt_position::specs::Views::item_in_view, hex::specs::Hex::encode_with))]
 fn push_item(text: &mut String, line: &mut Line, item: &ItemView<'_>) -> Result<(), AllocError>
-    ensures text { OnOk result (string_bytes text.new ≡ string_bytes text.old ++ item_text (owned item.now)) }
+    ensures text { OnOk result (string_bytes text.new ≡ string_bytes text.old ++ item_text (item_in_view item.now)) }
     ensures kept { StartsWith (string_bytes text.new) (string_bytes text.old) }
 {
     match item {
@@ -211,7 +211,7 @@ fn push_position_view(
     line: &mut Line,
     view: PositionView<'_>,
 ) -> Result<(), AllocError>
-    ensures text { OnOk result (string_bytes text.new ≡ string_bytes text.old ++ batch_item_text (viewed_position view.entry)) }
+    ensures text { OnOk result (string_bytes text.new ≡ string_bytes text.old ++ batch_item_text (position_in_view view.entry)) }
     ensures kept { StartsWith (string_bytes text.new) (string_bytes text.old) }
 {
     line.clear();
@@ -237,9 +237,9 @@ pub(crate) fn push_position_views(
 }
 
 // The item, whose raw value stands where it is.
-#[tactic(auto, unfolding(jt_position::specs::Views::owned))]
+#[tactic(auto, unfolding(jt_position::specs::Views::item_in_view))]
 fn view_of(item: &Item) -> ItemView<'_>
-    ensures { owned result ≡ item.now }
+    ensures { item_in_view result ≡ item.now }
 {
     match item {
         Item::Mileage(distance) => ItemView::Mileage(*distance),

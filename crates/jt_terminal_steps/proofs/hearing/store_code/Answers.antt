@@ -1,5 +1,5 @@
 use Rattle.jt_terminal_steps.proofs.Keeping.{sound_coded_on}
-use Rattle.jt_terminal_steps.proofs.hearing.coded.Goals as goal
+use Rattle.jt_terminal_steps.proofs.hearing.store_code.Goals as goal
 
 pub returns-in-Ok-clause-sound : goal.returns-in-Ok-clause-sound
 returns-in-Ok-clause-sound g c =

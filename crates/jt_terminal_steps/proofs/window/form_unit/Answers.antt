@@ -1,6 +1,6 @@
 use Rattle.std.proofs.Common.{◌∙◌, sym}
 use Rattle.jt_terminal_steps.proofs.Keeping.{form_is_good, sound_formed}
-use Rattle.jt_terminal_steps.proofs.window.forms_one.Goals as goal
+use Rattle.jt_terminal_steps.proofs.window.form_unit.Goals as goal
 
 pub say_unit-requires-clause-body : goal.say_unit-requires-clause-body
 say_unit-requires-clause-body g c =
