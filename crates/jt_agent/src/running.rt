@@ -34,12 +34,16 @@ fn converse<K: Link, C: Clock, V: Vault>(
     requires octets { (1 ≤ octets) × (octets ≤ INPUT_LIMIT) }
     requires quiets { (1 ≤ quiets) × (quiets ≤ MOST_QUIETS) }
     ensures ends { Ends octets quiets
-        (at_link terminal.old.state (V.holds terminal.old.vault) (V.faults terminal.old.vault) (wire_of K.inbound K.written K.faults link.old))
-        (at_link terminal.new.state (V.holds terminal.new.vault) (V.faults terminal.new.vault) (wire_of K.inbound K.written K.faults link.new))
+        (at_link terminal.old.state (V.holds terminal.old.vault) (V.faults terminal.old.vault)
+        (wire_of K.inbound K.written K.faults link.old))
+        (at_link terminal.new.state (V.holds terminal.new.vault) (V.faults terminal.new.vault)
+        (wire_of K.inbound K.written K.faults link.new))
         (C.time clock.old) (C.time clock.new) result }
     ensures late { terminal.new.state.time ≤ (C.time clock.new).last }
     ensures settings { terminal.new.state.settings ≡ terminal.old.state.settings }
-    ensures vault { VaultStays (V.faults terminal.old.vault) (V.faults terminal.new.vault) (V.limit terminal.old.vault) (V.limit terminal.new.vault) (V.may_fail terminal.old.vault) (V.may_fail terminal.new.vault) (result ≡ StoreFault) }
+    ensures vault { VaultStays (V.faults terminal.old.vault) (V.faults terminal.new.vault)
+        (V.limit terminal.old.vault) (V.limit terminal.new.vault)
+        (V.may_fail terminal.old.vault) (V.may_fail terminal.new.vault) (result ≡ StoreFault) }
 {
     law_steps();
     let mut line = TerminalLine::new(alloc);
@@ -84,11 +88,14 @@ fn converse<K: Link, C: Clock, V: Vault>(
 
 // The terminal loses its line.
 fn lose<V: Vault>(alloc: Global, terminal: &mut Terminal<V>)
-    ensures did { DidRule (rule terminal.old.state Lost) terminal.new.state (V.holds terminal.old.vault) (V.holds terminal.new.vault) }
+    ensures did { DidRule (rule terminal.old.state Lost) terminal.new.state
+        (V.holds terminal.old.vault) (V.holds terminal.new.vault) }
     ensures down { IsDown terminal.new.state }
     ensures time { terminal.new.state.time ≡ terminal.old.state.time }
     ensures settings { terminal.new.state.settings ≡ terminal.old.state.settings }
-    ensures vault { VaultStays (V.faults terminal.old.vault) (V.faults terminal.new.vault) (V.limit terminal.old.vault) (V.limit terminal.new.vault) (V.may_fail terminal.old.vault) (V.may_fail terminal.new.vault) ⊥ }
+    ensures vault { VaultStays (V.faults terminal.old.vault) (V.faults terminal.new.vault)
+        (V.limit terminal.old.vault) (V.limit terminal.new.vault)
+        (V.may_fail terminal.old.vault) (V.may_fail terminal.new.vault) ⊥ }
 {
     match terminal.event(alloc, Event::Lost) {
         Ok(_) => {}
@@ -120,14 +127,18 @@ pub fn attempt_within<K: Link, C: Clock, V: Vault>(
     requires quiets { (1 ≤ quiets) × (quiets ≤ MOST_QUIETS) }
     // What the terminal was told, what it did and what was written, and why the attempt ended.
     ensures attempt { Attempt octets quiets
-        (at_link terminal.old.state (V.holds terminal.old.vault) (V.faults terminal.old.vault) (wire_of K.inbound K.written K.faults link.old))
-        (at_link terminal.new.state (V.holds terminal.new.vault) (V.faults terminal.new.vault) (wire_of K.inbound K.written K.faults link.new))
+        (at_link terminal.old.state (V.holds terminal.old.vault) (V.faults terminal.old.vault)
+        (wire_of K.inbound K.written K.faults link.old))
+        (at_link terminal.new.state (V.holds terminal.new.vault) (V.faults terminal.new.vault)
+        (wire_of K.inbound K.written K.faults link.new))
         (C.time clock.old) (C.time clock.new) result }
     // So another attempt may follow.
     ensures down { IsDown terminal.new.state }
     ensures late { terminal.new.state.time ≤ (C.time clock.new).last }
     ensures settings { terminal.new.state.settings ≡ terminal.old.state.settings }
-    ensures vault { VaultStays (V.faults terminal.old.vault) (V.faults terminal.new.vault) (V.limit terminal.old.vault) (V.limit terminal.new.vault) (V.may_fail terminal.old.vault) (V.may_fail terminal.new.vault) (result ≡ StoreFault) }
+    ensures vault { VaultStays (V.faults terminal.old.vault) (V.faults terminal.new.vault)
+        (V.limit terminal.old.vault) (V.limit terminal.new.vault)
+        (V.may_fail terminal.old.vault) (V.may_fail terminal.new.vault) (result ≡ StoreFault) }
 {
     let ended = converse(alloc, link, clock, terminal, octets, quiets);
     lose(alloc, terminal);
@@ -144,13 +155,17 @@ pub fn attempt<K: Link, C: Clock, V: Vault>(
     requires down { terminal.old.state.phase ≡ Down }
     requires time { terminal.old.state.time ≤ (C.time clock.old).last }
     ensures attempt { Attempt INPUT_LIMIT MOST_QUIETS
-        (at_link terminal.old.state (V.holds terminal.old.vault) (V.faults terminal.old.vault) (wire_of K.inbound K.written K.faults link.old))
-        (at_link terminal.new.state (V.holds terminal.new.vault) (V.faults terminal.new.vault) (wire_of K.inbound K.written K.faults link.new))
+        (at_link terminal.old.state (V.holds terminal.old.vault) (V.faults terminal.old.vault)
+        (wire_of K.inbound K.written K.faults link.old))
+        (at_link terminal.new.state (V.holds terminal.new.vault) (V.faults terminal.new.vault)
+        (wire_of K.inbound K.written K.faults link.new))
         (C.time clock.old) (C.time clock.new) result }
     ensures down { IsDown terminal.new.state }
     ensures late { terminal.new.state.time ≤ (C.time clock.new).last }
     ensures settings { terminal.new.state.settings ≡ terminal.old.state.settings }
-    ensures vault { VaultStays (V.faults terminal.old.vault) (V.faults terminal.new.vault) (V.limit terminal.old.vault) (V.limit terminal.new.vault) (V.may_fail terminal.old.vault) (V.may_fail terminal.new.vault) (result ≡ StoreFault) }
+    ensures vault { VaultStays (V.faults terminal.old.vault) (V.faults terminal.new.vault)
+        (V.limit terminal.old.vault) (V.limit terminal.new.vault)
+        (V.may_fail terminal.old.vault) (V.may_fail terminal.new.vault) (result ≡ StoreFault) }
 {
     attempt_within(alloc, link, clock, terminal, INPUT_LIMIT, MOST_QUIETS)
 }

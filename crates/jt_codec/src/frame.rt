@@ -97,8 +97,8 @@ pub fn parse_frame(alloc: Global, content: &[u8]) -> Result<(Header, Message), C
     // The header and the message that the content is, or the reason against it.
     ensures answer { FrameAnswers content.now result }
     // Each frame's content is parsed as what it is, unless memory is wanted.
-    ensures every_frame { (h : Header) (octets : List ℕ) (message : Message) → Frame h octets message content.now
-        → IsUnlessMemory result (Ok (h, message)) }
+    ensures every_frame { (h : Header) (octets : List ℕ) (message : Message) →
+        Frame h octets message content.now → IsUnlessMemory result (Ok (h, message)) }
     ensures every_refusal { (refusal : Refusal) → IsRefused content.now refusal
         → IsUnlessMemory result (Err refusal) }
     // The same as a function of the content.

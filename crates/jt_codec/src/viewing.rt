@@ -162,10 +162,13 @@ fn view_row<'a>(
 #[inline(always)]
 pub fn view_message<'a>(header: &Header, body: &'a [u8]) -> Option<Result<MessageView<'a>, Refusal>>
     requires { length body.now < 2 ^ 10 }
-    ensures some { IsSome result ↔ IsViewed header.now.packet header.now.edition header.now.id body.now }
+    ensures some { IsSome result
+        ↔ IsViewed header.now.packet header.now.edition header.now.id body.now }
     ensures answer { IfSome result (λ answer. MatchResult answer
-        (λ view. message_read header.now.packet header.now.edition header.now.id body.now ≡ Ok (message_in_view view))
-        (λ refusal. message_read header.now.packet header.now.edition header.now.id body.now ≡ Err refusal)) }
+        (λ view. message_read header.now.packet header.now.edition header.now.id body.now
+        ≡ Ok (message_in_view view))
+        (λ refusal. message_read header.now.packet header.now.edition header.now.id body.now
+        ≡ Err refusal)) }
 {
     if header.packet.is_some() {
         return Some(Ok(MessageView::Part(body)));

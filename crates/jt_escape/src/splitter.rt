@@ -105,7 +105,8 @@ fn plain_len(octets: &[u8]) -> usize
 // The octet that an escape with this code stands for.
 #[inline(always)]
 fn unescaped(code: u8) -> Option<u8>
-    ensures { IfSome result (λ octet. ((code ≡ 0x01) × (octet ≡ 0x7D)) ⊎ ((code ≡ 0x02) × (octet ≡ 0x7E))) }
+    ensures { IfSome result (λ octet.
+        ((code ≡ 0x01) × (octet ≡ 0x7D)) ⊎ ((code ≡ 0x02) × (octet ≡ 0x7E))) }
 {
     match code {
         ESCAPE_CODE => Some(ESCAPE),
@@ -145,7 +146,8 @@ fn plain_front(piece: &[u8]) -> usize
 #[inline(always)]
 fn is_closed(piece: &[u8], count: usize) -> bool
     requires { count + 1 ≤ length piece.now }
-    ensures { IsTrue result → (0 < count) × (count + 2 ≤ length piece.now) × (slice_index piece.now (count + 1) ≡ 0x7E) }
+    ensures { IsTrue result →
+        (0 < count) × (count + 2 ≤ length piece.now) × (slice_index piece.now (count + 1) ≡ 0x7E) }
 {
     count > 0 && count + 1 < piece.len() && piece[count + 1] == FLAG
 }
@@ -353,7 +355,8 @@ impl Splitter {
         ensures within { result ≤ length octets.now }
         ensures mode { self.new.mode ≡ Inside }
         ensures place { self.new.place ≡ self.old.place }
-        ensures runs { (place : ℕ) → Runs (standing self.old place) (standing self.new (place + result)) (take result octets.now) [] }
+        ensures runs { (place : ℕ) → Runs (standing self.old place)
+            (standing self.new (place + result)) (take result octets.now) [] }
     {
         if octets.len() == 1 {
             return 0;
@@ -377,7 +380,8 @@ impl Splitter {
         ensures within { result ≤ length octets.now }
         ensures mode { self.new.mode ≡ Inside }
         ensures place { self.new.place ≡ self.old.place }
-        ensures runs { Runs self.old (standing self.new (self.old.place + result)) (take result octets.now) [] }
+        ensures runs { Runs self.old (standing self.new (self.old.place + result))
+            (take result octets.now) [] }
     {
         if octets.is_empty() {
             return 0;
@@ -532,7 +536,8 @@ impl Splitter {
         ensures some { 0 < result.0 }
         ensures within { result.0 ≤ length octets.now }
         ensures place { self.new.place ≡ self.old.place + result.0 }
-        ensures runs { Runs self.old self.new (take result.0 octets.now) (split_events result.1 self.new) }
+        ensures runs { Runs self.old self.new (take result.0 octets.now)
+            (split_events result.1 self.new) }
         ensures content { result.1 ≡ Split.Content → 0 < length self.new.content }
     {
         let run = self.keep_content(octets);
@@ -548,7 +553,8 @@ impl Splitter {
         ensures some { 0 < result.0 }
         ensures within { result.0 ≤ length octets.now }
         ensures place { self.new.place ≡ self.old.place + result.0 }
-        ensures runs { Runs self.old self.new (take result.0 octets.now) (split_events result.1 self.new) }
+        ensures runs { Runs self.old self.new (take result.0 octets.now)
+            (split_events result.1 self.new) }
         ensures content { result.1 ≡ Split.Content → 0 < length self.new.content }
     {
         let run = self.pass_run(octets);
@@ -563,7 +569,8 @@ impl Splitter {
         ensures some { 0 < result.0 }
         ensures within { result.0 ≤ length octets.now }
         ensures place { self.new.place ≡ self.old.place + result.0 }
-        ensures runs { Runs self.old self.new (take result.0 octets.now) (split_events result.1 self.new) }
+        ensures runs { Runs self.old self.new (take result.0 octets.now)
+            (split_events result.1 self.new) }
         ensures content { result.1 ≡ Split.Content → 0 < length self.new.content }
     {
         match self.mode {
@@ -578,7 +585,8 @@ impl Splitter {
         ensures within { result.0 ≤ length piece.now }
         ensures some { 0 < length piece.now → 0 < result.0 }
         ensures place { self.new.place ≡ self.old.place + result.0 }
-        ensures runs { Runs self.old self.new (take result.0 piece.now) (split_events result.1 self.new) }
+        ensures runs { Runs self.old self.new (take result.0 piece.now)
+            (split_events result.1 self.new) }
         ensures more { result.1 ≡ Split.More → result.0 ≡ length piece.now }
         ensures content { result.1 ≡ Split.Content → 0 < length self.new.content }
     {
@@ -602,13 +610,16 @@ impl Splitter {
         ensures taken { result.0 ≤ length piece.now }
         ensures some { 0 < length piece.now → 0 < result.0 }
         ensures place { self.new.place ≡ self.old.place + result.0 }
-        ensures events { Takes self.old self.new (take result.0 piece.now) (split_events result.1 self.new) }
+        ensures events { Takes self.old self.new (take result.0 piece.now)
+            (split_events result.1 self.new) }
         // The same also holds after `take_in_place`.
-        ensures in_place { TakesInPlace self.old self.new (take result.0 piece.now) (split_events result.1 self.new) }
+        ensures in_place { TakesInPlace self.old self.new (take result.0 piece.now)
+            (split_events result.1 self.new) }
         ensures more { result.1 ≡ Split.More → result.0 ≡ length piece.now }
         // No octet past the first that completes something is taken.
         ensures first { (count : ℕ) → count < result.0 → IsSilent self.old (take count piece.now) }
-        ensures first_in_place { (count : ℕ) → count < result.0 → IsSilentInPlace self.old (take count piece.now) }
+        ensures first_in_place { (count : ℕ) → count < result.0 →
+            IsSilentInPlace self.old (take count piece.now) }
         ensures content { result.1 ≡ Split.Content → 0 < length self.new.content }
     {
         self.take_all(piece)
@@ -647,10 +658,12 @@ impl Splitter {
         ensures within { (taken ≤ result.0) × (result.0 ≤ length piece.now) }
         ensures some { taken < length piece.now → taken < result.0 }
         ensures place { self.new.place + taken ≡ self.old.place + result.0 }
-        ensures runs { (before : State) → Runs before self.old (take taken piece.now) []
-            → RunsInPlace before self.new (take result.0 piece.now) (split_events_in_place result.1 self.new (take result.0 piece.now)) }
+        ensures runs { (before : State) → Runs before self.old (take taken piece.now) [] →
+            RunsInPlace before self.new (take result.0 piece.now)
+            (split_events_in_place result.1 self.new (take result.0 piece.now)) }
         ensures more { result.1 ≡ Split.More → result.0 ≡ length piece.now }
-        ensures content { result.1 ≡ Split.Content → IsContent (lent self.new (take result.0 piece.now)) }
+        ensures content { result.1 ≡ Split.Content →
+            IsContent (lent self.new (take result.0 piece.now)) }
     {
         let (count, split) = self.take_all(&piece[taken..]);
         // The place of a content has no more room, which callers could not know.
@@ -672,7 +685,8 @@ impl Splitter {
         ensures runs { RunsInPlace self.old self.new (take result.0 piece.now)
             (split_events_in_place result.1 self.new (take result.0 piece.now)) }
         ensures more { result.1 ≡ Split.More → result.0 ≡ length piece.now }
-        ensures content { result.1 ≡ Split.Content → IsContent (lent self.new (take result.0 piece.now)) }
+        ensures content { result.1 ≡ Split.Content →
+            IsContent (lent self.new (take result.0 piece.now)) }
     {
         self.open();
         self.keep_all(&piece[1..count + 1]);
@@ -692,7 +706,8 @@ impl Splitter {
         ensures runs { RunsInPlace self.old self.new (take result.0 piece.now)
             (split_events_in_place result.1 self.new (take result.0 piece.now)) }
         ensures more { result.1 ≡ Split.More → result.0 ≡ length piece.now }
-        ensures content { result.1 ≡ Split.Content → IsContent (lent self.new (take result.0 piece.now)) }
+        ensures content { result.1 ≡ Split.Content →
+            IsContent (lent self.new (take result.0 piece.now)) }
     {
         let count = plain_front(piece);
         if !is_closed(piece, count) {
@@ -715,8 +730,10 @@ impl Splitter {
             (split_events_in_place result.1 self.new (take result.0 piece.now)) }
         ensures more { result.1 ≡ Split.More → result.0 ≡ length piece.now }
         // No octet past the first that completes something is taken.
-        ensures first { (count : ℕ) → count < result.0 → IsSilentInPlace self.old (take count piece.now) }
-        ensures content { result.1 ≡ Split.Content → IsContent (lent self.new (take result.0 piece.now)) }
+        ensures first { (count : ℕ) → count < result.0 →
+            IsSilentInPlace self.old (take count piece.now) }
+        ensures content { result.1 ≡ Split.Content →
+            IsContent (lent self.new (take result.0 piece.now)) }
     {
         if self.opens(piece) {
             return self.take_frame(piece);
@@ -743,7 +760,8 @@ impl Splitter {
         ensures place { self.new.place ≡ self.old.place + 1 }
         ensures events { Takes self.old self.new (octet ∷ []) (split_events result self.new) }
         // The same also holds after `take_in_place`.
-        ensures in_place { TakesInPlace self.old self.new (octet ∷ []) (split_events result self.new) }
+        ensures in_place { TakesInPlace self.old self.new (octet ∷ [])
+            (split_events result self.new) }
         ensures content { result ≡ Split.Content → 0 < length self.new.content }
     {
         self.step(octet)

@@ -43,7 +43,11 @@ const PLACES_2019: Places = Places {
 
 #[inline(always)]
 fn places_of(edition: Edition) -> Places
-    ensures { result ≡ record { phone = phone_place edition; serial = serial_place edition; packet = packet_place edition } }
+    ensures { result ≡ record {
+      phone = phone_place edition;
+      serial = serial_place edition;
+      packet = packet_place edition;
+    } }
 {
     match edition {
         Edition::E2013 => PLACES_2013,
@@ -89,7 +93,8 @@ fn attributes(content: &[u8]) -> Result<Attributes, Refusal>
     requires { length content.now ≤ CONTENT_LIMIT }
     ensures row { Rejects result (too_short content.now) }
     ensures value { IfOk result (λ attributes. attributes.0 ≡ attributes_at content.now) }
-    ensures room { IfOk result (λ _. header_len_in (attributes_at content.now) < length content.now) }
+    ensures room { IfOk result (λ _.
+        header_len_in (attributes_at content.now) < length content.now) }
 {
     let len = content.len();
     if len < 5 {
@@ -122,7 +127,8 @@ fn check_octet(content: &[u8]) -> Result<(), Refusal>
 #[inline(always)]
 #[tactic(auto, unfolding(crate::specs::Reason::encrypted, crate::specs::Reason::length_mismatch))]
 fn attributes_hold(attributes: Attributes, actual: u16) -> Result<(), Refusal>
-    ensures { Rejects result (first_of (encrypted attributes.0 ∷ length_mismatch attributes.0 actual ∷ [])) }
+    ensures { Rejects result
+        (first_of (encrypted attributes.0 ∷ length_mismatch attributes.0 actual ∷ [])) }
 {
     if attributes.is_encrypted() {
         return Err(refusal(ATTRIBUTES, Why::Encrypted));
@@ -139,7 +145,8 @@ fn attributes_hold(attributes: Attributes, actual: u16) -> Result<(), Refusal>
 fn phone(edition: Edition, field: &[u8]) -> Result<Phone, Refusal>
     requires { length field.now ≡ field_len edition }
     ensures row { Rejects result (phone_digit edition field.now) }
-    ensures value { IfOk result (λ phone. phone ≡ record { edition = edition; digits = digits_of edition field.now }) }
+    ensures value { IfOk result (λ phone.
+        phone ≡ record { edition = edition; digits = digits_of edition field.now }) }
 {
     let start = places_of(edition).phone;
     let at_digit = |offset| refusal(start + offset as usize, Why::PhoneDigit);

@@ -43,7 +43,8 @@ fn push_list_line(text: &mut String, limit: u64) -> Result<(), AllocError>
 impl EarlyEnd {
     /// Puts the line that tells it at the end of a text. After an error the text is a part of that.
     pub fn push(self, text: &mut String) -> Result<(), AllocError>
-        ensures { OnOk result (string_bytes text.new ≡ string_bytes text.old ++ (early_reply self).text) }
+        ensures { OnOk result
+            (string_bytes text.new ≡ string_bytes text.old ++ (early_reply self).text) }
     {
         match self {
             EarlyEnd::BadLine(number) => push_bad_line(text, number),
@@ -88,9 +89,11 @@ pub fn write_reply<K: Sink>(sink: &mut K, text: &[u8], status: Status) -> Status
 /// Writes the line that tells what ended a command early. WriteFault says that a write failed, Memory that there was none for
 /// the line; what was written then is the front of it.
 pub fn answer_early_end<K: Sink>(alloc: Global, sink: &mut K, end: EarlyEnd) -> Status
-    ensures answers { AnswersReply result (early_reply end) (K.written sink.old) (K.written sink.new) }
+    ensures answers { AnswersReply result (early_reply end)
+        (K.written sink.old) (K.written sink.new) }
     ensures status { (result ≡ (early_reply end).status) ⊎ CutsShort result }
-    ensures write_fault { result ≡ Status.WriteFault → Rose (K.faults sink.old) (K.faults sink.new) }
+    ensures write_fault { result ≡ Status.WriteFault →
+        Rose (K.faults sink.old) (K.faults sink.new) }
     ensures no_read_fault { result ≢ Status.ReadFault }
 {
     let mut text = String::new(alloc);

@@ -87,7 +87,8 @@ impl LineCutter {
     fn keep(&mut self, part: &[u8]) -> bool
         requires number { self.old.number < LINES_LIMIT }
         requires whole { self.old.whole ≡ false }
-        ensures kept { result ≡ true → self.new ≡ record self.old { line = self.old.line ++ part.now } }
+        ensures kept { result ≡ true →
+            self.new ≡ record self.old { line = self.old.line ++ part.now } }
         ensures within { result ≡ true → length self.new.line ≤ LINE_LIMIT }
         ensures too_many { result ≡ false → LINE_LIMIT < length self.old.line + length part.now }
         ensures same { result ≡ false → self.new ≡ self.old }
@@ -99,10 +100,12 @@ impl LineCutter {
     /// were taken and end none, or `Bad` where the next line is beyond the limits; then none was taken.
     pub fn take(&mut self, piece: &[u8]) -> (usize, Cut)
         ensures taken { result.0 ≤ length piece.now }
-        ensures takes { CutsOctets self.old self.new (take result.0 piece.now) (cut_lines result.1 self.new) }
+        ensures takes { CutsOctets self.old self.new (take result.0 piece.now)
+            (cut_lines result.1 self.new) }
         ensures more { result.1 ≡ Cut.More → result.0 ≡ length piece.now }
         ensures room { room_of self.new + result.0 ≤ room_of self.old }
-        ensures line { result.1 ≡ Cut.Line → (0 < result.0) × IsTrue (is_within self.new.number self.new.line) }
+        ensures line { result.1 ≡ Cut.Line →
+            (0 < result.0) × IsTrue (is_within self.new.number self.new.line) }
         ensures bad { result.1 ≡ Cut.Bad → (result.0 ≡ 0) × IsBeyond self.old piece.now }
         // What is kept of a line that is not ended is within the limits so far.
         ensures begun { IsBegun self.old → IsBegun self.new }
@@ -152,7 +155,8 @@ impl LineCutter {
     /// The line that lacks its line feed, where the text ends here.
     pub fn last(&self) -> Option<&[u8]>
         // The lines of the text are those that were told and this one.
-        ensures lines { (text : List ℕ) (lines : List (List ℕ)) → Cuts text lines (begun_of self.now) →
+        ensures lines { (text : List ℕ) (lines : List (List ℕ)) →
+            Cuts text lines (begun_of self.now) →
             lines_of text ≡ lines ++ option_to_list (option_copied result) }
         ensures within { IfSome result (λ line. IsTrue (is_within (self.now.number + 1) line.now)) }
         ensures line { IfSome result (λ line. line.now ≡ self.now.line) }

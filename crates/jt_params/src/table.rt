@@ -84,7 +84,8 @@ impl<T: Drop> From<AllocFailed<T>> for ParamError {
 fn set_in(values: &mut BTreeMap<u32, ParamValue>, params: &[Param]) -> Result<(), Memory>
     ensures values { OnOk result ((id : ℕ) → tree.get nat_cmp values.new id
         ≡ option_or (last_value params.now id) (tree.get nat_cmp values.old id)) }
-    ensures size { OnOk result (tree.btree_map_len values.new ≤ tree.btree_map_len values.old + length params.now) }
+    ensures size { OnOk result
+        (tree.btree_map_len values.new ≤ tree.btree_map_len values.old + length params.now) }
 {
     for param in params {
         values.insert(param.id, param.value.clone()?)?;
@@ -96,7 +97,8 @@ fn set_in(values: &mut BTreeMap<u32, ParamValue>, params: &[Param]) -> Result<()
 fn listed_in(alloc: Global, values: &BTreeMap<u32, ParamValue>) -> Result<Seq<Param>, Memory>
     ensures params { IfOk result (λ params. params ≡ params_of values.now.entries) }
     ensures ordered { tree.IsOrdered nat_cmp values.now }
-    ensures found { IfOk result (λ _. All (λ pair. tree.get nat_cmp values.now pair.0 ≡ Some pair.1) values.now.entries) }
+    ensures found { IfOk result (λ _.
+        All (λ pair. tree.get nat_cmp values.now pair.0 ≡ Some pair.1) values.now.entries) }
 {
     let mut params = Vec::with_capacity(alloc, values.len())?;
     for (id, value) in values {

@@ -58,15 +58,23 @@ where
     L::Link: Send,
     requires history { hub.history ≡ [] }
     requires sessions { 1 ≤ sessions }
-    ensures opens { Opens (Option (HubOpening P)) (opening_of (P.tables hub.start) (P.limit hub.start) hub.fleet hub.secret) sessions
-        (scene_of (L.pool listen.old) (L.faults listen.old) (P.tables hub.start) (P.limit hub.start) (P.faults hub.keeper))
-        (scene_of (L.pool listen.new) (L.faults listen.new) (P.tables result.keeper) (P.limit result.keeper) (P.faults result.keeper))
+    ensures opens { Opens (Option (HubOpening P))
+        (opening_of (P.tables hub.start) (P.limit hub.start) hub.fleet hub.secret) sessions
+        (scene_of (L.pool listen.old) (L.faults listen.old) (P.tables hub.start) (P.limit hub.start)
+        (P.faults hub.keeper))
+        (scene_of (L.pool listen.new) (L.faults listen.new) (P.tables result.keeper)
+        (P.limit result.keeper) (P.faults result.keeper))
         (K.written sink.old) (K.written sink.new) result.reports result.history result.status }
-    ensures keeper { (P.tables result.keeper ≡ tables_after (P.tables hub.start) (newest result.history)) × (P.limit result.keeper ≡ P.limit hub.start) }
-    ensures write_fault { result.status ≡ Status.WriteFault → Rose (K.faults sink.old) (K.faults sink.new) }
+    ensures keeper { (P.tables result.keeper
+        ≡ tables_after (P.tables hub.start) (newest result.history))
+        × (P.limit result.keeper ≡ P.limit hub.start) }
+    ensures write_fault { result.status ≡ Status.WriteFault →
+        Rose (K.faults sink.old) (K.faults sink.new) }
     ensures no_read_fault { result.status ≢ Status.ReadFault }
-    ensures net_fault { result.status ≡ Status.NetFault → Rose (L.faults listen.old) (L.faults listen.new) }
-    ensures store_fault { result.status ≡ Status.StoreFault → Rose (P.faults hub.keeper) (P.faults result.keeper) ⊎ (first_limit result.reports ≢ None) }
+    ensures net_fault { result.status ≡ Status.NetFault →
+        Rose (L.faults listen.old) (L.faults listen.new) }
+    ensures store_fault { result.status ≡ Status.StoreFault →
+        Rose (P.faults hub.keeper) (P.faults result.keeper) ⊎ (first_limit result.reports ≢ None) }
     ensures not_usage { result.status ≢ Status.Usage }
 {
     let Served { reports, hub, end } = serve(rt, alloc, listen, hub, sessions);
@@ -94,15 +102,23 @@ where
     L::Link: Send,
     requires history { hub.history ≡ [] }
     requires sessions { 1 ≤ words.sessions }
-    ensures opens { Opens (Option (HubOpening P)) (opening_of (P.tables hub.start) (P.limit hub.start) hub.fleet hub.secret) words.sessions
-        (scene_of (L.pool listen.old) (L.faults listen.old) (P.tables hub.start) (P.limit hub.start) (P.faults hub.keeper))
-        (scene_of (L.pool listen.new) (L.faults listen.new) (P.tables result.keeper) (P.limit result.keeper) (P.faults result.keeper))
+    ensures opens { Opens (Option (HubOpening P))
+        (opening_of (P.tables hub.start) (P.limit hub.start) hub.fleet hub.secret) words.sessions
+        (scene_of (L.pool listen.old) (L.faults listen.old) (P.tables hub.start) (P.limit hub.start)
+        (P.faults hub.keeper))
+        (scene_of (L.pool listen.new) (L.faults listen.new) (P.tables result.keeper)
+        (P.limit result.keeper) (P.faults result.keeper))
         (K.written sink.old) (K.written sink.new) result.reports result.history result.status }
-    ensures keeper { (P.tables result.keeper ≡ tables_after (P.tables hub.start) (newest result.history)) × (P.limit result.keeper ≡ P.limit hub.start) }
-    ensures write_fault { result.status ≡ Status.WriteFault → Rose (K.faults sink.old) (K.faults sink.new) }
+    ensures keeper { (P.tables result.keeper
+        ≡ tables_after (P.tables hub.start) (newest result.history))
+        × (P.limit result.keeper ≡ P.limit hub.start) }
+    ensures write_fault { result.status ≡ Status.WriteFault →
+        Rose (K.faults sink.old) (K.faults sink.new) }
     ensures no_read_fault { result.status ≢ Status.ReadFault }
-    ensures net_fault { result.status ≡ Status.NetFault → Rose (L.faults listen.old) (L.faults listen.new) }
-    ensures store_fault { result.status ≡ Status.StoreFault → Rose (P.faults hub.keeper) (P.faults result.keeper) ⊎ (first_limit result.reports ≢ None) }
+    ensures net_fault { result.status ≡ Status.NetFault →
+        Rose (L.faults listen.old) (L.faults listen.new) }
+    ensures store_fault { result.status ≡ Status.StoreFault →
+        Rose (P.faults hub.keeper) (P.faults result.keeper) ⊎ (first_limit result.reports ≢ None) }
     ensures not_usage { result.status ≢ Status.Usage }
 {
     if !listen.start(words.port) {
@@ -134,15 +150,24 @@ pub fn platform<R: Threads + Wait + Sync, S: Source, K: Sink, L: Listen, P: Keep
 where
     L::Link: Send,
     requires sessions { 1 ≤ words.sessions }
-    ensures runs { RunsPlatform (Option (HubOpening P)) words.sessions (S.left source.old) (S.left source.new)
-        (scene_of (L.pool listen.old) (L.faults listen.old) (P.tables keeper) (P.limit keeper) (P.faults keeper))
-        (scene_of (L.pool listen.new) (L.faults listen.new) (P.tables result.keeper) (P.limit result.keeper) (P.faults result.keeper))
+    ensures runs { RunsPlatform (Option (HubOpening P)) words.sessions
+        (S.left source.old) (S.left source.new)
+        (scene_of (L.pool listen.old) (L.faults listen.old) (P.tables keeper) (P.limit keeper)
+        (P.faults keeper))
+        (scene_of (L.pool listen.new) (L.faults listen.new) (P.tables result.keeper)
+        (P.limit result.keeper) (P.faults result.keeper))
         (K.written sink.old) (K.written sink.new) result.reports result.history result.status }
-    ensures keeper { (P.tables result.keeper ≡ tables_after (P.tables keeper) (newest result.history)) × (P.limit result.keeper ≡ P.limit keeper) }
-    ensures read_fault { result.status ≡ Status.ReadFault → Rose (S.faults source.old) (S.faults source.new) }
-    ensures write_fault { result.status ≡ Status.WriteFault → Rose (K.faults sink.old) (K.faults sink.new) }
-    ensures net_fault { result.status ≡ Status.NetFault → Rose (L.faults listen.old) (L.faults listen.new) }
-    ensures store_fault { result.status ≡ Status.StoreFault → Rose (P.faults keeper) (P.faults result.keeper) ⊎ (first_limit result.reports ≢ None) }
+    ensures keeper { (P.tables result.keeper
+        ≡ tables_after (P.tables keeper) (newest result.history))
+        × (P.limit result.keeper ≡ P.limit keeper) }
+    ensures read_fault { result.status ≡ Status.ReadFault →
+        Rose (S.faults source.old) (S.faults source.new) }
+    ensures write_fault { result.status ≡ Status.WriteFault →
+        Rose (K.faults sink.old) (K.faults sink.new) }
+    ensures net_fault { result.status ≡ Status.NetFault →
+        Rose (L.faults listen.old) (L.faults listen.new) }
+    ensures store_fault { result.status ≡ Status.StoreFault →
+        Rose (P.faults keeper) (P.faults result.keeper) ⊎ (first_limit result.reports ≢ None) }
     ensures to_the_end { result.status ≡ Status.Done → IsAtEnd (S.left source.new) }
     ensures not_usage { result.status ≢ Status.Usage }
 {

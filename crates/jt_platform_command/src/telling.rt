@@ -22,7 +22,8 @@ fn push_served(
     reports: &[Report],
     history: &[Entry],
 ) -> Result<(), AllocError>
-    ensures { OnOk result (string_bytes text.new ≡ string_bytes text.old ++ (platform_text (Served end reports.now history.now)).text) }
+    ensures { OnOk result (string_bytes text.new
+        ≡ string_bytes text.old ++ (platform_text (Served end reports.now history.now)).text) }
 {
     push_session_lines(text, reports)?;
     push_entries_line(text, history)?;
@@ -38,9 +39,13 @@ pub(crate) fn tell_served<K: Sink>(
     reports: &[Report],
     history: &[Entry],
 ) -> Status
-    ensures answers { AnswersReply result (platform_text (Served end reports.now history.now)) (K.written sink.old) (K.written sink.new) }
-    ensures status { (result ≡ (if some_end is_memory reports.now then Memory else (last_reply end reports.now).status)) ⊎ IsFault result }
-    ensures write_fault { result ≡ Status.WriteFault → Rose (K.faults sink.old) (K.faults sink.new) }
+    ensures answers { AnswersReply result (platform_text (Served end reports.now history.now))
+        (K.written sink.old) (K.written sink.new) }
+    ensures status { (result
+        ≡ (if some_end is_memory reports.now then Memory else (last_reply end reports.now).status))
+        ⊎ IsFault result }
+    ensures write_fault { result ≡ Status.WriteFault →
+        Rose (K.faults sink.old) (K.faults sink.new) }
     ensures no_read_fault { result ≢ Status.ReadFault }
     ensures ends { EndsOf end result }
 {

@@ -90,7 +90,8 @@ pub struct BatchView<'a> {
 
 #[tactic(auto, unfolding(crate::specs::Positions::batch))]
 fn view_in(octets: &[u8]) -> Result<BatchView<'_>, Refusal>
-    ensures { Finds (λ view. record { kind = view.kind; fixes = view.fixes }) result (batch.read octets.now 0) }
+    ensures { Finds (λ view. record { kind = view.kind; fixes = view.fixes }) result
+        (batch.read octets.now 0) }
 {
     let mut reader = Reader::new(octets);
     let count = reader.word()?;

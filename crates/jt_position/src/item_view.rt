@@ -106,7 +106,8 @@ impl<'a> ItemView<'a> {
     #[inline(always)]
     #[tactic(auto, unfolding(crate::specs::Positions::item))]
     pub(crate) fn read(reader: &mut Reader<'a>) -> Result<ItemView<'a>, Refusal>
-        ensures value { Finds (λ view. (item_in_view view, reader.new.place)) result (item.read reader.old.octets reader.old.place) }
+        ensures value { Finds (λ view. (item_in_view view, reader.new.place)) result
+            (item.read reader.old.octets reader.old.place) }
         ensures octets { reader.new.octets ≡ reader.old.octets }
         ensures onward { OnOk result (reader.old.place < reader.new.place) }
     {

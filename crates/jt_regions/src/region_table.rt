@@ -38,7 +38,12 @@ impl Model for RegionTable {
 impl RegionTable {
     /// A table of no regions, which takes no memory.
     pub fn new(alloc: Global) -> RegionTable
-        ensures { result ≡ record { circles = map.empty; rectangles = map.empty; polygons = map.empty; routes = map.empty } }
+        ensures { result ≡ record {
+          circles = map.empty;
+          rectangles = map.empty;
+          polygons = map.empty;
+          routes = map.empty;
+        } }
     {
         RegionTable {
             circles: Table::new(alloc),

@@ -51,8 +51,10 @@ fn filled<T: Identified>(
     regions: BTreeMap<u32, T>,
     list: &[T],
 ) -> Result<BTreeMap<u32, T>, AllocError>
-    ensures regions { IfOk result (λ filled. (id : ℕ) → tree.get nat_cmp filled id ≡ option_or (last_with T.id_of list.now id) (tree.get nat_cmp regions id)) }
-    ensures len { IfOk result (λ filled. tree.btree_map_len filled ≤ tree.btree_map_len regions + length list.now) }
+    ensures regions { IfOk result (λ filled. (id : ℕ) → tree.get nat_cmp filled id
+        ≡ option_or (last_with T.id_of list.now id) (tree.get nat_cmp regions id)) }
+    ensures len { IfOk result (λ filled.
+        tree.btree_map_len filled ≤ tree.btree_map_len regions + length list.now) }
 {
     let mut filled = regions;
     for region in list {
@@ -67,7 +69,8 @@ fn kept<T: Identified>(
     regions: &BTreeMap<u32, T>,
     setting: u8,
 ) -> Result<BTreeMap<u32, T>, AllocError>
-    ensures regions { IfOk result (λ kept. (id : ℕ) → tree.get nat_cmp kept id ≡ map.get (kinds.kept setting (map.from_entries regions.now.entries)) id) }
+    ensures regions { IfOk result (λ kept. (id : ℕ) → tree.get nat_cmp kept id
+        ≡ map.get (kinds.kept setting (map.from_entries regions.now.entries)) id) }
     ensures len { IfOk result (λ kept. tree.btree_map_len kept ≤ tree.btree_map_len regions.now) }
 {
     if setting == 0 {
@@ -91,7 +94,8 @@ fn absent<T: Identified>(regions: &BTreeMap<u32, T>, list: &[T]) -> Option<u32>
 
 // The id that a setting has no region for.
 fn missing<T: Identified>(regions: &BTreeMap<u32, T>, setting: u8, list: &[T]) -> Option<u32>
-    ensures { result ≡ kinds.missing T.id_of setting list.now (map.from_entries regions.now.entries) }
+    ensures { result
+        ≡ kinds.missing T.id_of setting list.now (map.from_entries regions.now.entries) }
 {
     if setting == 2 {
         absent(regions, list)
@@ -102,7 +106,8 @@ fn missing<T: Identified>(regions: &BTreeMap<u32, T>, setting: u8, list: &[T]) -
 
 // How many regions there are with one more.
 fn count_with<T: Identified>(regions: &BTreeMap<u32, T>, region: &T) -> usize
-    ensures count { result ≡ count_after T.id_of 1 (region.now ∷ []) (map.from_entries regions.now.entries) }
+    ensures count { result
+        ≡ count_after T.id_of 1 (region.now ∷ []) (map.from_entries regions.now.entries) }
     ensures few { result ≤ tree.btree_map_len regions.now + 1 }
 {
     let more = if regions.contains_key(&region.id()) {
@@ -115,7 +120,8 @@ fn count_with<T: Identified>(regions: &BTreeMap<u32, T>, region: &T) -> usize
 
 // Takes out the regions of these ids.
 fn take_out<T: Identified>(regions: &mut BTreeMap<u32, T>, ids: &[u32])
-    ensures regions { (id : ℕ) → tree.get nat_cmp regions.new id ≡ (if list_any (nat_eq id) ids.now then None else tree.get nat_cmp regions.old id) }
+    ensures regions { (id : ℕ) → tree.get nat_cmp regions.new id
+        ≡ (if list_any (nat_eq id) ids.now then None else tree.get nat_cmp regions.old id) }
     ensures len { tree.btree_map_len regions.new ≤ tree.btree_map_len regions.old }
 {
     for id in ids {
@@ -133,7 +139,8 @@ fn after<T: Identified>(
     requires few { tree.btree_map_len regions.now ≤ REGION_LIMIT }
     requires own { OwnIds T.id_of regions.now.entries }
     requires list { length list.now ≤ WORD_COUNT_LIMIT }
-    ensures regions { IfOk result (λ next. After T.id_of setting list.now regions.now.entries next.entries) }
+    ensures regions { IfOk result (λ next.
+        After T.id_of setting list.now regions.now.entries next.entries) }
     ensures few { IfOk result (λ next. tree.btree_map_len next ≤ 66559) }
 {
     let kept = kept(alloc, regions, setting)?;
@@ -145,7 +152,8 @@ fn after<T: Identified>(
 // Puts a copy of a region over the map.
 fn put_over<T: Identified>(regions: &mut BTreeMap<u32, T>, region: &T) -> Result<(), AllocError>
     requires { OwnIds T.id_of regions.old.entries }
-    ensures ok { OnOk result (After T.id_of 1 (region.now ∷ []) regions.old.entries regions.new.entries) }
+    ensures ok { OnOk result
+        (After T.id_of 1 (region.now ∷ []) regions.old.entries regions.new.entries) }
     ensures err { OnErr result (tree.IsUnchanged regions.old regions.new) }
 {
     let region = region.clone()?;

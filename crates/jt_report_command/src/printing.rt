@@ -13,7 +13,8 @@ use std::fmt::Write;
 
 // Octets as lower-case hexadecimal digits, and no octets as `-`.
 fn push_octets(alloc: Global, text: &mut String, octets: &[u8]) -> Result<(), AllocError>
-    ensures { OnOk result (string_bytes text.new ≡ string_bytes text.old ++ octets_text octets.now) }
+    ensures { OnOk result
+        (string_bytes text.new ≡ string_bytes text.old ++ octets_text octets.now) }
 {
     if octets.is_empty() {
         return text.push_str("-");
@@ -32,7 +33,8 @@ fn push_denial(alloc: Global, text: &mut String, reply: &[u8]) -> Result<(), All
 
 #[tactic(auto, unfolding(crate::specs::Report::timeout_text))]
 fn push_timeout(text: &mut String, since: u64, now: u64) -> Result<(), AllocError>
-    ensures { OnOk result (string_bytes text.new ≡ string_bytes text.old ++ timeout_text since now) }
+    ensures { OnOk result
+        (string_bytes text.new ≡ string_bytes text.old ++ timeout_text since now) }
 {
     write!(text, "timeout {since} {now}")
 }
@@ -67,7 +69,8 @@ fn push_try(
     number: u64,
     end: &AttemptEnd,
 ) -> Result<(), AllocError>
-    ensures { OnOk result (string_bytes text.new ≡ string_bytes text.old ++ try_line number end.now) }
+    ensures { OnOk result
+        (string_bytes text.new ≡ string_bytes text.old ++ try_line number end.now) }
 {
     push_number(text, number)?;
     push_end(alloc, text, end)?;
@@ -86,7 +89,8 @@ fn push_tries(alloc: Global, text: &mut String, ends: &[AttemptEnd]) -> Result<(
 
 #[tactic(auto, unfolding(crate::specs::Report::totals_line))]
 fn push_totals(text: &mut String, accepted: u64, recorded: u64) -> Result<(), AllocError>
-    ensures { OnOk result (string_bytes text.new ≡ string_bytes text.old ++ totals_line accepted recorded) }
+    ensures { OnOk result
+        (string_bytes text.new ≡ string_bytes text.old ++ totals_line accepted recorded) }
 {
     write!(text, "accepted={accepted} of {recorded}\n")
 }
@@ -99,7 +103,8 @@ fn push_tries_and_totals(
     accepted: u64,
     recorded: u64,
 ) -> Result<(), AllocError>
-    ensures { OnOk result (string_bytes text.new ≡ string_bytes text.old ++ (try_lines 1 ends.now ++ totals_line accepted recorded)) }
+    ensures { OnOk result (string_bytes text.new
+        ≡ string_bytes text.old ++ (try_lines 1 ends.now ++ totals_line accepted recorded)) }
 {
     push_tries(alloc, text, ends)?;
     push_totals(text, accepted, recorded)
@@ -111,7 +116,8 @@ fn push_tries_and_fault(
     text: &mut String,
     ends: &[AttemptEnd],
 ) -> Result<(), AllocError>
-    ensures { OnOk result (string_bytes text.new ≡ string_bytes text.old ++ (try_lines 1 ends.now ++ (early_reply early.StoreFault).text)) }
+    ensures { OnOk result (string_bytes text.new
+        ≡ string_bytes text.old ++ (try_lines 1 ends.now ++ (early_reply early.StoreFault).text)) }
 {
     push_tries(alloc, text, ends)?;
     EarlyEnd::StoreFault.push(text)
@@ -127,7 +133,8 @@ pub fn push_outcome(
     accepted: u64,
     recorded: u64,
 ) -> Result<(), AllocError>
-    ensures { OnOk result (string_bytes text.new ≡ string_bytes text.old ++ (outcome_reply outcome.now accepted recorded).text) }
+    ensures { OnOk result (string_bytes text.new
+        ≡ string_bytes text.old ++ (outcome_reply outcome.now accepted recorded).text) }
 {
     match outcome {
         Outcome::Done(ends) => {
@@ -144,7 +151,8 @@ pub fn push_outcome(
 /// The status that goes with what attempts came to.
 #[tactic(auto, unfolding(crate::specs::Report::outcome_reply))]
 pub fn status_of(outcome: &Outcome) -> Status
-    ensures { (accepted recorded : ℕ) → result ≡ (outcome_reply outcome.now accepted recorded).status }
+    ensures { (accepted recorded : ℕ) →
+        result ≡ (outcome_reply outcome.now accepted recorded).status }
 {
     match outcome {
         Outcome::Done(_) => Status::Done,

@@ -47,7 +47,8 @@ fn is_host(text: &[u8]) -> bool
 
 // The name or address of a host, 1 to 255 ASCII letters, digits, `.`, `-` and `:`, of which `-` is not the first.
 pub(crate) fn host(alloc: Global, text: &[u8]) -> Result<Option<String>, Memory>
-    ensures { IfOk result (λ host. MatchOption host (IsTrue (is_host_text text.now) → ⊥) (λ host. IsTrue (is_host_text text.now) × (string_bytes host ≡ text.now))) }
+    ensures { IfOk result (λ host. MatchOption host (IsTrue (is_host_text text.now) → ⊥)
+        (λ host. IsTrue (is_host_text text.now) × (string_bytes host ≡ text.now))) }
 {
     if !is_host(text) {
         return Ok(None);

@@ -45,7 +45,8 @@ struct Written<'w> {
 
 impl<'w> Written<'w> {
     fn from_options(options: &'w [String]) -> Option<Written<'w>>
-        ensures some { IfSome result (λ written. AreWritten (written_of written) (map string_bytes options.now)) }
+        ensures some { IfSome result (λ written.
+            AreWritten (written_of written) (map string_bytes options.now)) }
         ensures each { (written : WrittenAs) → AreWritten written (map string_bytes options.now) →
             MatchOption result ⊥ (λ found. written_of found ≡ written) }
     {
@@ -63,7 +64,8 @@ impl<'w> Written<'w> {
 
 // The values behind the word `report`.
 fn values_in(words: &[String]) -> Option<Written<'_>>
-    ensures some { IfSome result (λ written. AreCommand (written_of written) (map string_bytes words.now)) }
+    ensures some { IfSome result (λ written.
+        AreCommand (written_of written) (map string_bytes words.now)) }
     ensures each { (written : WrittenAs) → AreCommand written (map string_bytes words.now) →
         MatchOption result ⊥ (λ found. written_of found ≡ written) }
 {
@@ -94,7 +96,8 @@ fn terminal_most(edition: Edition) -> usize
 
 fn plain_values(written: &Written) -> Option<Plain>
     ensures some { IfSome result (λ plain. TellsPlain (written_of written.now) plain) }
-    ensures each { (plain : PlainValues) → TellsPlain (written_of written.now) plain → result ≡ Some plain }
+    ensures each { (plain : PlainValues) → TellsPlain (written_of written.now) plain →
+        result ≡ Some plain }
 {
     let port = number_up_to(written.port, PORT_LIMIT)?;
     let tries = number_up_to(written.tries, TRIES_MOST)?;
@@ -108,7 +111,8 @@ fn plain_values(written: &Written) -> Option<Plain>
 
 // What the values tell.
 fn tell(alloc: Global, written: &Written) -> Result<Option<ReportWords>, Memory>
-    ensures told { IfOk result (λ found. IfSome found (λ told. TellsWords (written_of written.now) (values_in_words told))) }
+    ensures told { IfOk result (λ found.
+        IfSome found (λ told. TellsWords (written_of written.now) (values_in_words told))) }
     ensures that_one { (told : ReportValues) → TellsWords (written_of written.now) told →
         IfOk result (λ found. MatchOption found ⊥ (λ found. values_in_words found ≡ told)) }
 {
@@ -137,7 +141,8 @@ fn tell(alloc: Global, written: &Written) -> Result<Option<ReportWords>, Memory>
 impl ReportWords {
     /// Reads the words after the program's name. None means that they are no words of `report`.
     pub fn from_words(alloc: Global, words: &[String]) -> Result<Option<ReportWords>, Memory>
-        ensures told { IfOk result (λ found. IfSome found (λ told. AreWords (values_in_words told) (map string_bytes words.now))) }
+        ensures told { IfOk result (λ found.
+            IfSome found (λ told. AreWords (values_in_words told) (map string_bytes words.now))) }
         ensures that_one { (told : ReportValues) → AreWords told (map string_bytes words.now) →
             IfOk result (λ found. MatchOption found ⊥ (λ found. values_in_words found ≡ told)) }
     {

@@ -24,7 +24,11 @@ struct IdLengths {
 }
 
 fn lengths_in(edition: Edition) -> IdLengths
-    ensures { result ≡ record { maker = maker_len edition; model = model_len edition; terminal = terminal_len edition } }
+    ensures { result ≡ record {
+      maker = maker_len edition;
+      model = model_len edition;
+      terminal = terminal_len edition;
+    } }
 {
     match edition {
         Edition::E2013 => IdLengths {

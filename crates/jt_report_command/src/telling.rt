@@ -21,9 +21,11 @@ pub(crate) fn tell_bad_line<K: Sink>(
     number: u64,
     said: &FixLine,
 ) -> Status
-    ensures answers { AnswersReply result (report_text (BadLine number said.now)) (K.written sink.old) (K.written sink.new) }
+    ensures answers { AnswersReply result (report_text (BadLine number said.now))
+        (K.written sink.old) (K.written sink.new) }
     ensures status { (result ≡ Status.Refused) ⊎ CutsShort result }
-    ensures write_fault { result ≡ Status.WriteFault → Rose (K.faults sink.old) (K.faults sink.new) }
+    ensures write_fault { result ≡ Status.WriteFault →
+        Rose (K.faults sink.old) (K.faults sink.new) }
 {
     let mut text = String::new(alloc);
     match push_bad_line_of(&mut text, number, said) {
@@ -41,9 +43,12 @@ pub(crate) fn tell_outcome<K: Sink>(
     accepted: u64,
     recorded: u64,
 ) -> Status
-    ensures answers { AnswersReply result (report_text (Reported outcome.now accepted recorded)) (K.written sink.old) (K.written sink.new) }
-    ensures status { (result ≡ (outcome_reply outcome.now accepted recorded).status) ⊎ CutsShort result }
-    ensures write_fault { result ≡ Status.WriteFault → Rose (K.faults sink.old) (K.faults sink.new) }
+    ensures answers { AnswersReply result (report_text (Reported outcome.now accepted recorded))
+        (K.written sink.old) (K.written sink.new) }
+    ensures status { (result ≡ (outcome_reply outcome.now accepted recorded).status)
+        ⊎ CutsShort result }
+    ensures write_fault { result ≡ Status.WriteFault →
+        Rose (K.faults sink.old) (K.faults sink.new) }
 {
     let mut text = String::new(alloc);
     match push_outcome(alloc, &mut text, outcome, accepted, recorded) {

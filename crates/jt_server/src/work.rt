@@ -56,7 +56,10 @@ pub(crate) fn serve_one<R: Wait, K: Link, P: Keeper>(
     requires turn { pass.turn ≡ turn.now }
     requires number { (1 ≤ pass.number) × IsSomeAnd pass.opening (λ o. pass.number ≤ o.reserved) }
     requires new { pass.mine ≡ [] }
-    ensures serves { Serves (option_map (λ o. opening_of (P.tables o.start) (P.limit o.start) o.fleet o.secret) pass.opening) INPUT_LIMIT pass result.pass (wire_of K.inbound K.written K.faults link) (wire_of K.inbound K.written K.faults result.link) result.report }
+    ensures serves { Serves (option_map (λ o.
+        opening_of (P.tables o.start) (P.limit o.start) o.fleet o.secret) pass.opening) INPUT_LIMIT
+        pass result.pass (wire_of K.inbound K.written K.faults link)
+        (wire_of K.inbound K.written K.faults result.link) result.report }
     ensures same { IsSamePass pass result.pass }
 {
     let (report, pass) = serve_link(rt, alloc, &mut link, turn, pass);

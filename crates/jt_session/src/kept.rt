@@ -92,7 +92,8 @@ fn accepted_result(id: u16) -> u8
 fn register_body(header: &Header, outcome: u8, code: &[u8]) -> ArrayVec<u8, BODY_LIMIT>
     requires room { length code.now ≤ 1020 }
     requires code { (outcome ≡ 0) ⊎ (code.now ≡ []) }
-    ensures octets { result.items ≡ body_octets header.now.edition (register_reply header.now outcome code.now) }
+    ensures octets { result.items
+        ≡ body_octets header.now.edition (register_reply header.now outcome code.now) }
     ensures short { length result.items < 2 ^ 10 }
 {
     let mut body = ArrayVec::new();
@@ -123,7 +124,8 @@ impl Kept {
         requires short { length body.now < 2 ^ 10 }
         requires room { FRAME_LIMIT ≤ out.old.spare }
         ensures state { self.new ≡ record self.old { serial = (self.old.serial + 1) % 65536 } }
-        ensures out { out.new.items ≡ out.old.items ++ framed (content_of (header_to self.old header.now id) body.now) }
+        ensures out { out.new.items
+            ≡ out.old.items ++ framed (content_of (header_to self.old header.now id) body.now) }
         ensures bound { length out.new.items ≤ length out.old.items + FRAME_LIMIT }
     {
         let answer = Header {
@@ -143,8 +145,10 @@ impl Kept {
     pub(crate) fn acknowledge(&mut self, header: &Header, outcome: u8, out: &mut Buffer<u8>)
         requires header { IsHeader header.now }
         requires room { FRAME_LIMIT ≤ out.old.spare }
-        ensures state { self.new ≡ (saying self.old header.now (Some (ack header.now outcome))).state }
-        ensures out { out.new.items ≡ out.old.items ++ frame_said (saying self.old header.now (Some (ack header.now outcome))).says }
+        ensures state { self.new
+            ≡ (saying self.old header.now (Some (ack header.now outcome))).state }
+        ensures out { out.new.items ≡ out.old.items
+            ++ frame_said (saying self.old header.now (Some (ack header.now outcome))).says }
         ensures bound { length out.new.items ≤ length out.old.items + FRAME_LIMIT }
     {
         let body = ack_body(header, outcome);
@@ -163,8 +167,10 @@ impl Kept {
         requires room { FRAME_LIMIT ≤ out.old.spare }
         requires code { length code.now ≤ 1020 }
         requires outcome { (outcome ≡ 0) ⊎ (code.now ≡ []) }
-        ensures state { self.new ≡ (saying self.old header.now (Some (register_reply header.now outcome code.now))).state }
-        ensures out { out.new.items ≡ out.old.items ++ frame_said (saying self.old header.now (Some (register_reply header.now outcome code.now))).says }
+        ensures state { self.new ≡ (saying self.old header.now
+            (Some (register_reply header.now outcome code.now))).state }
+        ensures out { out.new.items ≡ out.old.items ++ frame_said (saying self.old header.now
+            (Some (register_reply header.now outcome code.now))).says }
         ensures bound { length out.new.items ≤ length out.old.items + FRAME_LIMIT }
     {
         let body = register_body(header, outcome, code);
@@ -176,8 +182,10 @@ impl Kept {
         requires header { IsHeader header.now }
         requires room { FRAME_LIMIT ≤ out.old.spare }
         requires code { HasRoomFor reply.now }
-        ensures state { self.new ≡ (saying self.old header.now (answer_to header.now reply.now)).state }
-        ensures out { out.new.items ≡ out.old.items ++ frame_said (saying self.old header.now (answer_to header.now reply.now)).says }
+        ensures state { self.new
+            ≡ (saying self.old header.now (answer_to header.now reply.now)).state }
+        ensures out { out.new.items ≡ out.old.items
+            ++ frame_said (saying self.old header.now (answer_to header.now reply.now)).says }
         ensures bound { length out.new.items ≤ length out.old.items + FRAME_LIMIT }
     {
         match reply {

@@ -44,7 +44,8 @@ fn put_word(body: &mut ArrayVec<u8, BODY_LIMIT>, number: u16)
 #[tactic(auto, unfolding(jt_layout::specs::Layout::number))]
 fn resend_front(edition: Edition, first: u16, count: u16) -> ArrayVec<u8, BODY_LIMIT>
     requires { count ≤ OCTET_COUNT_LIMIT }
-    ensures octets { result.items ≡ word.spell first ++ (count_part (talk.is_wide edition)).spell count }
+    ensures octets { result.items
+        ≡ word.spell first ++ (count_part (talk.is_wide edition)).spell count }
     ensures short { length result.items ≤ 4 }
 {
     let mut front = ArrayVec::new();
@@ -64,7 +65,8 @@ fn resend_front(edition: Edition, first: u16, count: u16) -> ArrayVec<u8, BODY_L
 // The body of a request to send packets again.
 fn resend_body(edition: Edition, first: u16, missing: &[u16]) -> ArrayVec<u8, BODY_LIMIT>
     requires { length missing.now ≤ OCTET_COUNT_LIMIT }
-    ensures octets { result.items ≡ body_octets edition (message.Resend (record { first = first; wide = talk.is_wide edition; numbers = missing.now })) }
+    ensures octets { result.items ≡ body_octets edition (message.Resend
+        (record { first = first; wide = talk.is_wide edition; numbers = missing.now })) }
     ensures short { length result.items < 2 ^ 10 }
 {
     let mut body = resend_front(edition, first, missing.len() as u16);
@@ -87,7 +89,10 @@ impl Kept {
     // Counts a frame of the session's own phone.
     fn note(&mut self, header: &Header)
         requires { self.old.frames < 2 ^ 63 }
-        ensures { self.new ≡ record self.old { phone = first_phone self.old.phone header.now.phone; frames = self.old.frames + 1 } }
+        ensures { self.new ≡ record self.old {
+          phone = first_phone self.old.phone header.now.phone;
+          frames = self.old.frames + 1;
+        } }
     {
         self.frames += 1;
         if self.phone.is_none() {
@@ -110,7 +115,8 @@ impl Kept {
         requires header { IsHeader header.now }
         requires room { FRAME_LIMIT ≤ out.old.spare }
         ensures state { self.new ≡ (refuses self.old header.now).state }
-        ensures out { out.new.items ≡ out.old.items ++ frame_said (refuses self.old header.now).says }
+        ensures out { out.new.items
+            ≡ out.old.items ++ frame_said (refuses self.old header.now).says }
         ensures bound { length out.new.items ≤ length out.old.items + FRAME_LIMIT }
     {
         self.refused += 1;
@@ -130,7 +136,10 @@ impl Kept {
         requires header { IsHeader header.now }
         requires whole { header.now.packet ≡ None }
         requires room { FRAME_LIMIT ≤ out.old.spare }
-        ensures came { CameTo (asked_by (Some (header.now, body.now))) (Some (header.now, body.now)) (record self.old { dropped = self.old.dropped + one_if dropped }) (refuses (record self.old { dropped = self.old.dropped + one_if dropped }) header.now) self.old self.new out.old.items out.new.items out.new.spare result }
+        ensures came { CameTo (asked_by (Some (header.now, body.now))) (Some (header.now, body.now))
+            (record self.old { dropped = self.old.dropped + one_if dropped })
+            (refuses (record self.old { dropped = self.old.dropped + one_if dropped }) header.now)
+            self.old self.new out.old.items out.new.items out.new.spare result }
         ensures few { IsOneMore (record self.old { frames = self.new.frames }) self.new }
         ensures frames { self.new.frames ≡ self.old.frames }
         ensures bound { length out.new.items ≤ length out.old.items + FRAME_LIMIT }
@@ -162,7 +171,11 @@ impl Kept {
         requires some { IsSome header.now.packet }
         requires short { length body.now ≤ BODY_LIMIT }
         requires room { FRAME_LIMIT ≤ out.old.spare }
-        ensures came { CameTo (asked_by (whole_message self.old header.now body.now)) (whole_message self.old header.now body.now) (takes_in self.old header.now body.now) (answers_packet (takes_in self.old header.now body.now) header.now (taken_by self.old.partial header.now body.now).fate) self.old self.new out.old.items out.new.items out.new.spare result }
+        ensures came { CameTo (asked_by (whole_message self.old header.now body.now))
+            (whole_message self.old header.now body.now) (takes_in self.old header.now body.now)
+            (answers_packet (takes_in self.old header.now body.now) header.now
+            (taken_by self.old.partial header.now body.now).fate)
+            self.old self.new out.old.items out.new.items out.new.spare result }
         ensures few { IsOneMore (record self.old { frames = self.new.frames }) self.new }
         ensures frames { self.new.frames ≡ self.old.frames }
         ensures bound { length out.new.items ≤ length out.old.items + FRAME_LIMIT }
@@ -211,7 +224,12 @@ impl Kept {
         requires header { IsHeader header.now }
         requires short { length body.now ≤ BODY_LIMIT }
         requires room { FRAME_LIMIT ≤ out.old.spare }
-        ensures came { CameTo (asked_by (message_of self.old header.now body.now header.now.packet)) (message_of self.old header.now body.now header.now.packet) (reads_on self.old header.now body.now header.now.packet) (own_turn_without_request self.old header.now body.now header.now.packet) (state_at_want self.old (Frame header.now body.now)) self.new out.old.items out.new.items out.new.spare result }
+        ensures came { CameTo (asked_by (message_of self.old header.now body.now header.now.packet))
+            (message_of self.old header.now body.now header.now.packet)
+            (reads_on self.old header.now body.now header.now.packet)
+            (own_turn_without_request self.old header.now body.now header.now.packet)
+            (state_at_want self.old (Frame header.now body.now)) self.new
+            out.old.items out.new.items out.new.spare result }
         ensures few { IsOneMore self.old self.new }
         ensures bound { length out.new.items ≤ length out.old.items + FRAME_LIMIT }
     {
@@ -234,7 +252,8 @@ impl Kept {
         requires header { IsHeader header.now }
         requires short { length body.now ≤ BODY_LIMIT }
         requires room { FRAME_LIMIT ≤ out.old.spare }
-        ensures came { FrameCame self.old self.new header.now body.now out.old.items out.new.items out.new.spare result }
+        ensures came { FrameCame self.old self.new header.now body.now out.old.items out.new.items
+            out.new.spare result }
         ensures few { IsOneMore self.old self.new }
         ensures bound { length out.new.items ≤ length out.old.items + FRAME_LIMIT }
     {
@@ -251,7 +270,8 @@ impl Kept {
 fn read_frame(alloc: Global, stream: &Stream, kept: &mut Kept, out: &mut Buffer<u8>) -> Came
     requires few { AreBelow (2 ^ 63) kept.old }
     requires found { IsTrue stream.now.found }
-    ensures came { FrameCame kept.old kept.new (header_at stream.now.splitter.content) (body_at stream.now.splitter.content) out.old.items out.new.items out.new.spare result }
+    ensures came { FrameCame kept.old kept.new (header_at stream.now.splitter.content)
+        (body_at stream.now.splitter.content) out.old.items out.new.items out.new.spare result }
     ensures few { IsOneMore kept.old kept.new }
     ensures bound { length out.new.items ≤ length out.old.items + FRAME_LIMIT }
 {
@@ -279,7 +299,8 @@ pub(crate) fn read_item(
     ensures taken { result.0 ≤ length octets.now }
     ensures some { 0 < result.0 }
     ensures place { stream.new.splitter.place ≡ stream.old.splitter.place + result.0 }
-    ensures came { OctetsCame stream.old.splitter stream.new.splitter (take result.0 octets.now) kept.old kept.new out.old.items out.new.items out.new.spare result.1 }
+    ensures came { OctetsCame stream.old.splitter stream.new.splitter (take result.0 octets.now)
+        kept.old kept.new out.old.items out.new.items out.new.spare result.1 }
     ensures few { IsOneMore kept.old kept.new }
     ensures bound { length out.new.items ≤ length out.old.items + FRAME_LIMIT }
 {

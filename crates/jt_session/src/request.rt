@@ -18,7 +18,8 @@ use std::alloc::Global;
 const MOST_IN_ONE_PIECE: usize = BODY_LIMIT;
 
 fn unit(alloc: Global, header: &Header, body: &[u8]) -> Result<Request, Memory>
-    ensures { IfOk result (λ request. request ≡ ask.Unit header.now.phone header.now.serial header.now.id body.now) }
+    ensures { IfOk result (λ request.
+        request ≡ ask.Unit header.now.phone header.now.serial header.now.id body.now) }
 {
     Ok(Request::Unit {
         phone: header.phone,
@@ -48,7 +49,12 @@ fn entrance(header: &Header, auth: Auth) -> Request
 }
 
 // What a message asks that was read. The message is given up.
-fn request_asked(alloc: Global, header: &Header, body: &[u8], message: Message) -> Result<Request, Memory>
+fn request_asked(
+    alloc: Global,
+    header: &Header,
+    body: &[u8],
+    message: Message,
+) -> Result<Request, Memory>
     ensures { IfOk result (λ request. request ≡ talk.request_of header.now body.now message) }
 {
     match message {
@@ -88,7 +94,8 @@ fn request_in_view(
     body: &[u8],
     view: MessageView,
 ) -> Result<Request, Memory>
-    ensures { IfOk result (λ request. request ≡ talk.request_of header.now body.now (message_in_view view.entry)) }
+    ensures { IfOk result (λ request.
+        request ≡ talk.request_of header.now body.now (message_in_view view.entry)) }
 {
     match view {
         MessageView::Position(_) | MessageView::Batch(_) => unit(alloc, header, body),

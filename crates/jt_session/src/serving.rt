@@ -51,7 +51,11 @@ fn answer<R: Wait, K: Link, P: Keeper>(
     requires waits { session.old.waiting ≡ None }
     requires on { session.old.over ≡ false }
     requires short { session.old.stream.place + length octets.now < 2 ^ 63 }
-    ensures answers { AnswersRead (option_map (λ o. opening_of (P.tables o.start) (P.limit o.start) o.fleet o.secret) pass.old.opening) session.old session.new octets.now pass.old pass.new (wire_of K.inbound K.written K.faults link.old) (wire_of K.inbound K.written K.faults link.new) result.0 result.1 }
+    ensures answers { AnswersRead (option_map (λ o.
+        opening_of (P.tables o.start) (P.limit o.start) o.fleet o.secret) pass.old.opening)
+        session.old session.new octets.now pass.old pass.new
+        (wire_of K.inbound K.written K.faults link.old)
+        (wire_of K.inbound K.written K.faults link.new) result.0 result.1 }
     ensures same { IsSamePass pass.old pass.new }
     ensures on { result.1 ≡ None → session.new.over ≡ false }
     ensures waiting { session.new.waiting ≡ None }
@@ -88,7 +92,10 @@ fn converse<R: Wait, K: Link, P: Keeper>(
     requires new { IsNew session.old }
     requires place { session.old.stream.place ≡ 0 }
     requires octets { (1 ≤ octets) × (octets ≤ INPUT_LIMIT) }
-    ensures converses { Converses (option_map (λ o. opening_of (P.tables o.start) (P.limit o.start) o.fleet o.secret) pass.old.opening) octets session.old session.new pass.old pass.new (wire_of K.inbound K.written K.faults link.old) (wire_of K.inbound K.written K.faults link.new) result.read result.written result.end }
+    ensures converses { Converses (option_map (λ o.
+        opening_of (P.tables o.start) (P.limit o.start) o.fleet o.secret) pass.old.opening) octets
+        session.old session.new pass.old pass.new (wire_of K.inbound K.written K.faults link.old)
+        (wire_of K.inbound K.written K.faults link.new) result.read result.written result.end }
     ensures same { IsSamePass pass.old pass.new }
     ensures waiting { session.new.waiting ≡ None }
 {
@@ -143,7 +150,10 @@ fn serve_open<R: Wait, K: Link, P: Keeper>(
     requires turn { pass.old.turn ≡ turn.now }
     requires opening { IsSome pass.old.opening }
     requires octets { (1 ≤ octets) × (octets ≤ INPUT_LIMIT) }
-    ensures serves { ServesUpTo (option_map (λ o. opening_of (P.tables o.start) (P.limit o.start) o.fleet o.secret) pass.old.opening) octets pass.old pass.new (wire_of K.inbound K.written K.faults link.old) (wire_of K.inbound K.written K.faults link.new) result }
+    ensures serves { ServesUpTo (option_map (λ o.
+        opening_of (P.tables o.start) (P.limit o.start) o.fleet o.secret) pass.old.opening) octets
+        pass.old pass.new (wire_of K.inbound K.written K.faults link.old)
+        (wire_of K.inbound K.written K.faults link.new) result }
     ensures same { IsSamePass pass.old pass.new }
 {
     law_frames();
@@ -193,7 +203,10 @@ pub fn serve_link_within<R: Wait, K: Link, P: Keeper>(
     requires new { pass.mine ≡ [] }
     requires octets { (1 ≤ octets) × (octets ≤ INPUT_LIMIT) }
     // What was taken, asked with the replies, and written, and why it ended.
-    ensures serves { Serves (option_map (λ o. opening_of (P.tables o.start) (P.limit o.start) o.fleet o.secret) pass.opening) octets pass result.1 (wire_of K.inbound K.written K.faults link.old) (wire_of K.inbound K.written K.faults link.new) result.0 }
+    ensures serves { Serves (option_map (λ o.
+        opening_of (P.tables o.start) (P.limit o.start) o.fleet o.secret) pass.opening) octets pass
+        result.1 (wire_of K.inbound K.written K.faults link.old)
+        (wire_of K.inbound K.written K.faults link.new) result.0 }
     ensures same { IsSamePass pass result.1 }
 {
     let report = serve_open(rt, alloc, link, turn, &mut pass, octets);
@@ -212,7 +225,10 @@ pub fn serve_link<R: Wait, K: Link, P: Keeper>(
     requires turn { pass.turn ≡ turn.now }
     requires number { (1 ≤ pass.number) × IsSomeAnd pass.opening (λ o. pass.number ≤ o.reserved) }
     requires new { pass.mine ≡ [] }
-    ensures serves { Serves (option_map (λ o. opening_of (P.tables o.start) (P.limit o.start) o.fleet o.secret) pass.opening) INPUT_LIMIT pass result.1 (wire_of K.inbound K.written K.faults link.old) (wire_of K.inbound K.written K.faults link.new) result.0 }
+    ensures serves { Serves (option_map (λ o.
+        opening_of (P.tables o.start) (P.limit o.start) o.fleet o.secret) pass.opening) INPUT_LIMIT
+        pass result.1 (wire_of K.inbound K.written K.faults link.old)
+        (wire_of K.inbound K.written K.faults link.new) result.0 }
     ensures same { IsSamePass pass result.1 }
 {
     serve_link_within(rt, alloc, link, turn, pass, INPUT_LIMIT)

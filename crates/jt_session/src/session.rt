@@ -130,7 +130,8 @@ impl Session {
         ensures taken { result.0 ≤ length octets.now }
         ensures some { 0 < result.0 }
         ensures place { self.new.stream.place ≡ self.old.stream.place + result.0 }
-        ensures goes { GoesOn self.old self.new (take result.0 octets.now) out.old.items out.new.items }
+        ensures goes { GoesOn self.old self.new (take result.0 octets.now)
+            out.old.items out.new.items }
         ensures led { LedTo self.new result.1 }
         ensures room { HasRoom out.new.spare result.1 }
         ensures bound { length out.new.items ≤ length out.old.items + FRAME_LIMIT }
@@ -163,7 +164,8 @@ impl Session {
         ensures more { result.1 ≡ Step.More → result.0 ≡ length octets.now }
         ensures place { self.new.stream.place ≡ self.old.stream.place + result.0 }
         // What was taken, asked of the items before and written.
-        ensures turns { TakesUnasked self.old self.new (take result.0 octets.now) out.old.items out.new.items }
+        ensures turns { TakesUnasked self.old self.new (take result.0 octets.now)
+            out.old.items out.new.items }
         ensures led { LedTo self.new result.1 }
         ensures room { HasRoom out.new.spare result.1 }
         ensures bound { length out.new.items ≤ length out.old.items + FRAME_LIMIT * result.0 }
@@ -190,7 +192,8 @@ impl Session {
         requires room { FRAME_LIMIT ≤ out.old.spare }
         requires code { HasRoomFor reply.now }
         ensures fed { result ≡ sessions.feed_end reply.now }
-        ensures turn { IfSome self.old.waiting (IsRepliedTo self.old self.new reply.now out.old.items out.new.items) }
+        ensures turn { IfSome self.old.waiting
+            (IsRepliedTo self.old self.new reply.now out.old.items out.new.items) }
         ensures on { (result ≡ Fed.On) ↔ (self.new.over ≡ false) }
         ensures waiting { self.new.waiting ≡ None }
         ensures place { self.new.stream.place ≡ self.old.stream.place }

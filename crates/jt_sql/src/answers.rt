@@ -70,7 +70,8 @@ pub(crate) fn added(
     answer: Result<Adding, Refused>,
 ) -> Result<(), StoreError>
     requires range { faults.old ≤ 2 ^ 64 - 1 }
-    ensures tables { (key : List ℕ) → WritesWithin limit (λ (t : Tables). length (t.rows key)) None None None result }
+    ensures tables { (key : List ℕ) →
+        WritesWithin limit (λ (t : Tables). length (t.rows key)) None None None result }
     ensures held { WritesWithin limit pending_count None None None result }
     ensures range { faults.new ≤ 2 ^ 64 - 1 }
     ensures cause { HasCause faults.old faults.new result }

@@ -105,7 +105,8 @@ pub(crate) fn from<S: Alter>(
     phone: &[u8],
     number: u64,
 ) -> Result<Option<Row>, Refused>
-    ensures { IfOk result (λ found. IfSome found (λ row. (number ≤ row.number) × (row.number < 2 ^ 47))) }
+    ensures { IfOk result (λ found.
+        IfSome found (λ row. (number ≤ row.number) × (row.number < 2 ^ 47))) }
 {
     match find(work, FROM, phone, number)? {
         Some(row) if row.number >= number => Ok(Some(row)),

@@ -47,7 +47,18 @@ impl MemVault {
     /// has the numbers of the calls that fail; the number stays at 2^64 - 1 once it is there.
     pub fn new(alloc: Global, limit: u64, failing: Seq<u64>) -> MemVault
         requires { limit ≤ FIX_LIMIT }
-        ensures { result ≡ record { held = record { recorded = []; units = []; accepted = 0; mark = NO_MARK; next = 0; code = None }; limit = limit; calls = record { failing = failing; count = 0; faults = 0 } } }
+        ensures { result ≡ record {
+          held = record {
+            recorded = [];
+            units = [];
+            accepted = 0;
+            mark = NO_MARK;
+            next = 0;
+            code = None;
+          };
+          limit = limit;
+          calls = record { failing = failing; count = 0; faults = 0 };
+        } }
     {
         MemVault {
             fixes: Seq::new(alloc),
@@ -102,12 +113,14 @@ impl Vault for MemVault {
 
     fn load(&mut self, alloc: Global) -> Result<Loaded, StoreError>
         ensures answer { Reads (Some self.old.held) (Some self.new.held) IsLoaded result }
-        ensures order { IfOk result (λ loaded. AreInOrder loaded.mark loaded.next loaded.units loaded.code) }
+        ensures order { IfOk result (λ loaded.
+            AreInOrder loaded.mark loaded.next loaded.units loaded.code) }
         ensures whole { IsWhole self.old.held }
         ensures limit { self.new.limit ≡ self.old.limit }
         ensures bound { self.old.limit ≤ FIX_LIMIT }
         ensures cause { HasCause self.old.calls.faults self.new.calls.faults result }
-        ensures steady { IsSteady (is_listed self.old.calls.failing) (is_listed self.new.calls.failing) result }
+        ensures steady { IsSteady (is_listed self.old.calls.failing)
+            (is_listed self.new.calls.failing) result }
         ensures in_order { InOrder self.old.calls self.new.calls result }
     {
         if !self.calls.goes() {
@@ -128,11 +141,13 @@ impl Vault for MemVault {
     }
 
     fn note_fix(&mut self, _alloc: Global, fix: &Fix) -> Result<(), StoreError>
-        ensures answer { Records self.old.limit fix.now (Some self.old.held) (Some self.new.held) result }
+        ensures answer { Records self.old.limit fix.now
+            (Some self.old.held) (Some self.new.held) result }
         ensures limit { self.new.limit ≡ self.old.limit }
         ensures bound { self.old.limit ≤ FIX_LIMIT }
         ensures cause { HasCause self.old.calls.faults self.new.calls.faults result }
-        ensures steady { IsSteady (is_listed self.old.calls.failing) (is_listed self.new.calls.failing) result }
+        ensures steady { IsSteady (is_listed self.old.calls.failing)
+            (is_listed self.new.calls.failing) result }
         ensures in_order { InOrder self.old.calls self.new.calls result }
     {
         if !self.calls.goes() {
@@ -153,7 +168,8 @@ impl Vault for MemVault {
         ensures limit { self.new.limit ≡ self.old.limit }
         ensures bound { self.old.limit ≤ FIX_LIMIT }
         ensures cause { HasCause self.old.calls.faults self.new.calls.faults result }
-        ensures steady { IsSteady (is_listed self.old.calls.failing) (is_listed self.new.calls.failing) result }
+        ensures steady { IsSteady (is_listed self.old.calls.failing)
+            (is_listed self.new.calls.failing) result }
         ensures in_order { InOrder self.old.calls self.new.calls result }
     {
         if !self.calls.goes() {
@@ -173,7 +189,8 @@ impl Vault for MemVault {
         ensures limit { self.new.limit ≡ self.old.limit }
         ensures bound { self.old.limit ≤ FIX_LIMIT }
         ensures cause { HasCause self.old.calls.faults self.new.calls.faults result }
-        ensures steady { IsSteady (is_listed self.old.calls.failing) (is_listed self.new.calls.failing) result }
+        ensures steady { IsSteady (is_listed self.old.calls.failing)
+            (is_listed self.new.calls.failing) result }
         ensures in_order { InOrder self.old.calls self.new.calls result }
     {
         if !self.calls.goes() {
@@ -192,11 +209,13 @@ impl Vault for MemVault {
 
     fn set_code(&mut self, alloc: Global, code: Option<&[u8]>) -> Result<(), StoreError>
         requires { IfSome (octets_of code) (λ octets. length octets ≤ CODE_LIMIT) }
-        ensures answer { Changes (Sets (octets_of code.entry)) (Some self.old.held) (Some self.new.held) result }
+        ensures answer { Changes (Sets (octets_of code.entry))
+            (Some self.old.held) (Some self.new.held) result }
         ensures limit { self.new.limit ≡ self.old.limit }
         ensures bound { self.old.limit ≤ FIX_LIMIT }
         ensures cause { HasCause self.old.calls.faults self.new.calls.faults result }
-        ensures steady { IsSteady (is_listed self.old.calls.failing) (is_listed self.new.calls.failing) result }
+        ensures steady { IsSteady (is_listed self.old.calls.failing)
+            (is_listed self.new.calls.failing) result }
         ensures in_order { InOrder self.old.calls self.new.calls result }
     {
         if !self.calls.goes() {

@@ -84,8 +84,10 @@ fn gather(alloc: Global, old: &[OldPhone]) -> Result<BTreeMap<Key, Places>, Memo
 
 // Notes the place of one more phone.
 fn note(places: &mut BTreeMap<Key, Places>, phone: &Phone, place: usize) -> Result<(), Memory>
-    ensures { OnOk result ((q : List ℕ) → under places.new.entries q
-        ≡ (if same_key (key_of phone.now) q then Some (with_row_place (under places.old.entries q) phone.now.edition place) else under places.old.entries q)) }
+    ensures { OnOk result
+        ((q : List ℕ) → under places.new.entries q ≡ (if same_key (key_of phone.now) q
+        then Some (with_row_place (under places.old.entries q) phone.now.edition place)
+        else under places.old.entries q)) }
 {
     let now = with_place(places.get(&phone.digits).copied(), phone.edition, place);
     places.insert(phone.digits, now)?;
@@ -133,7 +135,8 @@ fn move_phone(
     requires there { option_copied earlier ≡ None → option_copied later ≡ None → ⊥ }
     requires earlier { IfSome (option_copied earlier) (λ o. AreAppended None o.rows) }
     requires later { IfSome (option_copied later) (λ o. AreAppended None o.rows) }
-    ensures answer { Moves limit digits (option_copied earlier.entry) (option_copied later.entry) result }
+    ensures answer { Moves limit digits (option_copied earlier.entry)
+        (option_copied later.entry) result }
 {
     match (earlier, later) {
         (Some(earlier), Some(later)) => join(alloc, digits, earlier, later, limit),

@@ -32,7 +32,8 @@ pub trait Vault {
     /// serial of the last one accepted.
     fn load(&mut self, alloc: Global) -> Result<Loaded, StoreError>
         ensures answer { Reads (holds self.old) (holds self.new) IsLoaded result }
-        ensures order { IfOk result (λ loaded. AreInOrder loaded.mark loaded.next loaded.units loaded.code) }
+        ensures order { IfOk result (λ loaded.
+            AreInOrder loaded.mark loaded.next loaded.units loaded.code) }
         ensures whole { WhereKnown (holds self.old) IsWhole }
         ensures limit { limit self.new ≡ limit self.old }
         ensures bound { limit self.old ≤ FIX_LIMIT }
@@ -71,7 +72,8 @@ pub trait Vault {
     /// Sets the platform's code, of at most 255 octets, or removes it.
     fn set_code(&mut self, alloc: Global, code: Option<&[u8]>) -> Result<(), StoreError>
         requires { IfSome (octets_of code) (λ octets. length octets ≤ CODE_LIMIT) }
-        ensures answer { Changes (Sets (octets_of code.entry)) (holds self.old) (holds self.new) result }
+        ensures answer { Changes (Sets (octets_of code.entry))
+            (holds self.old) (holds self.new) result }
         ensures limit { limit self.new ≡ limit self.old }
         ensures bound { limit self.old ≤ FIX_LIMIT }
         ensures cause { HasCause (faults self.old) (faults self.new) result }

@@ -74,7 +74,8 @@ pub fn refusal_in_frame(opened: u64, refusal: Refusal) -> Refusal
 fn judge(splitter: &Splitter) -> Result<Message, Refusal>
     ensures items { AreItemsOf (Whole splitter.now.opened splitter.now.content ∷ [])
         (completed (Some result) splitter.now) }
-    ensures message { ForOk result (λ message. IsMessage message.header message.start splitter.now.content) }
+    ensures message { ForOk result (λ message.
+        IsMessage message.header message.start splitter.now.content) }
 {
     let content = splitter.content();
     match read_header(content) {
@@ -92,11 +93,14 @@ fn take(splitter: &mut Splitter, piece: &[u8]) -> (usize, Option<Result<Message,
     ensures taken { result.0 ≤ length piece.now }
     ensures some { 0 < length piece.now → 0 < result.0 }
     ensures place { splitter.new.place ≡ splitter.old.place + result.0 }
-    ensures items { Gains splitter.old splitter.new (take result.0 piece.now) (completed result.1 splitter.new) }
-    ensures in_place { GainsInPlace splitter.old splitter.new (take result.0 piece.now) (completed result.1 splitter.new) }
+    ensures items { Gains splitter.old splitter.new (take result.0 piece.now)
+        (completed result.1 splitter.new) }
+    ensures in_place { GainsInPlace splitter.old splitter.new (take result.0 piece.now)
+        (completed result.1 splitter.new) }
     ensures more { result.1 ≡ None → result.0 ≡ length piece.now }
     ensures first { (count : ℕ) → count < result.0 → IsSilent splitter.old (take count piece.now) }
-    ensures first_in_place { (count : ℕ) → count < result.0 → IsSilentInPlace splitter.old (take count piece.now) }
+    ensures first_in_place { (count : ℕ) → count < result.0 →
+        IsSilentInPlace splitter.old (take count piece.now) }
     ensures message { ForSome result.1 (λ judged. ForOk judged
         (λ message. IsMessage message.header message.start splitter.new.content)) }
 {
@@ -129,14 +133,17 @@ impl Stream {
         ensures taken { result.0 ≤ length piece.now }
         ensures some { 0 < length piece.now → 0 < result.0 }
         ensures place { self.new.splitter.place ≡ self.old.splitter.place + result.0 }
-        ensures items { Gains self.old.splitter self.new.splitter (take result.0 piece.now) (stream_items result.1 self.new.splitter) }
-        // The same also holds after `take_in_place`.
-        ensures in_place { GainsInPlace self.old.splitter self.new.splitter (take result.0 piece.now)
+        ensures items { Gains self.old.splitter self.new.splitter (take result.0 piece.now)
             (stream_items result.1 self.new.splitter) }
+        // The same also holds after `take_in_place`.
+        ensures in_place { GainsInPlace self.old.splitter self.new.splitter
+            (take result.0 piece.now) (stream_items result.1 self.new.splitter) }
         ensures more { result.1 ≡ StreamItem.More → result.0 ≡ length piece.now }
         // No octet past the first that completes an item is taken.
-        ensures first { (count : ℕ) → count < result.0 → IsSilent self.old.splitter (take count piece.now) }
-        ensures first_in_place { (count : ℕ) → count < result.0 → IsSilentInPlace self.old.splitter (take count piece.now) }
+        ensures first { (count : ℕ) → count < result.0 →
+            IsSilent self.old.splitter (take count piece.now) }
+        ensures first_in_place { (count : ℕ) → count < result.0 →
+            IsSilentInPlace self.old.splitter (take count piece.now) }
         ensures found { IsTrue self.new.found ↔ (result.1 ≡ StreamItem.Frame) }
     {
         let (taken, judged) = take(&mut self.splitter, piece);
@@ -156,9 +163,11 @@ impl Stream {
     pub fn frame(&self) -> Option<(u64, Header, &[u8])>
         ensures some { IsSome result ↔ IsTrue self.now.found }
         ensures place { IfSome result (λ frame. frame.0 ≡ self.now.splitter.opened) }
-        ensures message { IfSome result (λ frame. Content frame.1 frame.2.now self.now.splitter.content) }
+        ensures message { IfSome result (λ frame.
+            Content frame.1 frame.2.now self.now.splitter.content) }
         // So the header and the body are those of the item that was told.
-        ensures fields { IfSome result (λ frame. Reads self.now.splitter.content frame.1 frame.2.now) }
+        ensures fields { IfSome result (λ frame.
+            Reads self.now.splitter.content frame.1 frame.2.now) }
     {
         let message = self.message?;
         let content = self.splitter.content();
@@ -179,12 +188,15 @@ impl Stream {
             Continues self.new.splitter (stream ++ take result.0 piece.now) }
         // The items of a content are those of `frame_in`.
         ensures items { (items : List Item) →
-            AreItemsOf (split_events_in_place result.1 self.new.splitter (take result.0 piece.now)) items →
+            AreItemsOf (split_events_in_place result.1 self.new.splitter (take result.0 piece.now))
+            items →
             GainsInPlace self.old.splitter self.new.splitter (take result.0 piece.now) items }
         ensures more { result.1 ≡ Split.More → result.0 ≡ length piece.now }
         // No octet past the first that completes an item is taken.
-        ensures first { (count : ℕ) → count < result.0 → IsSilentInPlace self.old.splitter (take count piece.now) }
-        ensures content { result.1 ≡ Split.Content → length (lent self.new.splitter (take result.0 piece.now)) ≤ CONTENT_LIMIT }
+        ensures first { (count : ℕ) → count < result.0 →
+            IsSilentInPlace self.old.splitter (take count piece.now) }
+        ensures content { result.1 ≡ Split.Content →
+            length (lent self.new.splitter (take result.0 piece.now)) ≤ CONTENT_LIMIT }
         ensures found { self.new.found ≡ false }
     {
         self.message = None;
@@ -205,8 +217,10 @@ impl Stream {
             (Refused refusal ∷ [])) }
         // So the place, the header and the body are these.
         ensures place { IfOk result (λ frame. frame.0 ≡ self.now.splitter.opened) }
-        ensures message { IfOk result (λ frame. Content frame.1 frame.2.now (lent self.now.splitter taken.now)) }
-        ensures fields { IfOk result (λ frame. Reads (lent self.now.splitter taken.now) frame.1 frame.2.now) }
+        ensures message { IfOk result (λ frame.
+            Content frame.1 frame.2.now (lent self.now.splitter taken.now)) }
+        ensures fields { IfOk result (λ frame.
+            Reads (lent self.now.splitter taken.now) frame.1 frame.2.now) }
     {
         let opened = self.splitter.opened();
         match read_header(self.splitter.content_in(taken)) {
@@ -219,7 +233,8 @@ impl Stream {
     pub fn finish(&self) -> Option<Refusal>
         ensures end { (stream : List ℕ) → StandsFor self.now.splitter stream → Ends stream result }
         // The same also holds after `take_in_place`.
-        ensures in_place { (stream : List ℕ) → Continues self.now.splitter stream → Ends stream result }
+        ensures in_place { (stream : List ℕ) → Continues self.now.splitter stream →
+            Ends stream result }
     {
         self.splitter.finish()
     }

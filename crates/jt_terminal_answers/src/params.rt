@@ -82,7 +82,8 @@ fn take_params(state: &mut State, params: &Seq<Param>) -> Result<bool, Memory>
     requires few { length params.now ≤ OCTET_COUNT_LIMIT }
     ensures ok { IfOk result (λ taken. TookParams taken state.old params.now state.new) }
     ensures err { OnErr result (state.new ≡ state.old) }
-    ensures octets { HaveOctets params.now → HasOctets state.old.params → HasOctets state.new.params }
+    ensures octets { HaveOctets params.now → HasOctets state.old.params →
+        HasOctets state.new.params }
 {
     match state.params.set_all(params) {
         Ok(()) => {
@@ -106,9 +107,13 @@ pub(crate) fn set_params_of(
     requires few { length params.now ≤ OCTET_COUNT_LIMIT }
     requires octets { HaveOctets params.now }
     requires held { HasOctets state.old.params }
-    ensures state { OnOk result (state.new ≡ (rule.answers state.old (table.takes_params state.old header.now params.now (params_after params.now state.old.params))).state) }
-    ensures out { OnOk result (out.new ≡ out.old ++ rule.sends state.old.settings (rule.answers state.old (table.takes_params state.old header.now params.now (params_after params.now state.old.params))).steps) }
-    ensures err { OnErr result (AllOrNothing state.old (table.takes_params state.old header.now params.now (params_after params.now state.old.params)) state.new) }
+    ensures state { OnOk result (state.new ≡ (rule.answers state.old (table.takes_params state.old
+        header.now params.now (params_after params.now state.old.params))).state) }
+    ensures out { OnOk result (out.new ≡ out.old
+        ++ rule.sends state.old.settings (rule.answers state.old (table.takes_params state.old
+        header.now params.now (params_after params.now state.old.params))).steps) }
+    ensures err { OnErr result (AllOrNothing state.old (table.takes_params state.old header.now
+        params.now (params_after params.now state.old.params)) state.new) }
     ensures octets { HasOctets state.new.params }
     ensures kept { BeginsWith out.new out.old }
 {
@@ -144,8 +149,10 @@ fn tell(
     requires good { AreSettings state.old.settings }
     requires few { length params ≤ OCTET_COUNT_LIMIT }
     requires octets { HaveOctets params }
-    ensures state { OnOk result (state.new ≡ (rule.answers state.old (table.tells_params state.old header.now params)).state) }
-    ensures out { OnOk result (out.new ≡ out.old ++ rule.sends state.old.settings (rule.answers state.old (table.tells_params state.old header.now params)).steps) }
+    ensures state { OnOk result (state.new
+        ≡ (rule.answers state.old (table.tells_params state.old header.now params)).state) }
+    ensures out { OnOk result (out.new ≡ out.old ++ rule.sends state.old.settings
+        (rule.answers state.old (table.tells_params state.old header.now params)).steps) }
     ensures err { OnErr result (state.new ≡ state.old) }
     ensures kept { BeginsWith out.new out.old }
 {
@@ -162,8 +169,11 @@ pub(crate) fn tell_all(
 ) -> Result<(), Memory>
     requires good { AreSettings state.old.settings }
     requires held { HasOctets state.old.params }
-    ensures state { OnOk result (state.new ≡ (rule.answers state.old (table.tells_params state.old header.now (listed state.old.params))).state) }
-    ensures out { OnOk result (out.new ≡ out.old ++ rule.sends state.old.settings (rule.answers state.old (table.tells_params state.old header.now (listed state.old.params))).steps) }
+    ensures state { OnOk result (state.new ≡ (rule.answers state.old
+        (table.tells_params state.old header.now (listed state.old.params))).state) }
+    ensures out { OnOk result
+        (out.new ≡ out.old ++ rule.sends state.old.settings (rule.answers state.old
+        (table.tells_params state.old header.now (listed state.old.params))).steps) }
     ensures err { OnErr result (state.new ≡ state.old) }
     ensures kept { BeginsWith out.new out.old }
 {
@@ -182,8 +192,11 @@ pub(crate) fn tell_some(
     requires good { AreSettings state.old.settings }
     requires few { length ids.now ≤ OCTET_COUNT_LIMIT }
     requires held { HasOctets state.old.params }
-    ensures state { OnOk result (state.new ≡ (rule.answers state.old (table.tells_params state.old header.now (selected state.old.params ids.now))).state) }
-    ensures out { OnOk result (out.new ≡ out.old ++ rule.sends state.old.settings (rule.answers state.old (table.tells_params state.old header.now (selected state.old.params ids.now))).steps) }
+    ensures state { OnOk result (state.new ≡ (rule.answers state.old
+        (table.tells_params state.old header.now (selected state.old.params ids.now))).state) }
+    ensures out { OnOk result
+        (out.new ≡ out.old ++ rule.sends state.old.settings (rule.answers state.old
+        (table.tells_params state.old header.now (selected state.old.params ids.now))).steps) }
     ensures err { OnErr result (state.new ≡ state.old) }
     ensures kept { BeginsWith out.new out.old }
 {
@@ -206,7 +219,8 @@ fn time_param(id: u32, number: u32) -> Param
 
 /// The parameters that a terminal begins with: the times of its settings.
 pub fn first_params(alloc: Global, settings: &Settings) -> Result<ParamTable, Memory>
-    ensures table { IfOk result (λ params. params ≡ set_params (rule.first_params settings.now) empty) }
+    ensures table { IfOk result (λ params.
+        params ≡ set_params (rule.first_params settings.now) empty) }
     ensures octets { IfOk result HasOctets }
 {
     let Settings {

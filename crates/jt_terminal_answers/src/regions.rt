@@ -39,9 +39,12 @@ pub(crate) fn change_regions(
 ) -> Result<(), Memory>
     requires good { AreSettings state.old.settings }
     requires few { AtMost WORD_COUNT_LIMIT change.now }
-    ensures state { OnOk result (state.new ≡ (rule.answers state.old (table.takes_change state.old header.now change.now)).state) }
-    ensures out { OnOk result (out.new ≡ out.old ++ rule.sends state.old.settings (rule.answers state.old (table.takes_change state.old header.now change.now)).steps) }
-    ensures err { OnErr result (AllOrNothing state.old (table.takes_change state.old header.now change.now) state.new) }
+    ensures state { OnOk result (state.new
+        ≡ (rule.answers state.old (table.takes_change state.old header.now change.now)).state) }
+    ensures out { OnOk result (out.new ≡ out.old ++ rule.sends state.old.settings
+        (rule.answers state.old (table.takes_change state.old header.now change.now)).steps) }
+    ensures err { OnErr result
+        (AllOrNothing state.old (table.takes_change state.old header.now change.now) state.new) }
     ensures params { state.new.params ≡ state.old.params }
     ensures kept { BeginsWith out.new out.old }
 {

@@ -13,7 +13,8 @@ mod waits;
 pub use laws::{law_examples, law_forming, law_rule, law_unsaid, law_waits};
 pub use queue::Queue;
 pub use saying::{
-    say_heartbeat, heartbeat_if_silent, frame, header, lose, now_in, on_open, repeat_sending, say_auth, say_unit,
+    frame, header, heartbeat_if_silent, lose, now_in, on_open, repeat_sending, say_auth,
+    say_heartbeat, say_unit,
 };
 pub use settings::Settings;
 pub use state::{Acknowledgement, AnswerKind, Event, GiveUp, Phase, State, Timing, Wait};

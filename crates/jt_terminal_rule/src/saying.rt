@@ -61,7 +61,8 @@ pub(crate) fn say(
 ) -> Result<(), Memory>
     requires good { AreSettings settings.now }
     requires body { length body.now < 2 ^ 10 }
-    ensures out { OnOk result (out.new ≡ out.old ++ frame_of (header_of settings.now.phone id serial) body.now ∷ []) }
+    ensures out { OnOk result
+        (out.new ≡ out.old ++ frame_of (header_of settings.now.phone id serial) body.now ∷ []) }
     ensures kept { BeginsWith out.new out.old }
 {
     let header = header(&settings.phone, id, serial);
@@ -99,7 +100,9 @@ pub(crate) fn say_register(
     out: &mut Seq<Octets>,
 ) -> Result<(), Memory>
     requires { AreSettings settings.now }
-    ensures out { OnOk result (out.new ≡ out.old ++ frame_of (header_of settings.now.phone 0x0100 serial) (register_octets settings.now) ∷ []) }
+    ensures out { OnOk result (out.new ≡ out.old
+        ++ frame_of (header_of settings.now.phone 0x0100 serial) (register_octets settings.now)
+        ∷ []) }
     ensures kept { BeginsWith out.new out.old }
 {
     let body = register_body(alloc, settings)?;
@@ -117,7 +120,9 @@ pub fn say_auth(
 ) -> Result<(), Memory>
     requires good { AreSettings settings.now }
     requires short { length code.now ≤ CODE_LIMIT }
-    ensures out { OnOk result (out.new ≡ out.old ++ frame_of (header_of settings.now.phone 0x0102 serial) (auth_octets settings.now code.now) ∷ []) }
+    ensures out { OnOk result (out.new ≡ out.old
+        ++ frame_of (header_of settings.now.phone 0x0102 serial) (auth_octets settings.now code.now)
+        ∷ []) }
     ensures kept { BeginsWith out.new out.old }
 {
     let body = auth_body(alloc, settings, code)?;
@@ -133,7 +138,8 @@ pub fn say_unit(
 ) -> Result<(), Memory>
     requires good { AreSettings settings.now }
     requires body { length unit.now.body ≤ BODY_LIMIT }
-    ensures out { OnOk result (out.new ≡ out.old ++ frame_of (header_of settings.now.phone unit.now.id unit.now.serial) unit.now.body ∷ []) }
+    ensures out { OnOk result (out.new ≡ out.old
+        ++ frame_of (header_of settings.now.phone unit.now.id unit.now.serial) unit.now.body ∷ []) }
     ensures kept { BeginsWith out.new out.old }
 {
     let Unit {
@@ -164,7 +170,8 @@ pub(crate) fn introduce(
     requires good { AreSettings state.old.settings }
     requires short { IfSome state.old.code (λ code. length code ≤ CODE_LIMIT) }
     ensures state { OnOk result (state.new ≡ (rule.introduce state.old state.old.code).state) }
-    ensures out { OnOk result (out.new ≡ out.old ++ rule.sends state.old.settings (rule.introduce state.old state.old.code).steps) }
+    ensures out { OnOk result (out.new ≡ out.old
+        ++ rule.sends state.old.settings (rule.introduce state.old state.old.code).steps) }
     ensures err { OnErr result (state.new ≡ state.old) }
     ensures kept { BeginsWith out.new out.old }
 {
@@ -187,7 +194,8 @@ pub fn on_open(alloc: Global, state: &mut State, out: &mut Seq<Octets>) -> Resul
     requires good { AreSettings state.old.settings }
     requires short { IfSome state.old.code (λ code. length code ≤ CODE_LIMIT) }
     ensures state { OnOk result (state.new ≡ (rule.on_open state.old).state) }
-    ensures out { OnOk result (out.new ≡ out.old ++ rule.sends state.old.settings (rule.on_open state.old).steps) }
+    ensures out { OnOk result
+        (out.new ≡ out.old ++ rule.sends state.old.settings (rule.on_open state.old).steps) }
     ensures err { OnErr result (state.new ≡ record state.old { sent = 0 }) }
     ensures kept { BeginsWith out.new out.old }
 {
@@ -199,7 +207,8 @@ pub fn on_open(alloc: Global, state: &mut State, out: &mut Seq<Octets>) -> Resul
 pub fn say_heartbeat(alloc: Global, state: &mut State, out: &mut Seq<Octets>) -> Result<(), Memory>
     requires { AreSettings state.old.settings }
     ensures state { OnOk result (state.new ≡ (rule.say_heartbeat state.old).state) }
-    ensures out { OnOk result (out.new ≡ out.old ++ rule.sends state.old.settings (rule.say_heartbeat state.old).steps) }
+    ensures out { OnOk result
+        (out.new ≡ out.old ++ rule.sends state.old.settings (rule.say_heartbeat state.old).steps) }
     ensures err { OnErr result (state.new ≡ state.old) }
     ensures kept { BeginsWith out.new out.old }
 {
@@ -224,7 +233,8 @@ pub fn heartbeat_if_silent(
 ) -> Result<(), Memory>
     requires { AreSettings state.old.settings }
     ensures state { OnOk result (state.new ≡ (rule.heartbeat_if_silent state.old).state) }
-    ensures out { OnOk result (out.new ≡ out.old ++ rule.sends state.old.settings (rule.heartbeat_if_silent state.old).steps) }
+    ensures out { OnOk result (out.new
+        ≡ out.old ++ rule.sends state.old.settings (rule.heartbeat_if_silent state.old).steps) }
     ensures err { OnErr result (state.new ≡ state.old) }
     ensures kept { BeginsWith out.new out.old }
 {
@@ -239,7 +249,8 @@ fn send_again(alloc: Global, state: &State, out: &mut Seq<Octets>) -> Result<(),
     requires good { AreSettings state.now.settings }
     requires short { IfSome state.now.code (λ code. length code ≤ CODE_LIMIT) }
     requires units { IfSome (slice_get state.now.units 0) (λ unit. length unit.body ≤ BODY_LIMIT) }
-    ensures out { OnOk result (out.new ≡ out.old ++ rule.sends state.now.settings (rule.steps_again state.now state.now.phase)) }
+    ensures out { OnOk result (out.new
+        ≡ out.old ++ rule.sends state.now.settings (rule.steps_again state.now state.now.phase)) }
     ensures kept { BeginsWith out.new out.old }
 {
     match state.phase {
@@ -263,7 +274,8 @@ pub fn repeat_sending(alloc: Global, state: &mut State, out: &mut Seq<Octets>) -
     requires units { IfSome (slice_get state.old.units 0) (λ unit. length unit.body ≤ BODY_LIMIT) }
     requires more { state.old.wait.sendings ≤ state.old.wait.repeats }
     ensures state { OnOk result (state.new ≡ (rule.repeat_sending state.old).state) }
-    ensures out { OnOk result (out.new ≡ out.old ++ rule.sends state.old.settings (rule.repeat_sending state.old).steps) }
+    ensures out { OnOk result
+        (out.new ≡ out.old ++ rule.sends state.old.settings (rule.repeat_sending state.old).steps) }
     ensures err { OnErr result (state.new ≡ state.old) }
     ensures kept { BeginsWith out.new out.old }
 {

@@ -60,13 +60,17 @@ fn store_code<V: Vault>(
 ) -> Result<(), TerminalError>
     requires short { length code.now ≤ CODE_LIMIT }
     requires sound { IsSound (V.holds vault.old) state.old }
-    ensures ok { OnOk result (Ran state.old.settings (rule.store_code state.old code.now) state.new (V.holds vault.old) (V.holds vault.new) out.old out.new None) }
-    ensures err { OnErr result (CutShort (rule.store_code state.old code.now).steps (V.holds vault.old) (V.holds vault.new)) }
-    ensures lists { OnErr result (CutLists (rule.store_code state.old code.now).steps (lists_of state.old) (lists_of state.new)) }
+    ensures ok { OnOk result (Ran state.old.settings (rule.store_code state.old code.now) state.new
+        (V.holds vault.old) (V.holds vault.new) out.old out.new None) }
+    ensures err { OnErr result (CutShort (rule.store_code state.old code.now).steps
+        (V.holds vault.old) (V.holds vault.new)) }
+    ensures lists { OnErr result (CutLists (rule.store_code state.old code.now).steps
+        (lists_of state.old) (lists_of state.new)) }
     ensures sound { IsSound (V.holds vault.new) state.new }
     ensures same { IsSame state.old state.new }
     ensures tables { AreSameTables state.old state.new }
-    ensures outside { Outside (V.faults vault.old) (V.faults vault.new) (V.limit vault.old) (V.limit vault.new) (V.may_fail vault.old) (V.may_fail vault.new) result }
+    ensures outside { Outside (V.faults vault.old) (V.faults vault.new) (V.limit vault.old)
+        (V.limit vault.new) (V.may_fail vault.old) (V.may_fail vault.new) result }
 {
     let copy = code.copy(alloc)?;
     say_auth(alloc, &state.settings, state.next, code.as_slice(), out)?;
@@ -92,13 +96,20 @@ fn take_reply<V: Vault>(
 ) -> Result<Option<GiveUp>, TerminalError>
     requires fits { Fits edition message.now }
     requires sound { IsSound (V.holds vault.old) state.old }
-    ensures ok { IfOk result (λ end. Ran state.old.settings (rule.take_reply state.old reply.now (body_octets edition message.now)) state.new (V.holds vault.old) (V.holds vault.new) out.old out.new end) }
-    ensures err { OnErr result (CutShort (rule.take_reply state.old reply.now (body_octets edition message.now)).steps (V.holds vault.old) (V.holds vault.new)) }
-    ensures lists { OnErr result (CutLists (rule.take_reply state.old reply.now (body_octets edition message.now)).steps (lists_of state.old) (lists_of state.new)) }
+    ensures ok { IfOk result (λ end. Ran state.old.settings
+        (rule.take_reply state.old reply.now (body_octets edition message.now)) state.new
+        (V.holds vault.old) (V.holds vault.new) out.old out.new end) }
+    ensures err { OnErr result
+        (CutShort (rule.take_reply state.old reply.now (body_octets edition message.now)).steps
+        (V.holds vault.old) (V.holds vault.new)) }
+    ensures lists { OnErr result
+        (CutLists (rule.take_reply state.old reply.now (body_octets edition message.now)).steps
+        (lists_of state.old) (lists_of state.new)) }
     ensures sound { IsSound (V.holds vault.new) state.new }
     ensures same { IsSame state.old state.new }
     ensures tables { AreSameTables state.old state.new }
-    ensures outside { Outside (V.faults vault.old) (V.faults vault.new) (V.limit vault.old) (V.limit vault.new) (V.may_fail vault.old) (V.may_fail vault.new) result }
+    ensures outside { Outside (V.faults vault.old) (V.faults vault.new) (V.limit vault.old)
+        (V.limit vault.new) (V.may_fail vault.old) (V.may_fail vault.new) result }
 {
     if is_registered(reply) {
         store_code(alloc, vault, state, out, &reply.code)?;
@@ -118,13 +129,20 @@ fn forget_code<V: Vault>(
 ) -> Result<Option<GiveUp>, TerminalError>
     requires fits { Fits edition message.now }
     requires sound { IsSound (V.holds vault.old) state.old }
-    ensures ok { IfOk result (λ end. Ran state.old.settings (rule.forget_code state.old (body_octets edition message.now)) state.new (V.holds vault.old) (V.holds vault.new) out.now out.now end) }
-    ensures err { OnErr result (CutShort (rule.forget_code state.old (body_octets edition message.now)).steps (V.holds vault.old) (V.holds vault.new)) }
-    ensures lists { OnErr result (CutLists (rule.forget_code state.old (body_octets edition message.now)).steps (lists_of state.old) (lists_of state.new)) }
+    ensures ok { IfOk result (λ end.
+        Ran state.old.settings (rule.forget_code state.old (body_octets edition message.now))
+        state.new (V.holds vault.old) (V.holds vault.new) out.now out.now end) }
+    ensures err { OnErr result
+        (CutShort (rule.forget_code state.old (body_octets edition message.now)).steps
+        (V.holds vault.old) (V.holds vault.new)) }
+    ensures lists { OnErr result
+        (CutLists (rule.forget_code state.old (body_octets edition message.now)).steps
+        (lists_of state.old) (lists_of state.new)) }
     ensures sound { IsSound (V.holds vault.new) state.new }
     ensures same { IsSame state.old state.new }
     ensures tables { AreSameTables state.old state.new }
-    ensures outside { Outside (V.faults vault.old) (V.faults vault.new) (V.limit vault.old) (V.limit vault.new) (V.may_fail vault.old) (V.may_fail vault.new) result }
+    ensures outside { Outside (V.faults vault.old) (V.faults vault.new) (V.limit vault.old)
+        (V.limit vault.new) (V.may_fail vault.old) (V.may_fail vault.new) result }
 {
     let _frames = out;
     let octets = write_body(alloc, edition, message)?;
@@ -151,13 +169,18 @@ fn on_auth_response<V: Vault>(
 ) -> Result<Option<GiveUp>, TerminalError>
     requires fits { Fits edition message.now }
     requires sound { IsSound (V.holds vault.old) state.old }
-    ensures ok { IfOk result (λ end. Ran state.old.settings (rule.on_auth_response state.old serial answer (body_octets edition message.now)) state.new (V.holds vault.old) (V.holds vault.new) out.old out.new end) }
-    ensures err { OnErr result (CutShort (rule.on_auth_response state.old serial answer (body_octets edition message.now)).steps (V.holds vault.old) (V.holds vault.new)) }
-    ensures lists { OnErr result (CutLists (rule.on_auth_response state.old serial answer (body_octets edition message.now)).steps (lists_of state.old) (lists_of state.new)) }
+    ensures ok { IfOk result (λ end. Ran state.old.settings
+        (rule.on_auth_response state.old serial answer (body_octets edition message.now)) state.new
+        (V.holds vault.old) (V.holds vault.new) out.old out.new end) }
+    ensures err { OnErr result (CutShort (rule.on_auth_response state.old serial answer
+        (body_octets edition message.now)).steps (V.holds vault.old) (V.holds vault.new)) }
+    ensures lists { OnErr result (CutLists (rule.on_auth_response state.old serial answer
+        (body_octets edition message.now)).steps (lists_of state.old) (lists_of state.new)) }
     ensures sound { IsSound (V.holds vault.new) state.new }
     ensures same { IsSame state.old state.new }
     ensures tables { AreSameTables state.old state.new }
-    ensures outside { Outside (V.faults vault.old) (V.faults vault.new) (V.limit vault.old) (V.limit vault.new) (V.may_fail vault.old) (V.may_fail vault.new) result }
+    ensures outside { Outside (V.faults vault.old) (V.faults vault.new) (V.limit vault.old)
+        (V.limit vault.new) (V.may_fail vault.old) (V.may_fail vault.new) result }
 {
     if answer == 0 {
         state.phase = Phase::Live(serial);
@@ -208,12 +231,14 @@ fn oldest_accepted(state: &mut State)
 fn accept<V: Vault>(alloc: Global, vault: &mut V, state: &mut State) -> Result<(), TerminalError>
     requires some { 0 < length state.old.units }
     requires sound { IsSound (V.holds vault.old) state.old }
-    ensures ok { OnOk result ((state.new ≡ took state.old state.old.units) × (V.holds vault.new ≡ changed Accepts (V.holds vault.old))) }
+    ensures ok { OnOk result ((state.new ≡ took state.old state.old.units)
+        × (V.holds vault.new ≡ changed Accepts (V.holds vault.old))) }
     ensures err { OnErr result ((state.new ≡ state.old) × (V.holds vault.new ≡ V.holds vault.old)) }
     ensures sound { IsSound (V.holds vault.new) state.new }
     ensures same { IsSame state.old state.new }
     ensures tables { AreSameTables state.old state.new }
-    ensures outside { Outside (V.faults vault.old) (V.faults vault.new) (V.limit vault.old) (V.limit vault.new) (V.may_fail vault.old) (V.may_fail vault.new) result }
+    ensures outside { Outside (V.faults vault.old) (V.faults vault.new) (V.limit vault.old)
+        (V.limit vault.new) (V.may_fail vault.old) (V.may_fail vault.new) result }
 {
     match vault.accept(alloc) {
         Ok(()) => {
@@ -233,13 +258,17 @@ fn accept_oldest<V: Vault>(
 ) -> Result<(), TerminalError>
     requires some { 0 < length state.old.units }
     requires sound { IsSound (V.holds vault.old) state.old }
-    ensures ok { OnOk result (Ran state.old.settings (accept_first state.old state.old.units) state.new (V.holds vault.old) (V.holds vault.new) out.old out.new None) }
-    ensures err { OnErr result (CutShort (accept_first state.old state.old.units).steps (V.holds vault.old) (V.holds vault.new)) }
-    ensures lists { OnErr result (CutLists (accept_first state.old state.old.units).steps (lists_of state.old) (lists_of state.new)) }
+    ensures ok { OnOk result (Ran state.old.settings (accept_first state.old state.old.units)
+        state.new (V.holds vault.old) (V.holds vault.new) out.old out.new None) }
+    ensures err { OnErr result (CutShort (accept_first state.old state.old.units).steps
+        (V.holds vault.old) (V.holds vault.new)) }
+    ensures lists { OnErr result (CutLists (accept_first state.old state.old.units).steps
+        (lists_of state.old) (lists_of state.new)) }
     ensures sound { IsSound (V.holds vault.new) state.new }
     ensures same { IsSame state.old state.new }
     ensures tables { AreSameTables state.old state.new }
-    ensures outside { Outside (V.faults vault.old) (V.faults vault.new) (V.limit vault.old) (V.limit vault.new) (V.may_fail vault.old) (V.may_fail vault.new) result }
+    ensures outside { Outside (V.faults vault.old) (V.faults vault.new) (V.limit vault.old)
+        (V.limit vault.new) (V.may_fail vault.old) (V.may_fail vault.new) result }
 {
     accept(alloc, vault, state)?;
     fill_window(alloc, vault, state, out)
@@ -257,13 +286,18 @@ fn on_unit_response<V: Vault>(
 ) -> Result<Option<GiveUp>, TerminalError>
     requires fits { Fits edition message.now }
     requires sound { IsSound (V.holds vault.old) state.old }
-    ensures ok { IfOk result (λ end. Ran state.old.settings (rule.on_unit_response state.old state.old.units ack (body_octets edition message.now)) state.new (V.holds vault.old) (V.holds vault.new) out.old out.new end) }
-    ensures err { OnErr result (CutShort (rule.on_unit_response state.old state.old.units ack (body_octets edition message.now)).steps (V.holds vault.old) (V.holds vault.new)) }
-    ensures lists { OnErr result (CutLists (rule.on_unit_response state.old state.old.units ack (body_octets edition message.now)).steps (lists_of state.old) (lists_of state.new)) }
+    ensures ok { IfOk result (λ end. Ran state.old.settings
+        (rule.on_unit_response state.old state.old.units ack (body_octets edition message.now))
+        state.new (V.holds vault.old) (V.holds vault.new) out.old out.new end) }
+    ensures err { OnErr result (CutShort (rule.on_unit_response state.old state.old.units ack
+        (body_octets edition message.now)).steps (V.holds vault.old) (V.holds vault.new)) }
+    ensures lists { OnErr result (CutLists (rule.on_unit_response state.old state.old.units ack
+        (body_octets edition message.now)).steps (lists_of state.old) (lists_of state.new)) }
     ensures sound { IsSound (V.holds vault.new) state.new }
     ensures same { IsSame state.old state.new }
     ensures tables { AreSameTables state.old state.new }
-    ensures outside { Outside (V.faults vault.old) (V.faults vault.new) (V.limit vault.old) (V.limit vault.new) (V.may_fail vault.old) (V.may_fail vault.new) result }
+    ensures outside { Outside (V.faults vault.old) (V.faults vault.new) (V.limit vault.old)
+        (V.limit vault.new) (V.may_fail vault.old) (V.may_fail vault.new) result }
 {
     if !names_oldest(state, ack) {
         fill_window(alloc, vault, state, out)?;
@@ -288,14 +322,19 @@ fn on_response<V: Vault>(
 ) -> Result<Option<GiveUp>, TerminalError>
     requires fits { Fits edition message.now }
     requires sound { IsSound (V.holds vault.old) state.old }
-    ensures ok { IfOk result (λ end. Ran state.old.settings (rule.on_response state.old.phase state.old ack (body_octets edition message.now)) state.new (V.holds vault.old) (V.holds vault.new) out.old out.new end) }
-    ensures err { OnErr result (CutShort (rule.on_response state.old.phase state.old ack (body_octets edition message.now)).steps (V.holds vault.old) (V.holds vault.new)) }
-    ensures lists { OnErr result (CutLists (rule.on_response state.old.phase state.old ack (body_octets edition message.now)).steps (lists_of state.old) (lists_of state.new)) }
+    ensures ok { IfOk result (λ end. Ran state.old.settings
+        (rule.on_response state.old.phase state.old ack (body_octets edition message.now)) state.new
+        (V.holds vault.old) (V.holds vault.new) out.old out.new end) }
+    ensures err { OnErr result (CutShort (rule.on_response state.old.phase state.old ack
+        (body_octets edition message.now)).steps (V.holds vault.old) (V.holds vault.new)) }
+    ensures lists { OnErr result (CutLists (rule.on_response state.old.phase state.old ack
+        (body_octets edition message.now)).steps (lists_of state.old) (lists_of state.new)) }
     ensures quiet { state.old.phase ≡ Down → IsOk result }
     ensures sound { IsSound (V.holds vault.new) state.new }
     ensures same { IsSame state.old state.new }
     ensures tables { AreSameTables state.old state.new }
-    ensures outside { Outside (V.faults vault.old) (V.faults vault.new) (V.limit vault.old) (V.limit vault.new) (V.may_fail vault.old) (V.may_fail vault.new) result }
+    ensures outside { Outside (V.faults vault.old) (V.faults vault.new) (V.limit vault.old)
+        (V.limit vault.new) (V.may_fail vault.old) (V.may_fail vault.new) result }
 {
     match state.phase {
         Phase::Down | Phase::Registering(_) => Ok(None),
@@ -323,14 +362,20 @@ fn on_register_reply<V: Vault>(
 ) -> Result<Option<GiveUp>, TerminalError>
     requires fits { Fits edition message.now }
     requires sound { IsSound (V.holds vault.old) state.old }
-    ensures ok { IfOk result (λ end. Ran state.old.settings (rule.on_register_reply state.old.phase state.old reply.now (body_octets edition message.now)) state.new (V.holds vault.old) (V.holds vault.new) out.old out.new end) }
-    ensures err { OnErr result (CutShort (rule.on_register_reply state.old.phase state.old reply.now (body_octets edition message.now)).steps (V.holds vault.old) (V.holds vault.new)) }
-    ensures lists { OnErr result (CutLists (rule.on_register_reply state.old.phase state.old reply.now (body_octets edition message.now)).steps (lists_of state.old) (lists_of state.new)) }
+    ensures ok { IfOk result (λ end. Ran state.old.settings (rule.on_register_reply state.old.phase
+        state.old reply.now (body_octets edition message.now))
+        state.new (V.holds vault.old) (V.holds vault.new) out.old out.new end) }
+    ensures err { OnErr result (CutShort (rule.on_register_reply state.old.phase state.old reply.now
+        (body_octets edition message.now)).steps (V.holds vault.old) (V.holds vault.new)) }
+    ensures lists { OnErr result (CutLists (rule.on_register_reply state.old.phase state.old
+        reply.now (body_octets edition message.now)).steps
+        (lists_of state.old) (lists_of state.new)) }
     ensures quiet { state.old.phase ≡ Down → IsOk result }
     ensures sound { IsSound (V.holds vault.new) state.new }
     ensures same { IsSame state.old state.new }
     ensures tables { AreSameTables state.old state.new }
-    ensures outside { Outside (V.faults vault.old) (V.faults vault.new) (V.limit vault.old) (V.limit vault.new) (V.may_fail vault.old) (V.may_fail vault.new) result }
+    ensures outside { Outside (V.faults vault.old) (V.faults vault.new) (V.limit vault.old)
+        (V.limit vault.new) (V.may_fail vault.old) (V.may_fail vault.new) result }
 {
     match state.phase {
         Phase::Registering(serial) => {
@@ -358,14 +403,23 @@ fn answer_and_fill<V: Vault>(
 ) -> Result<(), TerminalError>
     requires fits { Fits header.now.edition message.now }
     requires sound { IsSound (V.holds vault.old) state.old }
-    ensures ok { OnOk result (Ran state.old.settings (rule.and_then (rule.answers state.old (table.answer_to state.old header.now message.now)) rule.fill_window) state.new (V.holds vault.old) (V.holds vault.new) out.old out.new None) }
-    ensures err { OnErr result (CutShort (rule.and_then (rule.answers state.old (table.answer_to state.old header.now message.now)) rule.fill_window).steps (V.holds vault.old) (V.holds vault.new)) }
-    ensures lists { OnErr result (CutLists (rule.and_then (rule.answers state.old (table.answer_to state.old header.now message.now)) rule.fill_window).steps (lists_of state.old) (lists_of state.new)) }
+    ensures ok { OnOk result (Ran state.old.settings
+        (rule.and_then (rule.answers state.old (table.answer_to state.old header.now message.now))
+        rule.fill_window) state.new (V.holds vault.old) (V.holds vault.new) out.old out.new None) }
+    ensures err { OnErr result (CutShort (rule.and_then (rule.answers state.old
+        (table.answer_to state.old header.now message.now)) rule.fill_window).steps
+        (V.holds vault.old) (V.holds vault.new)) }
+    ensures lists { OnErr result (CutLists (rule.and_then (rule.answers state.old
+        (table.answer_to state.old header.now message.now)) rule.fill_window).steps
+        (lists_of state.old) (lists_of state.new)) }
     ensures sound { IsSound (V.holds vault.new) state.new }
     ensures same { IsSame state.old state.new }
-    ensures tables { OnErr result (AllTablesOrNone state.old (rule.and_then (rule.answers state.old (table.answer_to state.old header.now message.now)) rule.fill_window).state state.new) }
+    ensures tables { OnErr result (AllTablesOrNone state.old
+        (rule.and_then (rule.answers state.old (table.answer_to state.old header.now message.now))
+        rule.fill_window).state state.new) }
     ensures params { sets_params_in message.now ≡ false → AreSameParams state.old state.new }
-    ensures outside { Outside (V.faults vault.old) (V.faults vault.new) (V.limit vault.old) (V.limit vault.new) (V.may_fail vault.old) (V.may_fail vault.new) result }
+    ensures outside { Outside (V.faults vault.old) (V.faults vault.new) (V.limit vault.old)
+        (V.limit vault.new) (V.may_fail vault.old) (V.may_fail vault.new) result }
 {
     answer(alloc, state, header, message, out)?;
     fill_window(alloc, vault, state, out)
@@ -382,15 +436,23 @@ fn answer_if_live<V: Vault>(
 ) -> Result<(), TerminalError>
     requires fits { Fits header.now.edition message.now }
     requires sound { IsSound (V.holds vault.old) state.old }
-    ensures ok { OnOk result (Ran state.old.settings (rule.answer_if_live state.old.phase state.old (table.answer_to state.old header.now message.now)) state.new (V.holds vault.old) (V.holds vault.new) out.old out.new None) }
-    ensures err { OnErr result (CutShort (rule.answer_if_live state.old.phase state.old (table.answer_to state.old header.now message.now)).steps (V.holds vault.old) (V.holds vault.new)) }
-    ensures lists { OnErr result (CutLists (rule.answer_if_live state.old.phase state.old (table.answer_to state.old header.now message.now)).steps (lists_of state.old) (lists_of state.new)) }
+    ensures ok { OnOk result (Ran state.old.settings (rule.answer_if_live state.old.phase state.old
+        (table.answer_to state.old header.now message.now))
+        state.new (V.holds vault.old) (V.holds vault.new) out.old out.new None) }
+    ensures err { OnErr result (CutShort (rule.answer_if_live state.old.phase state.old
+        (table.answer_to state.old header.now message.now)).steps
+        (V.holds vault.old) (V.holds vault.new)) }
+    ensures lists { OnErr result (CutLists (rule.answer_if_live state.old.phase state.old
+        (table.answer_to state.old header.now message.now)).steps
+        (lists_of state.old) (lists_of state.new)) }
     ensures quiet { state.old.phase ≡ Down → IsOk result }
     ensures sound { IsSound (V.holds vault.new) state.new }
     ensures same { IsSame state.old state.new }
-    ensures tables { OnErr result (AllTablesOrNone state.old (rule.answer_if_live state.old.phase state.old (table.answer_to state.old header.now message.now)).state state.new) }
+    ensures tables { OnErr result (AllTablesOrNone state.old (rule.answer_if_live state.old.phase
+        state.old (table.answer_to state.old header.now message.now)).state state.new) }
     ensures params { sets_params_in message.now ≡ false → AreSameParams state.old state.new }
-    ensures outside { Outside (V.faults vault.old) (V.faults vault.new) (V.limit vault.old) (V.limit vault.new) (V.may_fail vault.old) (V.may_fail vault.new) result }
+    ensures outside { Outside (V.faults vault.old) (V.faults vault.new) (V.limit vault.old)
+        (V.limit vault.new) (V.may_fail vault.old) (V.may_fail vault.new) result }
 {
     match state.phase {
         Phase::Live(_) => answer_and_fill(alloc, vault, state, out, header, message),
@@ -407,13 +469,20 @@ fn refuse_and_fill<V: Vault>(
     header: &Header,
 ) -> Result<(), TerminalError>
     requires sound { IsSound (V.holds vault.old) state.old }
-    ensures ok { OnOk result (Ran state.old.settings (rule.and_then (rule.answers state.old (table.answer_to_refused state.old header.now)) rule.fill_window) state.new (V.holds vault.old) (V.holds vault.new) out.old out.new None) }
-    ensures err { OnErr result (CutShort (rule.and_then (rule.answers state.old (table.answer_to_refused state.old header.now)) rule.fill_window).steps (V.holds vault.old) (V.holds vault.new)) }
-    ensures lists { OnErr result (CutLists (rule.and_then (rule.answers state.old (table.answer_to_refused state.old header.now)) rule.fill_window).steps (lists_of state.old) (lists_of state.new)) }
+    ensures ok { OnOk result (Ran state.old.settings
+        (rule.and_then (rule.answers state.old (table.answer_to_refused state.old header.now))
+        rule.fill_window) state.new (V.holds vault.old) (V.holds vault.new) out.old out.new None) }
+    ensures err { OnErr result (CutShort (rule.and_then (rule.answers state.old
+        (table.answer_to_refused state.old header.now)) rule.fill_window).steps
+        (V.holds vault.old) (V.holds vault.new)) }
+    ensures lists { OnErr result (CutLists (rule.and_then (rule.answers state.old
+        (table.answer_to_refused state.old header.now)) rule.fill_window).steps
+        (lists_of state.old) (lists_of state.new)) }
     ensures sound { IsSound (V.holds vault.new) state.new }
     ensures same { IsSame state.old state.new }
     ensures tables { AreSameTables state.old state.new }
-    ensures outside { Outside (V.faults vault.old) (V.faults vault.new) (V.limit vault.old) (V.limit vault.new) (V.may_fail vault.old) (V.may_fail vault.new) result }
+    ensures outside { Outside (V.faults vault.old) (V.faults vault.new) (V.limit vault.old)
+        (V.limit vault.new) (V.may_fail vault.old) (V.may_fail vault.new) result }
 {
     answer_refused(alloc, state, header, out)?;
     fill_window(alloc, vault, state, out)
@@ -428,14 +497,21 @@ pub fn refuse_if_live<V: Vault>(
     header: &Header,
 ) -> Result<(), TerminalError>
     requires sound { IsSound (V.holds vault.old) state.old }
-    ensures ok { OnOk result (Ran state.old.settings (rule.answer_if_live state.old.phase state.old (table.answer_to_refused state.old header.now)) state.new (V.holds vault.old) (V.holds vault.new) out.old out.new None) }
-    ensures err { OnErr result (CutShort (rule.answer_if_live state.old.phase state.old (table.answer_to_refused state.old header.now)).steps (V.holds vault.old) (V.holds vault.new)) }
-    ensures lists { OnErr result (CutLists (rule.answer_if_live state.old.phase state.old (table.answer_to_refused state.old header.now)).steps (lists_of state.old) (lists_of state.new)) }
+    ensures ok { OnOk result (Ran state.old.settings (rule.answer_if_live state.old.phase state.old
+        (table.answer_to_refused state.old header.now))
+        state.new (V.holds vault.old) (V.holds vault.new) out.old out.new None) }
+    ensures err { OnErr result (CutShort (rule.answer_if_live state.old.phase state.old
+        (table.answer_to_refused state.old header.now)).steps
+        (V.holds vault.old) (V.holds vault.new)) }
+    ensures lists { OnErr result (CutLists (rule.answer_if_live state.old.phase state.old
+        (table.answer_to_refused state.old header.now)).steps
+        (lists_of state.old) (lists_of state.new)) }
     ensures quiet { state.old.phase ≡ Down → IsOk result }
     ensures sound { IsSound (V.holds vault.new) state.new }
     ensures same { IsSame state.old state.new }
     ensures tables { AreSameTables state.old state.new }
-    ensures outside { Outside (V.faults vault.old) (V.faults vault.new) (V.limit vault.old) (V.limit vault.new) (V.may_fail vault.old) (V.may_fail vault.new) result }
+    ensures outside { Outside (V.faults vault.old) (V.faults vault.new) (V.limit vault.old)
+        (V.limit vault.new) (V.may_fail vault.old) (V.may_fail vault.new) result }
 {
     match state.phase {
         Phase::Live(_) => refuse_and_fill(alloc, vault, state, out, header),
@@ -454,13 +530,20 @@ fn ask_and_fill<V: Vault>(
 ) -> Result<(), TerminalError>
     requires sound { IsSound (V.holds vault.old) state.old }
     requires few { length numbers ≤ OCTET_COUNT_LIMIT }
-    ensures ok { OnOk result (Ran state.old.settings (rule.and_then (rule.answers state.old (table.answer_to_lack state.old state.old.settings.phone.edition first numbers)) rule.fill_window) state.new (V.holds vault.old) (V.holds vault.new) out.old out.new None) }
-    ensures err { OnErr result (CutShort (rule.and_then (rule.answers state.old (table.answer_to_lack state.old state.old.settings.phone.edition first numbers)) rule.fill_window).steps (V.holds vault.old) (V.holds vault.new)) }
-    ensures lists { OnErr result (CutLists (rule.and_then (rule.answers state.old (table.answer_to_lack state.old state.old.settings.phone.edition first numbers)) rule.fill_window).steps (lists_of state.old) (lists_of state.new)) }
+    ensures ok { OnOk result (Ran state.old.settings (rule.and_then (rule.answers state.old
+        (table.answer_to_lack state.old state.old.settings.phone.edition first numbers))
+        rule.fill_window) state.new (V.holds vault.old) (V.holds vault.new) out.old out.new None) }
+    ensures err { OnErr result (CutShort (rule.and_then (rule.answers state.old
+        (table.answer_to_lack state.old state.old.settings.phone.edition first numbers))
+        rule.fill_window).steps (V.holds vault.old) (V.holds vault.new)) }
+    ensures lists { OnErr result (CutLists (rule.and_then (rule.answers state.old
+        (table.answer_to_lack state.old state.old.settings.phone.edition first numbers))
+        rule.fill_window).steps (lists_of state.old) (lists_of state.new)) }
     ensures sound { IsSound (V.holds vault.new) state.new }
     ensures same { IsSame state.old state.new }
     ensures tables { AreSameTables state.old state.new }
-    ensures outside { Outside (V.faults vault.old) (V.faults vault.new) (V.limit vault.old) (V.limit vault.new) (V.may_fail vault.old) (V.may_fail vault.new) result }
+    ensures outside { Outside (V.faults vault.old) (V.faults vault.new) (V.limit vault.old)
+        (V.limit vault.new) (V.may_fail vault.old) (V.may_fail vault.new) result }
 {
     answer_lack(alloc, state, first, numbers, out)?;
     fill_window(alloc, vault, state, out)
@@ -477,14 +560,21 @@ pub fn ask_if_live<V: Vault>(
 ) -> Result<(), TerminalError>
     requires sound { IsSound (V.holds vault.old) state.old }
     requires few { length numbers ≤ OCTET_COUNT_LIMIT }
-    ensures ok { OnOk result (Ran state.old.settings (rule.answer_if_live state.old.phase state.old (table.answer_to_lack state.old state.old.settings.phone.edition first numbers)) state.new (V.holds vault.old) (V.holds vault.new) out.old out.new None) }
-    ensures err { OnErr result (CutShort (rule.answer_if_live state.old.phase state.old (table.answer_to_lack state.old state.old.settings.phone.edition first numbers)).steps (V.holds vault.old) (V.holds vault.new)) }
-    ensures lists { OnErr result (CutLists (rule.answer_if_live state.old.phase state.old (table.answer_to_lack state.old state.old.settings.phone.edition first numbers)).steps (lists_of state.old) (lists_of state.new)) }
+    ensures ok { OnOk result (Ran state.old.settings (rule.answer_if_live state.old.phase state.old
+        (table.answer_to_lack state.old state.old.settings.phone.edition first numbers))
+        state.new (V.holds vault.old) (V.holds vault.new) out.old out.new None) }
+    ensures err { OnErr result (CutShort (rule.answer_if_live state.old.phase state.old
+        (table.answer_to_lack state.old state.old.settings.phone.edition first numbers)).steps
+        (V.holds vault.old) (V.holds vault.new)) }
+    ensures lists { OnErr result (CutLists (rule.answer_if_live state.old.phase state.old
+        (table.answer_to_lack state.old state.old.settings.phone.edition first numbers)).steps
+        (lists_of state.old) (lists_of state.new)) }
     ensures quiet { state.old.phase ≡ Down → IsOk result }
     ensures sound { IsSound (V.holds vault.new) state.new }
     ensures same { IsSame state.old state.new }
     ensures tables { AreSameTables state.old state.new }
-    ensures outside { Outside (V.faults vault.old) (V.faults vault.new) (V.limit vault.old) (V.limit vault.new) (V.may_fail vault.old) (V.may_fail vault.new) result }
+    ensures outside { Outside (V.faults vault.old) (V.faults vault.new) (V.limit vault.old)
+        (V.limit vault.new) (V.may_fail vault.old) (V.may_fail vault.new) result }
 {
     match state.phase {
         Phase::Live(_) => ask_and_fill(alloc, vault, state, out, first, numbers),
@@ -503,15 +593,21 @@ pub fn on_message<V: Vault>(
 ) -> Result<Option<GiveUp>, TerminalError>
     requires fits { Fits header.now.edition message.now }
     requires sound { IsSound (V.holds vault.old) state.old }
-    ensures ok { IfOk result (λ end. Ran state.old.settings (rule.on_message state.old header.now message.now) state.new (V.holds vault.old) (V.holds vault.new) out.old out.new end) }
-    ensures err { OnErr result (CutShort (rule.on_message state.old header.now message.now).steps (V.holds vault.old) (V.holds vault.new)) }
-    ensures lists { OnErr result (CutLists (rule.on_message state.old header.now message.now).steps (lists_of state.old) (lists_of state.new)) }
+    ensures ok { IfOk result (λ end.
+        Ran state.old.settings (rule.on_message state.old header.now message.now) state.new
+        (V.holds vault.old) (V.holds vault.new) out.old out.new end) }
+    ensures err { OnErr result (CutShort (rule.on_message state.old header.now message.now).steps
+        (V.holds vault.old) (V.holds vault.new)) }
+    ensures lists { OnErr result (CutLists (rule.on_message state.old header.now message.now).steps
+        (lists_of state.old) (lists_of state.new)) }
     ensures quiet { state.old.phase ≡ Down → IsOk result }
     ensures sound { IsSound (V.holds vault.new) state.new }
     ensures same { IsSame state.old state.new }
-    ensures tables { OnErr result (AllTablesOrNone state.old (rule.on_message state.old header.now message.now).state state.new) }
+    ensures tables { OnErr result (AllTablesOrNone state.old
+        (rule.on_message state.old header.now message.now).state state.new) }
     ensures params { sets_params_in message.now ≡ false → AreSameParams state.old state.new }
-    ensures outside { Outside (V.faults vault.old) (V.faults vault.new) (V.limit vault.old) (V.limit vault.new) (V.may_fail vault.old) (V.may_fail vault.new) result }
+    ensures outside { Outside (V.faults vault.old) (V.faults vault.new) (V.limit vault.old)
+        (V.limit vault.new) (V.may_fail vault.old) (V.may_fail vault.new) result }
 {
     match message {
         Message::PlatformAck {

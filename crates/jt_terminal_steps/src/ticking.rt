@@ -9,7 +9,8 @@ use crate::error::TerminalError;
 use crate::window::fill_window;
 use jt_store::Vault;
 use jt_terminal_rule::{
-    GiveUp, Phase, State, Wait, say_heartbeat, heartbeat_if_silent, has_passed, lose, repeat_sending,
+    GiveUp, Phase, State, Wait, has_passed, heartbeat_if_silent, lose, repeat_sending,
+    say_heartbeat,
 };
 use jt_value::{Octets, Seq};
 use std::alloc::Global;
@@ -22,13 +23,20 @@ fn beat_and_fill<V: Vault>(
     out: &mut Seq<Octets>,
 ) -> Result<(), TerminalError>
     requires sound { IsSound (V.holds vault.old) state.old }
-    ensures ok { OnOk result (Ran state.old.settings (rule.and_then (rule.heartbeat_if_silent state.old) rule.fill_window) state.new (V.holds vault.old) (V.holds vault.new) out.old out.new None) }
-    ensures err { OnErr result (CutShort (rule.and_then (rule.heartbeat_if_silent state.old) rule.fill_window).steps (V.holds vault.old) (V.holds vault.new)) }
-    ensures lists { OnErr result (CutLists (rule.and_then (rule.heartbeat_if_silent state.old) rule.fill_window).steps (lists_of state.old) (lists_of state.new)) }
+    ensures ok { OnOk result (Ran state.old.settings
+        (rule.and_then (rule.heartbeat_if_silent state.old) rule.fill_window) state.new
+        (V.holds vault.old) (V.holds vault.new) out.old out.new None) }
+    ensures err { OnErr result
+        (CutShort (rule.and_then (rule.heartbeat_if_silent state.old) rule.fill_window).steps
+        (V.holds vault.old) (V.holds vault.new)) }
+    ensures lists { OnErr result
+        (CutLists (rule.and_then (rule.heartbeat_if_silent state.old) rule.fill_window).steps
+        (lists_of state.old) (lists_of state.new)) }
     ensures sound { IsSound (V.holds vault.new) state.new }
     ensures same { IsSame state.old state.new }
     ensures tables { AreSameTables state.old state.new }
-    ensures outside { Outside (V.faults vault.old) (V.faults vault.new) (V.limit vault.old) (V.limit vault.new) (V.may_fail vault.old) (V.may_fail vault.new) result }
+    ensures outside { Outside (V.faults vault.old) (V.faults vault.new) (V.limit vault.old)
+        (V.limit vault.new) (V.may_fail vault.old) (V.may_fail vault.new) result }
 {
     heartbeat_if_silent(alloc, state, out)?;
     fill_window(alloc, vault, state, out)
@@ -42,13 +50,17 @@ fn watch_and_fill<V: Vault>(
     out: &mut Seq<Octets>,
 ) -> Result<(), TerminalError>
     requires sound { IsSound (V.holds vault.old) state.old }
-    ensures ok { OnOk result (Ran state.old.settings (rule.watch_and_fill state.old.phase state.old) state.new (V.holds vault.old) (V.holds vault.new) out.old out.new None) }
-    ensures err { OnErr result (CutShort (rule.watch_and_fill state.old.phase state.old).steps (V.holds vault.old) (V.holds vault.new)) }
-    ensures lists { OnErr result (CutLists (rule.watch_and_fill state.old.phase state.old).steps (lists_of state.old) (lists_of state.new)) }
+    ensures ok { OnOk result (Ran state.old.settings (rule.watch_and_fill state.old.phase state.old)
+        state.new (V.holds vault.old) (V.holds vault.new) out.old out.new None) }
+    ensures err { OnErr result (CutShort (rule.watch_and_fill state.old.phase state.old).steps
+        (V.holds vault.old) (V.holds vault.new)) }
+    ensures lists { OnErr result (CutLists (rule.watch_and_fill state.old.phase state.old).steps
+        (lists_of state.old) (lists_of state.new)) }
     ensures sound { IsSound (V.holds vault.new) state.new }
     ensures same { IsSame state.old state.new }
     ensures tables { AreSameTables state.old state.new }
-    ensures outside { Outside (V.faults vault.old) (V.faults vault.new) (V.limit vault.old) (V.limit vault.new) (V.may_fail vault.old) (V.may_fail vault.new) result }
+    ensures outside { Outside (V.faults vault.old) (V.faults vault.new) (V.limit vault.old)
+        (V.limit vault.new) (V.may_fail vault.old) (V.may_fail vault.new) result }
 {
     match state.phase {
         Phase::Live(_) => beat_and_fill(alloc, vault, state, out),
@@ -65,13 +77,18 @@ fn repeat_and_watch<V: Vault>(
 ) -> Result<(), TerminalError>
     requires more { state.old.wait.sendings ≤ state.old.wait.repeats }
     requires sound { IsSound (V.holds vault.old) state.old }
-    ensures ok { OnOk result (Ran state.old.settings (rule.and_then (rule.repeat_sending state.old) (rule.watch_and_fill state.old.phase)) state.new (V.holds vault.old) (V.holds vault.new) out.old out.new None) }
-    ensures err { OnErr result (CutShort (rule.and_then (rule.repeat_sending state.old) (rule.watch_and_fill state.old.phase)).steps (V.holds vault.old) (V.holds vault.new)) }
-    ensures lists { OnErr result (CutLists (rule.and_then (rule.repeat_sending state.old) (rule.watch_and_fill state.old.phase)).steps (lists_of state.old) (lists_of state.new)) }
+    ensures ok { OnOk result (Ran state.old.settings
+        (rule.and_then (rule.repeat_sending state.old) (rule.watch_and_fill state.old.phase))
+        state.new (V.holds vault.old) (V.holds vault.new) out.old out.new None) }
+    ensures err { OnErr result (CutShort (rule.and_then (rule.repeat_sending state.old)
+        (rule.watch_and_fill state.old.phase)).steps (V.holds vault.old) (V.holds vault.new)) }
+    ensures lists { OnErr result (CutLists (rule.and_then (rule.repeat_sending state.old)
+        (rule.watch_and_fill state.old.phase)).steps (lists_of state.old) (lists_of state.new)) }
     ensures sound { IsSound (V.holds vault.new) state.new }
     ensures same { IsSame state.old state.new }
     ensures tables { AreSameTables state.old state.new }
-    ensures outside { Outside (V.faults vault.old) (V.faults vault.new) (V.limit vault.old) (V.limit vault.new) (V.may_fail vault.old) (V.may_fail vault.new) result }
+    ensures outside { Outside (V.faults vault.old) (V.faults vault.new) (V.limit vault.old)
+        (V.limit vault.new) (V.may_fail vault.old) (V.may_fail vault.new) result }
 {
     repeat_sending(alloc, state, out)?;
     watch_and_fill(alloc, vault, state, out)
@@ -85,13 +102,17 @@ pub fn on_tick<V: Vault>(
     out: &mut Seq<Octets>,
 ) -> Result<Option<GiveUp>, TerminalError>
     requires sound { IsSound (V.holds vault.old) state.old }
-    ensures ok { IfOk result (λ end. Ran state.old.settings (rule.on_tick state.old) state.new (V.holds vault.old) (V.holds vault.new) out.old out.new end) }
-    ensures err { OnErr result (CutShort (rule.on_tick state.old).steps (V.holds vault.old) (V.holds vault.new)) }
-    ensures lists { OnErr result (CutLists (rule.on_tick state.old).steps (lists_of state.old) (lists_of state.new)) }
+    ensures ok { IfOk result (λ end. Ran state.old.settings (rule.on_tick state.old) state.new
+        (V.holds vault.old) (V.holds vault.new) out.old out.new end) }
+    ensures err { OnErr result
+        (CutShort (rule.on_tick state.old).steps (V.holds vault.old) (V.holds vault.new)) }
+    ensures lists { OnErr result
+        (CutLists (rule.on_tick state.old).steps (lists_of state.old) (lists_of state.new)) }
     ensures sound { IsSound (V.holds vault.new) state.new }
     ensures same { IsSame state.old state.new }
     ensures tables { AreSameTables state.old state.new }
-    ensures outside { Outside (V.faults vault.old) (V.faults vault.new) (V.limit vault.old) (V.limit vault.new) (V.may_fail vault.old) (V.may_fail vault.new) result }
+    ensures outside { Outside (V.faults vault.old) (V.faults vault.new) (V.limit vault.old)
+        (V.limit vault.new) (V.may_fail vault.old) (V.may_fail vault.new) result }
 {
     if !has_passed(state) {
         watch_and_fill(alloc, vault, state, out)?;
@@ -120,13 +141,20 @@ fn beat_now<V: Vault>(
     out: &mut Seq<Octets>,
 ) -> Result<(), TerminalError>
     requires sound { IsSound (V.holds vault.old) state.old }
-    ensures ok { OnOk result (Ran state.old.settings (rule.and_then (rule.say_heartbeat state.old) rule.fill_window) state.new (V.holds vault.old) (V.holds vault.new) out.old out.new None) }
-    ensures err { OnErr result (CutShort (rule.and_then (rule.say_heartbeat state.old) rule.fill_window).steps (V.holds vault.old) (V.holds vault.new)) }
-    ensures lists { OnErr result (CutLists (rule.and_then (rule.say_heartbeat state.old) rule.fill_window).steps (lists_of state.old) (lists_of state.new)) }
+    ensures ok { OnOk result
+        (Ran state.old.settings (rule.and_then (rule.say_heartbeat state.old) rule.fill_window)
+        state.new (V.holds vault.old) (V.holds vault.new) out.old out.new None) }
+    ensures err { OnErr result
+        (CutShort (rule.and_then (rule.say_heartbeat state.old) rule.fill_window).steps
+        (V.holds vault.old) (V.holds vault.new)) }
+    ensures lists { OnErr result
+        (CutLists (rule.and_then (rule.say_heartbeat state.old) rule.fill_window).steps
+        (lists_of state.old) (lists_of state.new)) }
     ensures sound { IsSound (V.holds vault.new) state.new }
     ensures same { IsSame state.old state.new }
     ensures tables { AreSameTables state.old state.new }
-    ensures outside { Outside (V.faults vault.old) (V.faults vault.new) (V.limit vault.old) (V.limit vault.new) (V.may_fail vault.old) (V.may_fail vault.new) result }
+    ensures outside { Outside (V.faults vault.old) (V.faults vault.new) (V.limit vault.old)
+        (V.limit vault.new) (V.may_fail vault.old) (V.may_fail vault.new) result }
 {
     say_heartbeat(alloc, state, out)?;
     fill_window(alloc, vault, state, out)
@@ -140,13 +168,17 @@ pub fn on_beat<V: Vault>(
     out: &mut Seq<Octets>,
 ) -> Result<(), TerminalError>
     requires sound { IsSound (V.holds vault.old) state.old }
-    ensures ok { OnOk result (Ran state.old.settings (rule.on_beat state.old.phase state.old) state.new (V.holds vault.old) (V.holds vault.new) out.old out.new None) }
-    ensures err { OnErr result (CutShort (rule.on_beat state.old.phase state.old).steps (V.holds vault.old) (V.holds vault.new)) }
-    ensures lists { OnErr result (CutLists (rule.on_beat state.old.phase state.old).steps (lists_of state.old) (lists_of state.new)) }
+    ensures ok { OnOk result (Ran state.old.settings (rule.on_beat state.old.phase state.old)
+        state.new (V.holds vault.old) (V.holds vault.new) out.old out.new None) }
+    ensures err { OnErr result (CutShort (rule.on_beat state.old.phase state.old).steps
+        (V.holds vault.old) (V.holds vault.new)) }
+    ensures lists { OnErr result (CutLists (rule.on_beat state.old.phase state.old).steps
+        (lists_of state.old) (lists_of state.new)) }
     ensures sound { IsSound (V.holds vault.new) state.new }
     ensures same { IsSame state.old state.new }
     ensures tables { AreSameTables state.old state.new }
-    ensures outside { Outside (V.faults vault.old) (V.faults vault.new) (V.limit vault.old) (V.limit vault.new) (V.may_fail vault.old) (V.may_fail vault.new) result }
+    ensures outside { Outside (V.faults vault.old) (V.faults vault.new) (V.limit vault.old)
+        (V.limit vault.new) (V.may_fail vault.old) (V.may_fail vault.new) result }
 {
     match state.phase {
         Phase::Live(_) => beat_now(alloc, vault, state, out),

@@ -46,9 +46,11 @@ fn commit<V: Vault>(
 ) -> Result<(), TerminalError>
     requires unit { IsUnit unit.now }
     requires may { WhereKnown (V.holds vault.old) (λ held. MayCommit held unit.now) }
-    ensures ok { OnOk result ((V.holds vault.new ≡ changed (Forms unit.now) (V.holds vault.old)) × (units.new ≡ units.old ++ unit.now ∷ [])) }
+    ensures ok { OnOk result ((V.holds vault.new ≡ changed (Forms unit.now) (V.holds vault.old))
+        × (units.new ≡ units.old ++ unit.now ∷ [])) }
     ensures err { OnErr result ((V.holds vault.new ≡ V.holds vault.old) × (units.new ≡ units.old)) }
-    ensures outside { Outside (V.faults vault.old) (V.faults vault.new) (V.limit vault.old) (V.limit vault.new) (V.may_fail vault.old) (V.may_fail vault.new) result }
+    ensures outside { Outside (V.faults vault.old) (V.faults vault.new) (V.limit vault.old)
+        (V.limit vault.new) (V.may_fail vault.old) (V.may_fail vault.new) result }
 {
     let copy = unit.clone()?;
     units.push(copy)?;
@@ -70,13 +72,17 @@ fn form_unit<V: Vault>(
 ) -> Result<bool, TerminalError>
     requires few { state.old.sent < 16 }
     requires sound { IsSound (V.holds vault.old) state.old }
-    ensures ok { IfOk result (λ more. Went state.old.settings (rule.form_unit state.old state.old.waiting) more state.old state.new (V.holds vault.old) (V.holds vault.new) out.old out.new) }
-    ensures err { OnErr result (MayBeCut (rule.form_unit state.old state.old.waiting) (V.holds vault.old) (V.holds vault.new)) }
+    ensures ok { IfOk result (λ more.
+        Went state.old.settings (rule.form_unit state.old state.old.waiting) more
+        state.old state.new (V.holds vault.old) (V.holds vault.new) out.old out.new) }
+    ensures err { OnErr result (MayBeCut (rule.form_unit state.old state.old.waiting)
+        (V.holds vault.old) (V.holds vault.new)) }
     ensures lists { OnErr result (lists_of state.new ≡ lists_of state.old) }
     ensures sound { IsSound (V.holds vault.new) state.new }
     ensures same { IsSame state.old state.new }
     ensures tables { AreSameTables state.old state.new }
-    ensures outside { Outside (V.faults vault.old) (V.faults vault.new) (V.limit vault.old) (V.limit vault.new) (V.may_fail vault.old) (V.may_fail vault.new) result }
+    ensures outside { Outside (V.faults vault.old) (V.faults vault.new) (V.limit vault.old)
+        (V.limit vault.new) (V.may_fail vault.old) (V.may_fail vault.new) result }
 {
     if state.waiting.is_empty() {
         return Ok(false);
@@ -103,13 +109,16 @@ fn send_next<V: Vault>(
     out: &mut Seq<Octets>,
 ) -> Result<bool, TerminalError>
     requires sound { IsSound (V.holds vault.old) state.old }
-    ensures ok { IfOk result (λ more. Went state.old.settings (rule.send_next state.old) more state.old state.new (V.holds vault.old) (V.holds vault.new) out.old out.new) }
-    ensures err { OnErr result (MayBeCut (rule.send_next state.old) (V.holds vault.old) (V.holds vault.new)) }
+    ensures ok { IfOk result (λ more. Went state.old.settings (rule.send_next state.old) more
+        state.old state.new (V.holds vault.old) (V.holds vault.new) out.old out.new) }
+    ensures err { OnErr result
+        (MayBeCut (rule.send_next state.old) (V.holds vault.old) (V.holds vault.new)) }
     ensures lists { OnErr result (lists_of state.new ≡ lists_of state.old) }
     ensures sound { IsSound (V.holds vault.new) state.new }
     ensures same { IsSame state.old state.new }
     ensures tables { AreSameTables state.old state.new }
-    ensures outside { Outside (V.faults vault.old) (V.faults vault.new) (V.limit vault.old) (V.limit vault.new) (V.may_fail vault.old) (V.may_fail vault.new) result }
+    ensures outside { Outside (V.faults vault.old) (V.faults vault.new) (V.limit vault.old)
+        (V.limit vault.new) (V.may_fail vault.old) (V.may_fail vault.new) result }
 {
     if state.sent >= WINDOW {
         return Ok(false);
@@ -131,13 +140,17 @@ fn fill<V: Vault>(
     room: usize,
 ) -> Result<(), TerminalError>
     requires sound { IsSound (V.holds vault.old) state.old }
-    ensures ok { OnOk result (Ran state.old.settings (rule.fill room state.old) state.new (V.holds vault.old) (V.holds vault.new) out.old out.new None) }
-    ensures err { OnErr result (CutShort (rule.fill room state.old).steps (V.holds vault.old) (V.holds vault.new)) }
-    ensures lists { OnErr result (CutLists (rule.fill room state.old).steps (lists_of state.old) (lists_of state.new)) }
+    ensures ok { OnOk result (Ran state.old.settings (rule.fill room state.old) state.new
+        (V.holds vault.old) (V.holds vault.new) out.old out.new None) }
+    ensures err { OnErr result
+        (CutShort (rule.fill room state.old).steps (V.holds vault.old) (V.holds vault.new)) }
+    ensures lists { OnErr result
+        (CutLists (rule.fill room state.old).steps (lists_of state.old) (lists_of state.new)) }
     ensures sound { IsSound (V.holds vault.new) state.new }
     ensures same { IsSame state.old state.new }
     ensures tables { AreSameTables state.old state.new }
-    ensures outside { Outside (V.faults vault.old) (V.faults vault.new) (V.limit vault.old) (V.limit vault.new) (V.may_fail vault.old) (V.may_fail vault.new) result }
+    ensures outside { Outside (V.faults vault.old) (V.faults vault.new) (V.limit vault.old)
+        (V.limit vault.new) (V.may_fail vault.old) (V.may_fail vault.new) result }
 {
     if room == 0 {
         return Ok(());
@@ -156,13 +169,17 @@ pub fn fill_window<V: Vault>(
     out: &mut Seq<Octets>,
 ) -> Result<(), TerminalError>
     requires sound { IsSound (V.holds vault.old) state.old }
-    ensures ok { OnOk result (Ran state.old.settings (rule.fill_window state.old) state.new (V.holds vault.old) (V.holds vault.new) out.old out.new None) }
-    ensures err { OnErr result (CutShort (rule.fill_window state.old).steps (V.holds vault.old) (V.holds vault.new)) }
-    ensures lists { OnErr result (CutLists (rule.fill_window state.old).steps (lists_of state.old) (lists_of state.new)) }
+    ensures ok { OnOk result (Ran state.old.settings (rule.fill_window state.old) state.new
+        (V.holds vault.old) (V.holds vault.new) out.old out.new None) }
+    ensures err { OnErr result
+        (CutShort (rule.fill_window state.old).steps (V.holds vault.old) (V.holds vault.new)) }
+    ensures lists { OnErr result
+        (CutLists (rule.fill_window state.old).steps (lists_of state.old) (lists_of state.new)) }
     ensures sound { IsSound (V.holds vault.new) state.new }
     ensures same { IsSame state.old state.new }
     ensures tables { AreSameTables state.old state.new }
-    ensures outside { Outside (V.faults vault.old) (V.faults vault.new) (V.limit vault.old) (V.limit vault.new) (V.may_fail vault.old) (V.may_fail vault.new) result }
+    ensures outside { Outside (V.faults vault.old) (V.faults vault.new) (V.limit vault.old)
+        (V.limit vault.new) (V.may_fail vault.old) (V.may_fail vault.new) result }
 {
     fill(alloc, vault, state, out, WINDOW)
 }

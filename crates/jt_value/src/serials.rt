@@ -20,7 +20,8 @@ pub fn gap(from: u16, to: u16) -> u16
 pub fn place(last: Option<u64>, serial: u16) -> Place
     requires { IfSome last (λ n. n ≤ 2 ^ 62) }
     ensures place { IsPlace last serial result }
-    ensures verdict { (has : ℕ → Bool) (v : Verdict) → IsVerdict last (λ n. IsTrue (has n)) serial v ↔ (v ≡ verdict_at result has) }
+    ensures verdict { (has : ℕ → Bool) (v : Verdict) →
+        IsVerdict last (λ n. IsTrue (has n)) serial v ↔ (v ≡ verdict_at result has) }
 {
     place_of(last, serial)
 }

@@ -13,6 +13,6 @@ pub fn law_wrong_stays()
 
 /// The octets of the front of an input are the first octets of the input.
 pub fn law_octets_of_front()
-    ensures { (front rest : List ℕ) →
-        (more : List ℕ) × (octets_of_digits (digits (front ++ rest)) ≡ octets_of_digits (digits front) ++ more) }
+    ensures { (front rest : List ℕ) → (more : List ℕ)
+        × (octets_of_digits (digits (front ++ rest)) ≡ octets_of_digits (digits front) ++ more) }
 {}

@@ -29,7 +29,8 @@ pub enum Judged {
 #[inline(always)]
 fn judge_body(alloc: Global, place: u64, header: &Header, body: &[u8]) -> Result<Judged, Memory>
     requires { length body.now < 2 ^ 10 }
-    ensures { IfOk result (λ judgement. judgement ≡ judged (Some (entry_of (Frame place header.now body.now)))) }
+    ensures { IfOk result (λ judgement.
+        judgement ≡ judged (Some (entry_of (Frame place header.now body.now)))) }
 {
     match judge_message(alloc, header, body)? {
         None => Ok(Judged::Frame),

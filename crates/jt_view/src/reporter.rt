@@ -67,11 +67,15 @@ impl Reporter {
         requires place { self.old.tally.stream.splitter.place ≤ self.old.taken }
         ensures command { self.new.command ≡ self.old.command }
         ensures most { self.new.most ≡ self.old.most }
-        ensures taken { IfOk result (λ settled. settled ≡ None → self.new.taken ≡ self.old.taken + length piece.now) }
-        ensures place { IfOk result (λ settled. settled ≡ None → self.new.tally.stream.splitter.place ≤ self.new.taken) }
+        ensures taken { IfOk result (λ settled.
+            settled ≡ None → self.new.taken ≡ self.old.taken + length piece.now) }
+        ensures place { IfOk result (λ settled.
+            settled ≡ None → self.new.tally.stream.splitter.place ≤ self.new.taken) }
         ensures place_of_any { IfOk result (λ _. self.new.tally.stream.splitter.place < 2 ^ 63) }
-        ensures refused { IfOk result (λ settled. IfSome settled (λ status. status ≡ Status.Refused)) }
-        ensures takes { IfOk result (λ settled. TakesInput settled self.old self.new piece.now (string_bytes text.old) (string_bytes text.new)) }
+        ensures refused { IfOk result (λ settled.
+            IfSome settled (λ status. status ≡ Status.Refused)) }
+        ensures takes { IfOk result (λ settled. TakesInput settled self.old self.new piece.now
+            (string_bytes text.old) (string_bytes text.new)) }
     {
         law_all_items();
         law_octets_of_front();
@@ -94,11 +98,15 @@ impl Reporter {
         requires place { self.old.tally.stream.splitter.place ≤ self.old.taken }
         ensures command { self.new.command ≡ self.old.command }
         ensures most { self.new.most ≡ self.old.most }
-        ensures taken { IfOk result (λ settled. settled ≡ None → self.new.taken ≡ self.old.taken + length piece.now) }
-        ensures place { IfOk result (λ settled. settled ≡ None → self.new.tally.stream.splitter.place ≤ self.new.taken) }
+        ensures taken { IfOk result (λ settled.
+            settled ≡ None → self.new.taken ≡ self.old.taken + length piece.now) }
+        ensures place { IfOk result (λ settled.
+            settled ≡ None → self.new.tally.stream.splitter.place ≤ self.new.taken) }
         ensures place_of_any { IfOk result (λ _. self.new.tally.stream.splitter.place < 2 ^ 63) }
-        ensures refused { IfOk result (λ settled. IfSome settled (λ status. status ≡ Status.Refused)) }
-        ensures takes { IfOk result (λ settled. TakesInput settled self.old self.new piece.now (string_bytes text.old) (string_bytes text.new)) }
+        ensures refused { IfOk result (λ settled.
+            IfSome settled (λ status. status ≡ Status.Refused)) }
+        ensures takes { IfOk result (λ settled. TakesInput settled self.old self.new piece.now
+            (string_bytes text.old) (string_bytes text.new)) }
     {
         law_all_items();
         law_octets_of_front();
@@ -138,11 +146,15 @@ impl Reporter {
         requires place { self.old.tally.stream.splitter.place ≤ self.old.taken }
         ensures command { self.new.command ≡ self.old.command }
         ensures most { self.new.most ≡ self.old.most }
-        ensures taken { IfOk result (λ settled. settled ≡ None → self.new.taken ≡ self.old.taken + length piece.now) }
-        ensures place { IfOk result (λ settled. settled ≡ None → self.new.tally.stream.splitter.place ≤ self.new.taken) }
+        ensures taken { IfOk result (λ settled.
+            settled ≡ None → self.new.taken ≡ self.old.taken + length piece.now) }
+        ensures place { IfOk result (λ settled.
+            settled ≡ None → self.new.tally.stream.splitter.place ≤ self.new.taken) }
         ensures place_of_any { IfOk result (λ _. self.new.tally.stream.splitter.place < 2 ^ 63) }
-        ensures refused { IfOk result (λ settled. IfSome settled (λ status. status ≡ Status.Refused)) }
-        ensures takes { IfOk result (λ settled. TakesInput settled self.old self.new piece.now (string_bytes text.old) (string_bytes text.new)) }
+        ensures refused { IfOk result (λ settled.
+            IfSome settled (λ status. status ≡ Status.Refused)) }
+        ensures takes { IfOk result (λ settled. TakesInput settled self.old self.new piece.now
+            (string_bytes text.old) (string_bytes text.new)) }
     {
         match self.command.encoding {
             Encoding::Octets => self.take_octets(alloc, piece, text),
@@ -164,7 +176,8 @@ impl Reporter {
     // Puts what closes the report of an input that goes on, though no more of it may be read, and answers its status.
     fn end_too_long(&self, text: &mut String) -> Result<Status, Memory>
         requires place { self.now.tally.stream.splitter.place < 2 ^ 63 }
-        ensures ends { IfOk result (λ status. EndsTooLong self.now (string_bytes text.old) (string_bytes text.new) status) }
+        ensures ends { IfOk result (λ status.
+            EndsTooLong self.now (string_bytes text.old) (string_bytes text.new) status) }
         ensures refused { IfOk result (λ status. status ≡ Status.Refused) }
     {
         close(self.command.report, Closing::TooLong, &self.tally, text)

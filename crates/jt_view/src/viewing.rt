@@ -19,7 +19,8 @@ use std::alloc::Global;
 
 #[inline(never)]
 fn view_refusal(text: &mut String, line: &mut Line, refusal: Refusal) -> Result<Judged, Memory>
-    ensures { IfOk result (λ judgement. ViewsEntry (entries.Refused refusal) judgement (string_bytes text.old) (string_bytes text.new)) }
+    ensures { IfOk result (λ judgement. ViewsEntry (entries.Refused refusal) judgement
+        (string_bytes text.old) (string_bytes text.new)) }
 {
     push_refusal_line_with(text, line, &refusal)?;
     Ok(Judged::Refused(refusal))
@@ -36,14 +37,19 @@ fn view_made(
     text: &mut String,
 ) -> Result<Judged, Memory>
     requires { length body.now < 2 ^ 10 }
-    ensures { IfOk result (λ judgement. ViewsEntry (entry_of (Frame place header.now body.now)) judgement (string_bytes text.old) (string_bytes text.new)) }
+    ensures { IfOk result (λ judgement. ViewsEntry (entry_of (Frame place header.now body.now))
+        judgement (string_bytes text.old) (string_bytes text.new)) }
 {
     match read_message(alloc, header, body) {
         Ok(message) => {
             push_message_line(text, line, place, header, &message, body.len() as u16)?;
             Ok(Judged::Frame)
         }
-        Err(CodecError::Refused(refusal)) => view_refusal(text, line, refusal_in_frame(place, refusal)),
+        Err(CodecError::Refused(refusal)) => view_refusal(
+            text,
+            line,
+            refusal_in_frame(place, refusal),
+        ),
         Err(CodecError::Memory) => Err(Memory),
     }
 }
@@ -59,7 +65,8 @@ fn view_body(
     text: &mut String,
 ) -> Result<Judged, Memory>
     requires { length body.now < 2 ^ 10 }
-    ensures { IfOk result (λ judgement. ViewsEntry (entry_of (Frame place header.now body.now)) judgement (string_bytes text.old) (string_bytes text.new)) }
+    ensures { IfOk result (λ judgement. ViewsEntry (entry_of (Frame place header.now body.now))
+        judgement (string_bytes text.old) (string_bytes text.new)) }
 {
     match view_message(header, body) {
         Some(Ok(view)) => {
@@ -81,7 +88,8 @@ fn view_frame(
     text: &mut String,
 ) -> Result<Judged, Memory>
     requires { length (lent stream.now.splitter taken.now) ≤ CONTENT_LIMIT }
-    ensures { IfOk result (λ judgement. ViewsTold Split.Content stream.now.splitter taken.now judgement (string_bytes text.old) (string_bytes text.new)) }
+    ensures { IfOk result (λ judgement. ViewsTold Split.Content stream.now.splitter taken.now
+        judgement (string_bytes text.old) (string_bytes text.new)) }
 {
     match stream.frame_in(taken) {
         Ok((place, header, body)) => view_body(alloc, place, &header, body, line, text),
@@ -102,7 +110,8 @@ pub fn view_told(
     text: &mut String,
 ) -> Result<Judged, Memory>
     requires { split ≡ Split.Content → length (lent stream.now.splitter taken.now) ≤ CONTENT_LIMIT }
-    ensures { IfOk result (λ judgement. ViewsTold split stream.now.splitter taken.now judgement (string_bytes text.old) (string_bytes text.new)) }
+    ensures { IfOk result (λ judgement. ViewsTold split stream.now.splitter taken.now judgement
+        (string_bytes text.old) (string_bytes text.new)) }
 {
     match split {
         Split::Content => view_frame(alloc, stream, taken, line, text),

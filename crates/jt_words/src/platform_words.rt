@@ -26,8 +26,10 @@ const SESSIONS_MOST: u32 = 1_024;
 
 // The values of the port and of the number of sessions.
 fn values(options: &[String]) -> Option<(&[u8], &[u8])>
-    ensures some { IfSome result (λ values. AreOptions values.0.now values.1.now (map string_bytes options.now)) }
-    ensures each { (port sessions : List ℕ) → AreOptions port sessions (map string_bytes options.now) →
+    ensures some { IfSome result (λ values.
+        AreOptions values.0.now values.1.now (map string_bytes options.now)) }
+    ensures each { (port sessions : List ℕ) →
+        AreOptions port sessions (map string_bytes options.now) →
         MatchOption result ⊥ (λ values. (values.0.now ≡ port) × (values.1.now ≡ sessions)) }
 {
     match option_pair(options, PORT, SESSIONS) {
@@ -52,8 +54,10 @@ fn in_range(octets: &[u8], most: u32) -> Option<u32>
 impl PlatformWords {
     /// Reads the words after the program's name. None means that they are no words of `platform`.
     pub fn from_words(words: &[String]) -> Option<PlatformWords>
-        ensures some { IfSome result (λ told. AreWords told.port told.sessions (map string_bytes words.now)) }
-        ensures that_one { (port sessions : ℕ) → AreWords port sessions (map string_bytes words.now) →
+        ensures some { IfSome result (λ told.
+            AreWords told.port told.sessions (map string_bytes words.now)) }
+        ensures that_one { (port sessions : ℕ) →
+            AreWords port sessions (map string_bytes words.now) →
             MatchOption result ⊥ (λ told. (told.port ≡ port) × (told.sessions ≡ sessions)) }
     {
         let (command, options) = words.split_first()?;

@@ -23,7 +23,8 @@ fn perform(
 ) -> Result<(), Memory>
     requires { IsAllowed world.old event }
     ensures world { OnOk result (world.new ≡ world_after world.old event) }
-    ensures text { OnOk result (string_bytes text.new ≡ string_bytes text.old ++ flat_map entry_line (entries_between world.old world.new)) }
+    ensures text { OnOk result (string_bytes text.new
+        ≡ string_bytes text.old ++ flat_map entry_line (entries_between world.old world.new)) }
     ensures reached { Reached world.old → Reached world.new }
 {
     let Ok(entries) = world.step(alloc, event) else {

@@ -90,7 +90,8 @@ fn unit_frame(place: usize, fix: &Fix, frame: &mut ArrayVec<u8, FRAME_LIMIT>)
 impl Terminal {
     /// A terminal that recorded nothing.
     pub(crate) fn new(alloc: Global) -> Terminal
-        ensures { result ≡ record { recorded = []; formed = 0; accepted = 0; told = []; just = None } }
+        ensures { result
+            ≡ record { recorded = []; formed = 0; accepted = 0; told = []; just = None } }
     {
         Terminal {
             recorded: Vec::new(alloc),
@@ -135,7 +136,8 @@ impl Terminal {
     /// Records a fix.
     pub(crate) fn record(&mut self, fix: Fix) -> Result<(), Memory>
         requires { length self.old.recorded < fix_limit }
-        ensures ok { OnOk result (self.new ≡ record self.old { recorded = self.old.recorded ++ fix ∷ []; just = None }) }
+        ensures ok { OnOk result
+            (self.new ≡ record self.old { recorded = self.old.recorded ++ fix ∷ []; just = None }) }
         ensures err { OnErr result (self.new ≡ self.old) }
         ensures fix { IsFix fix }
         ensures within { self.old.formed ≤ length self.old.recorded }
@@ -150,7 +152,8 @@ impl Terminal {
     /// Forms a unit of the next fix, and sends it.
     pub(crate) fn report(&mut self, up: &mut Wire) -> Result<(), Memory>
         requires { self.old.formed < length self.old.recorded }
-        ensures ok { OnOk result (self.new ≡ record self.old { formed = self.old.formed + 1; just = None }) }
+        ensures ok { OnOk result
+            (self.new ≡ record self.old { formed = self.old.formed + 1; just = None }) }
         ensures sent { OnOk result (up.new.wire ≡ written up.old.wire (frame_of_next self.old)) }
         ensures err { OnErr result (self.new ≡ self.old) }
         ensures not_sent { OnErr result (up.new.wire ≡ up.old.wire) }
@@ -183,9 +186,12 @@ impl Terminal {
         message: Option<(Header, &[u8])>,
     ) -> Result<(), Memory>
         requires { IfSome message (λ message. length message.1.now < 2 ^ 10) }
-        ensures ok { OnOk result ((platform : Platform) (up down : defined.Wire) (item : Option Unplaced) →
-            MatchOption message.entry (IsNoMessage item) (λ message. item ≡ Some (Message message.0 message.1.now)) →
-            world_of self.new platform up down ≡ after_hearing (world_of self.old platform up down) item) }
+        ensures ok { OnOk result
+            ((platform : Platform) (up down : defined.Wire) (item : Option Unplaced) →
+            MatchOption message.entry (IsNoMessage item)
+            (λ message. item ≡ Some (Message message.0 message.1.now)) →
+            world_of self.new platform up down
+            ≡ after_hearing (world_of self.old platform up down) item) }
         ensures err { OnErr result (self.new ≡ self.old) }
     {
         match message {
@@ -202,7 +208,8 @@ impl Terminal {
 
     fn take_acknowledgement(&mut self, ack: Option<Acknowledgement>) -> Result<(), Memory>
         ensures ok { OnOk result ((platform : Platform) (up down : defined.Wire) →
-            world_of self.new platform up down ≡ after_response (world_of self.old platform up down) ack) }
+            world_of self.new platform up down
+            ≡ after_response (world_of self.old platform up down) ack) }
         ensures err { OnErr result (self.new ≡ self.old) }
     {
         match ack {
@@ -217,7 +224,10 @@ impl Terminal {
     // Notes which unit an acknowledgement accepts.
     #[tactic(auto, using(std::proofs::lemmas::Grind::common_steps))]
     fn tell(&mut self, ack: Acknowledgement) -> Result<(), Memory>
-        ensures ok { OnOk result (self.new ≡ record self.old { told = self.old.told ++ places_named self.old ack; just = Some ack }) }
+        ensures ok { OnOk result (self.new ≡ record self.old {
+          told = self.old.told ++ places_named self.old ack;
+          just = Some ack;
+        }) }
         ensures err { OnErr result (self.new ≡ self.old) }
         ensures numbered { IsNumbered self.old.recorded self.old.formed self.old.accepted }
     {

@@ -96,7 +96,8 @@ impl World {
     /// How far the world came.
     pub fn counts(&self) -> Counts
         ensures recorded { result.recorded ≡ length self.now.recorded }
-        ensures accepted { result.accepted ≡ length (fixes_in (take self.now.accepted self.now.units)) }
+        ensures accepted { result.accepted
+            ≡ length (fixes_in (take self.now.accepted self.now.units)) }
         ensures rows { result.rows ≡ length self.now.rows }
         ensures stored { result.stored ≡ length (fixes_in self.now.rows) }
     {
@@ -194,7 +195,8 @@ impl World {
     // The next fix becomes a unit, which is sent.
     fn report(&mut self) -> Result<(), Memory>
         requires { length self.old.units < length self.old.recorded }
-        ensures ok { OnOk result (self.new ≡ after_fix self.old (slice_index_or self.old.recorded (length self.old.units) [])) }
+        ensures ok { OnOk result (self.new
+            ≡ after_fix self.old (slice_index_or self.old.recorded (length self.old.units) [])) }
         ensures leads { Leads self.old self.new }
         ensures err { OnErr result (self.new ≡ self.old) }
     {
