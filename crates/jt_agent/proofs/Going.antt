@@ -10,7 +10,7 @@ use Rattle.jt_outside.specs.Sink.{AppendsPrefix}
 use Rattle.jt_value.specs.Octets.{AreOctets}
 use Rattle.jt_value.proofs.OctetLists.{AreOctets-nil, AreOctets-append}
 use Rattle.jt_outside.specs.Link.{Wire, Gives, GivesNone}
-use Rattle.jt_outside.specs.Time.{Time, Tells, TellsAll}
+use Rattle.jt_outside.specs.Time.{Time, TellsTime, TellsAll}
 use Rattle.jt_store.specs.Vaults.{Held}
 use Rattle.jt_terminal_rule.specs.declared.settings.Settings.{Settings}
 use Rattle.jt_terminal_rule.specs.declared.state.State.{State}
@@ -19,10 +19,10 @@ use Rattle.jt_terminal_rule.specs.declared.state.GiveUp.TheVariants as give_up
 use Rattle.jt_terminal_rule.specs.Rule.{Step, Ruled, rule, sends}
 use Rattle.jt_terminal_steps.specs.AfterError.{AreSameTables, AllTablesOrNone, CutLists, lists_of}
 use Rattle.jt_terminal_steps.specs.Running.{holds_after, CutShort, IsDown}
-use Rattle.jt_terminal.specs.Line.{LineValue, StandsForLine, fed}
-use Rattle.jt_agent.specs.Course.{Move, Ticks, Opens, Reads, Waits, Course, course, made, goes_on, due, kind, Due, ATick, AnOpening, ARead, IsPiece, IsAtRead, IsTold, moments_of, waits_of, octets_of, said, Stop, Finished, GaveUp}
+use Rattle.jt_terminal.specs.Line.{LineValue, StandsForLine, rule_at_octets}
+use Rattle.jt_agent.specs.Course.{Move, Ticks, Opens, Reads, Waits, Course, course, made, goes_on, due, kind, Due, ATick, AnOpening, ARead, IsPiece, IsAtRead, IsTold, moments_of, waits_of, octets_of, said_octets, Stop, Finished, GaveUp}
 use Rattle.jt_agent.specs.Attempt.{AtLink, at_link, Given, LinkCounts, LeavesAt, WasCut, CutLast, Does, HasCause, Attempt, VaultStays}
-use Rattle.jt_agent.specs.Moving.{ended_by, IsTrouble, DidRule, LeavesEvent, CutRule, Comes, TicksOnce, Later, ReadsLink, Takes, Stands, GoesOn, Did, Exit, Ends, IsQuiet}
+use Rattle.jt_agent.specs.Moving.{ended_by, IsTrouble, DidRule, LeavesEvent, CutRule, Comes, TicksOnce, Later, ReadsLink, TakesMove, Stands, GoesOn, Did, Exit, Ends, IsQuiet}
 use Rattle.jt_agent.specs.declared.ending.AttemptEnd.TheVariants as how
 use Rattle.jt_agent.specs.declared.ending.Attempted.{Attempted}
 use Rattle.jt_agent.specs.declared.ending.Attempted.TheVariants.{Done, Ended, StoreFault, Memory}
@@ -73,8 +73,8 @@ counts_later old now later =
 
 -- ---- what is given
 
-tells_more : (old mid now : Time) (moments : List ℕ) (moment : ℕ) → TellsAll old mid moments → Tells mid now moment → TellsAll old now (moments ++ moment ∷ [])
-tells_more old mid now [] moment all one = (now, subst (λ t. Tells t now moment) all one, refl)
+tells_more : (old mid now : Time) (moments : List ℕ) (moment : ℕ) → TellsAll old mid moments → TellsTime mid now moment → TellsAll old now (moments ++ moment ∷ [])
+tells_more old mid now [] moment all one = (now, subst (λ t. TellsTime t now moment) all one, refl)
 tells_more old mid now (first ∷ moments) moment all one = (all.0, all.1, tells_more all.0 mid now moments moment all.2 one)
 
 given_first : (t : State) (old : Inbound) (time : Time) → Given t [] old old time time
@@ -87,7 +87,7 @@ given_first t old time = record {
 }
 
 given_more : (t : State) (moves : List Move) (old now next : Inbound) (time time_now time_next : Time) (move : Move)
-    → Given t moves old now time time_now → (course t moves).stop ≡ None → kind move ≡ due moves → Takes move now next time_now time_next
+    → Given t moves old now time time_now → (course t moves).stop ≡ None → kind move ≡ due moves → TakesMove move now next time_now time_next
     → Given t (move ∷ moves) old next time time_next
 given_more t moves old now next time time_now time_next (Ticks moment) given on is_due takes = record {
   fits = (on, is_due, tt, given.fits);
@@ -204,7 +204,7 @@ exit_stopped moves octets quiets old now (GaveUp (give_up.TimedOut since moment)
     record { writes = w.wrote; did = (w.held, w.is_state); cause = is; counts = w.counts; faults = w.faults }
 
 exit_failed : (moves : List Move) (move : Move) (octets quiets : ℕ) (old now : AtLink) (ended : Attempted)
-    → Appends old.link.written now.link.written (said old.state moves) → WasCut old.state move moves old.held now.held now.state → LinkCounts old.link now.link → old.faults ≤ now.faults
+    → Appends old.link.written now.link.written (said_octets old.state moves) → WasCut old.state move moves old.held now.held now.state → LinkCounts old.link now.link → old.faults ≤ now.faults
     → IsTrouble ended old.faults now.faults → Exit (move ∷ moves) octets quiets old now ended
 exit_failed moves move octets quiets old now Done wrote cut counts later trouble = absurd trouble
 exit_failed moves move octets quiets old now (Ended end) wrote cut counts later trouble = absurd trouble
@@ -274,7 +274,7 @@ exit_moved laws moves move read octets quiets old now next ended told is stands 
     }
 exit_moved laws moves move read octets quiets old now next ended told is stands later (inr (cut, trouble)) =
     exit_failed moves move octets quiets old next ended
-    (subst (λ w. Appends old.link.written w (said old.state moves)) (sym cut.written) stands.writes)
+    (subst (λ w. Appends old.link.written w (said_octets old.state moves)) (sym cut.written) stands.writes)
     (was_cut moves move old now next stands cut)
     (link_counts_trans old.link now.link next.link stands.counts (counts_later now next later))
     (trans_le old.faults now.faults next.faults stands.vault later.vault)
@@ -343,14 +343,14 @@ ends_open laws octets quiets old now next time time_now line taken ended few goe
 -- octets came; what is heard of them is told by the line
 pub goes_read : StepLaws → (old now mid next : AtLink) (time time_now : Time) (line line_next : LineValue) (taken : ℕ) (octets : List ℕ)
     → GoesOn ARead old now time time_now line taken → Gives now.link.inbound mid.link.inbound octets → ReadsLink now mid → AreOctets octets → IsPiece octets
-    → ((seen : List ℕ) → StandsForLine line seen → Comes None (fed mid.state seen octets) (LeavesAt mid.state seen (Reads octets)) mid next)
+    → ((seen : List ℕ) → StandsForLine line seen → Comes None (rule_at_octets mid.state seen octets) (LeavesAt mid.state seen (Reads octets)) mid next)
     → ((seen : List ℕ) → StandsForLine line seen → StandsForLine line_next (seen ++ octets)) → line_next.stream.place ≤ line.stream.place + length octets
     → Later mid next → next.state.time ≤ time_now.last
     → GoesOn ATick old next time time_now line_next (taken + length octets)
 goes_read laws old now mid next time time_now line line_next taken octets goes gave reads are piece hears lines place later late =
     let c = course old.state goes.moves in
     let stands : Stands c old mid = stands_read c old now mid goes.stands reads in
-    let comes : Comes None (fed c.state c.read octets) (LeavesAt c.state c.read (Reads octets)) mid next = subst (λ s. Comes None (fed s c.read octets) (LeavesAt s c.read (Reads octets)) mid next) stands.is_state (hears c.read goes.heard) in
+    let comes : Comes None (rule_at_octets c.state c.read octets) (LeavesAt c.state c.read (Reads octets)) mid next = subst (λ s. Comes None (rule_at_octets s c.read octets) (LeavesAt s c.read (Reads octets)) mid next) stands.is_state (hears c.read goes.heard) in
     let gives : Gives now.link.inbound next.link.inbound octets = subst (λ i. Gives now.link.inbound i octets) (sym later.inbound) gave in
     let quiets : now.link.inbound.quiets ≤ next.link.inbound.quiets = subst (λ (i : Inbound). now.link.inbound.quiets ≤ i.quiets) (sym later.inbound) reads.quiets.later in
     record {
@@ -358,7 +358,7 @@ goes_read laws old now mid next time time_now line line_next taken octets goes g
       is_due = refl;
       behind = λ moment. refl;
       given = given_more old.state goes.moves old.link.inbound now.link.inbound next.link.inbound time time_now time_now (Reads octets) goes.given goes.stands.on (sym goes.is_due) (gives, quiets, refl, are, piece);
-      stands = stands_more laws c (c.read ++ octets) (fed c.state c.read octets) (LeavesAt c.state c.read (Reads octets)) old mid next stands comes later;
+      stands = stands_more laws c (c.read ++ octets) (rule_at_octets c.state c.read octets) (LeavesAt c.state c.read (Reads octets)) old mid next stands comes later;
       heard = lines c.read goes.heard;
       place = omega (arith, place, goes.place);
       count = ap (λ n. n + length octets) goes.count ∙ sym (length-append c.read octets);
@@ -367,12 +367,12 @@ goes_read laws old now mid next time time_now line line_next taken octets goes g
 
 pub ends_read : StepLaws → (most quiets : ℕ) (old now mid next : AtLink) (time time_now : Time) (line : LineValue) (taken : ℕ) (octets : List ℕ) (ended : Attempted)
     → taken + length octets ≤ most → GoesOn ARead old now time time_now line taken → Gives now.link.inbound mid.link.inbound octets → ReadsLink now mid
-    → AreOctets octets → IsPiece octets → ((seen : List ℕ) → StandsForLine line seen → Comes (Some ended) (fed mid.state seen octets) (LeavesAt mid.state seen (Reads octets)) mid next) → Later mid next
+    → AreOctets octets → IsPiece octets → ((seen : List ℕ) → StandsForLine line seen → Comes (Some ended) (rule_at_octets mid.state seen octets) (LeavesAt mid.state seen (Reads octets)) mid next) → Later mid next
     → Ends most quiets old next time time_now ended
 ends_read laws most quiets old now mid next time time_now line taken octets ended few goes gave reads are piece hears later =
     let c = course old.state goes.moves in
     let stands : Stands c old mid = stands_read c old now mid goes.stands reads in
-    let comes : Comes (Some ended) (fed c.state c.read octets) (LeavesAt c.state c.read (Reads octets)) mid next = subst (λ s. Comes (Some ended) (fed s c.read octets) (LeavesAt s c.read (Reads octets)) mid next) stands.is_state (hears c.read goes.heard) in
+    let comes : Comes (Some ended) (rule_at_octets c.state c.read octets) (LeavesAt c.state c.read (Reads octets)) mid next = subst (λ s. Comes (Some ended) (rule_at_octets s c.read octets) (LeavesAt s c.read (Reads octets)) mid next) stands.is_state (hears c.read goes.heard) in
     let gives : Gives now.link.inbound next.link.inbound octets = subst (λ i. Gives now.link.inbound i octets) (sym later.inbound) gave in
     let rose : now.link.inbound.quiets ≤ next.link.inbound.quiets = subst (λ (i : Inbound). now.link.inbound.quiets ≤ i.quiets) (sym later.inbound) reads.quiets.later in
     record {

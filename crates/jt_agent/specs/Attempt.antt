@@ -14,7 +14,7 @@ use Rattle.jt_terminal_rule.specs.Rule.{rule}
 use Rattle.jt_terminal_steps.specs.AfterError.{AllTablesOrNone, CutLists, lists_of}
 use Rattle.jt_terminal_steps.specs.Running.{holds_after, CutShort, IsDown}
 use Rattle.jt_terminal.specs.Line.{TablesOfFirst, new_items, partial_of}
-use Rattle.jt_agent.specs.Course.{Move, Ticks, Opens, Reads, Waits, course, made, Fits, IsAtRead, IsTold, moments_of, waits_of, said, before_last, Finished, GaveUp}
+use Rattle.jt_agent.specs.Course.{Move, Ticks, Opens, Reads, Waits, course, made, Fits, IsAtRead, IsTold, moments_of, waits_of, said_octets, before_last, Finished, GaveUp}
 use Rattle.jt_agent.specs.declared.ending.AttemptEnd.TheVariants as how
 use Rattle.jt_agent.specs.declared.ending.Attempted.{Attempted}
 use Rattle.jt_agent.specs.declared.ending.Attempted.TheVariants.{Done, Ended, StoreFault, Memory}
@@ -51,8 +51,8 @@ pub record WritesPart (t : State) (last : Move) (older : List Move) (old now : O
   pub told : IsTold last
   pub front : List ℕ
   pub rest : List ℕ
-  pub parts : said t (last ∷ older) ≡ said t older ++ front ++ rest
-  pub writes : Appends old now (said t older ++ front)
+  pub parts : said_octets t (last ∷ older) ≡ said_octets t older ++ front ++ rest
+  pub writes : Appends old now (said_octets t older ++ front)
 
 abbrev pub WritesLast : State → List Move → Option (List ℕ) → Option (List ℕ) → Type 0
 WritesLast t [] old now = ⊥
@@ -61,16 +61,16 @@ WritesLast t (last ∷ older) old now = WritesPart t last older old now
 -- All frames were written. Where the link failed either a read failed, or a write, and of the last move's octets a prefix was written. Where
 -- the vault or memory failed, no frame of the last move was written.
 abbrev pub Writes : Attempted → State → List Move → Option (List ℕ) → Option (List ℕ) → Type 0
-Writes Done t moves old now = Appends old now (said t moves)
-Writes (Ended how.Link) t moves old now = (IsAtRead t moves × Appends old now (said t moves)) ⊎ WritesLast t moves old now
-Writes (Ended how.End) t moves old now = Appends old now (said t moves)
-Writes (Ended (how.Denied reply)) t moves old now = Appends old now (said t moves)
-Writes (Ended (how.TimedOut since moment)) t moves old now = Appends old now (said t moves)
-Writes (Ended how.Idle) t moves old now = Appends old now (said t moves)
-Writes (Ended how.Spent) t moves old now = Appends old now (said t moves)
+Writes Done t moves old now = Appends old now (said_octets t moves)
+Writes (Ended how.Link) t moves old now = (IsAtRead t moves × Appends old now (said_octets t moves)) ⊎ WritesLast t moves old now
+Writes (Ended how.End) t moves old now = Appends old now (said_octets t moves)
+Writes (Ended (how.Denied reply)) t moves old now = Appends old now (said_octets t moves)
+Writes (Ended (how.TimedOut since moment)) t moves old now = Appends old now (said_octets t moves)
+Writes (Ended how.Idle) t moves old now = Appends old now (said_octets t moves)
+Writes (Ended how.Spent) t moves old now = Appends old now (said_octets t moves)
 Writes (Ended how.Dial) t moves old now = ⊥
-Writes StoreFault t moves old now = Appends old now (said t (before_last moves))
-Writes Memory t moves old now = Appends old now (said t (before_last moves))
+Writes StoreFault t moves old now = Appends old now (said_octets t (before_last moves))
+Writes Memory t moves old now = Appends old now (said_octets t (before_last moves))
 
 -- all moves were done, and then the line was lost: what the vault holds, and the terminal
 abbrev pub DoesAll : State → List Move → Option Held → Option Held → State → Type 0

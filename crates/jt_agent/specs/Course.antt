@@ -1,12 +1,13 @@
 -- What a terminal is told in an attempt, and what it then does (this project's own). To be believed.
 use Rattle.std.specs.Prelude.{◌≡◌, ℕ, ◌+◌, ◌≤◌, ◌<◌, List, [], ◌∷◌, ◌++◌, length, Option, None, Some, Bool, true, false, ◌&&◌}
 use Rattle.std.specs.List.{flat_map}
+use Rattle.jt_value.specs.declared.limits.TheConstants.{READ_LIMIT}
 use Rattle.jt_terminal_rule.specs.declared.settings.Settings.{Settings}
 use Rattle.jt_terminal_rule.specs.declared.state.State.{State}
 use Rattle.jt_terminal_rule.specs.declared.state.Event.TheVariants.{Opened, Tick}
 use Rattle.jt_terminal_rule.specs.declared.state.GiveUp.{GiveUp}
 use Rattle.jt_terminal_rule.specs.Rule.{Step, Ruled, rule, sends, stays}
-use Rattle.jt_terminal.specs.Line.{fed}
+use Rattle.jt_terminal.specs.Line.{rule_at_octets}
 
 -- the clock's moment; an open line; the octets that a read gave; and a read that was quiet, of which it is told nothing
 pub data Move : Type 0 where
@@ -48,23 +49,23 @@ stop_of None done = stop_if_done done
 abbrev pub made : State → List ℕ → Move → Ruled
 made s read (Ticks moment) = rule s (Tick moment)
 made s read Opens = rule s Opened
-made s read (Reads octets) = fed s read octets
+made s read (Reads octets) = rule_at_octets s read octets
 made s read Waits = stays s
 
 -- it did so, and its line has read this
 abbrev pub goes_on : Course → List ℕ → Ruled → Course
 goes_on c read r = record { state = r.state; read = read; steps = c.steps ++ r.steps; stop = stop_of r.end (is_done r.state) }
 
-abbrev pub moved : Course → Move → Course
-moved c (Ticks moment) = goes_on c c.read (made c.state c.read (Ticks moment))
-moved c Opens = goes_on c c.read (made c.state c.read Opens)
-moved c (Reads octets) = goes_on c (c.read ++ octets) (made c.state c.read (Reads octets))
-moved c Waits = c
+abbrev pub course_after : Course → Move → Course
+course_after c (Ticks moment) = goes_on c c.read (made c.state c.read (Ticks moment))
+course_after c Opens = goes_on c c.read (made c.state c.read Opens)
+course_after c (Reads octets) = goes_on c (c.read ++ octets) (made c.state c.read (Reads octets))
+course_after c Waits = c
 
 -- the newest move first
 abbrev pub course : State → List Move → Course
 course t [] = record { state = t; read = []; steps = []; stop = None }
-course t (move ∷ older) = moved (course t older) move
+course t (move ∷ older) = course_after (course t older) move
 
 -- what comes next: a moment and an open line, and then turns of a read and a moment
 pub data Due : Type 0 where
@@ -89,7 +90,7 @@ kind Waits = ARead
 -- what one read gave: from 1 to 4,096 octets
 pub record IsPiece (octets : List ℕ) : Type 0 where
   pub some : 0 < length octets
-  pub short : length octets ≤ 4096
+  pub short : length octets ≤ READ_LIMIT
 
 abbrev pub IsMove : Move → Type 0
 IsMove (Ticks moment) = Unit {0}
@@ -135,8 +136,8 @@ abbrev pub octets_of : Settings → List Step → List ℕ
 octets_of settings steps = flat_map (λ frame. frame) (sends settings steps)
 
 -- the octets of all frames of these moves
-abbrev pub said : State → List Move → List ℕ
-said t moves = octets_of t.settings (course t moves).steps
+abbrev pub said_octets : State → List Move → List ℕ
+said_octets t moves = octets_of t.settings (course t moves).steps
 
 -- all moves but the newest
 abbrev pub before_last : List Move → List Move

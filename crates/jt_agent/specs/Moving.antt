@@ -6,7 +6,7 @@ use Rattle.jt_outside.specs.Inbound.{Inbound}
 use Rattle.jt_value.specs.Octets.{AreOctets}
 use Rattle.jt_outside.specs.Sink.{AppendsPrefix}
 use Rattle.jt_outside.specs.Link.{Wire, Gives, GivesNone}
-use Rattle.jt_outside.specs.Time.{Time, Tells}
+use Rattle.jt_outside.specs.Time.{Time, TellsTime}
 use Rattle.jt_store.specs.Vaults.{Held}
 use Rattle.jt_terminal_rule.specs.declared.state.State.{State}
 use Rattle.jt_terminal_rule.specs.declared.state.Event.{Event}
@@ -71,7 +71,7 @@ Comes (Some ended) r Left old now =
 -- a moment was told
 pub record TicksOnce (result : Option Attempted) (old now : AtLink) (time time_now : Time) : Type 0 where
   pub moment : ℕ
-  pub tells : Tells time time_now moment
+  pub tells : TellsTime time time_now moment
   pub comes : Comes result (rule old.state (Tick moment)) (LeavesEvent old.state (Tick moment)) old now
 
 -- the reading side and the settings stay, and the counts never fall
@@ -91,11 +91,11 @@ pub record ReadsLink (old now : AtLink) : Type 0 where
   pub vault : now.faults ≡ old.faults
 
 -- what a move takes from the link and the clock
-abbrev pub Takes : Move → Inbound → Inbound → Time → Time → Type 0
-Takes (Ticks moment) old now time time_now = (now ≡ old) × Tells time time_now moment
-Takes Opens old now time time_now = (now ≡ old) × (time_now ≡ time)
-Takes (Reads octets) old now time time_now = Gives old now octets × (old.quiets ≤ now.quiets) × (time_now ≡ time) × AreOctets octets × IsPiece octets
-Takes Waits old now time time_now = GivesNone old now × Rose old.quiets now.quiets × (time_now ≡ time)
+abbrev pub TakesMove : Move → Inbound → Inbound → Time → Time → Type 0
+TakesMove (Ticks moment) old now time time_now = (now ≡ old) × TellsTime time time_now moment
+TakesMove Opens old now time time_now = (now ≡ old) × (time_now ≡ time)
+TakesMove (Reads octets) old now time time_now = Gives old now octets × (old.quiets ≤ now.quiets) × (time_now ≡ time) × AreOctets octets × IsPiece octets
+TakesMove Waits old now time time_now = GivesNone old now × Rose old.quiets now.quiets × (time_now ≡ time)
 
 -- how far the terminal, the vault and the link's writing side have come
 pub record Stands (c : Course) (old now : AtLink) : Type 0 where

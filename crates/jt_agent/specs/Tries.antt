@@ -1,5 +1,7 @@
 -- Attempts one after another, each over a link of its own (this project's own). To be believed.
 use Rattle.std.specs.Prelude.{◌≡◌, ℕ, ◌+◌, ◌^◌, ◌≤◌, ◌<◌, ◌⊎◌, List, [], ◌∷◌, Option, Some, true, false, length}
+use Rattle.jt_agent.specs.declared.running.TheConstants.{MOST_QUIETS}
+use Rattle.jt_value.specs.declared.limits.TheConstants.{INPUT_LIMIT}
 use Rattle.jt_value.specs.Counts.{Rose, Counts}
 use Rattle.jt_outside.specs.Link.{Wire}
 use Rattle.jt_outside.specs.Pool.{Pool, GivesLink, taken_back}
@@ -36,7 +38,7 @@ pub record OverLink (old now : Between) (end : Attempted) : Type 0 where
   pub used : Wire
   pub lending : Pool
   pub gives : GivesLink old.pool lending (Some link)
-  pub attempt : Attempt (2 ^ 40) 1000000 (with_link old link) (with_link now used) old.time now.time end
+  pub attempt : Attempt INPUT_LIMIT MOST_QUIETS (with_link old link) (with_link now used) old.time now.time end
   pub back : now.pool ≡ taken_back used lending
   pub dial : Counts old.dial now.dial
 
@@ -85,11 +87,11 @@ Reports tries Memory old now = (ends : List AttemptEnd) × (length ends < tries)
     × ((Tries ends old now × (is_done now.state ≡ false)) ⊎ Breaks ends old now attempted.Memory)
 
 -- the ends that an outcome tells
-abbrev pub ends_told : Outcome → List AttemptEnd
-ends_told (Done ends) = ends
-ends_told (Unsent ends) = ends
-ends_told (StoreFault ends) = ends
-ends_told Memory = []
+abbrev pub ends_in : Outcome → List AttemptEnd
+ends_in (Done ends) = ends
+ends_in (Unsent ends) = ends
+ends_in (StoreFault ends) = ends
+ends_in Memory = []
 
 -- how many of these attempts ended for want of a link
 abbrev pub dials_in : List AttemptEnd → ℕ

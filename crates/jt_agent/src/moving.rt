@@ -7,7 +7,7 @@ ghost use Rattle.jt_outside.specs.Sink.{WritesAll, WriteAllHasCause};
 ghost use Rattle.jt_outside.specs.Link.{wire_of};
 ghost use Rattle.jt_terminal_rule.specs.Rule.{rule};
 ghost use Rattle.jt_terminal_steps.specs.Running.{IsEvent, time_after};
-ghost use Rattle.jt_terminal.specs.Line.{StandsForLine, fed};
+ghost use Rattle.jt_terminal.specs.Line.{StandsForLine, rule_at_octets};
 ghost use Rattle.jt_value.specs.Octets.{AreOctets};
 ghost use Rattle.jt_agent.specs.Attempt.{LeavesAt, VaultStays, at_link};
 ghost use Rattle.jt_agent.specs.Course.{Reads};
@@ -23,7 +23,8 @@ use std::alloc::Global;
 
 // Writes frames in order. False comes only where a write failed; then a prefix of their octets is written.
 fn write_frames<K: Sink>(sink: &mut K, frames: &[Octets]) -> bool
-    ensures octets { WritesAll (K.written sink.old) (K.written sink.new) result (flat_map (λ frame. frame) frames.now) }
+    ensures octets { WritesAll (K.written sink.old) (K.written sink.new) result
+        (flat_map (λ frame. frame) frames.now) }
     ensures cause { WriteAllHasCause (K.faults sink.old) (K.faults sink.new) result }
     ensures inbound { K.inbound sink.new ≡ K.inbound sink.old }
 {
@@ -39,7 +40,8 @@ fn write_frames<K: Sink>(sink: &mut K, frames: &[Octets]) -> bool
 // attempt.
 fn conclude<K: Link>(link: &mut K, actions: Actions, done: bool) -> Option<Attempted>
     ensures concludes { Concludes result actions.end done (flat_map (λ frame. frame) actions.frames)
-        (wire_of K.inbound K.written K.faults link.old) (wire_of K.inbound K.written K.faults link.new) }
+        (wire_of K.inbound K.written K.faults link.old)
+        (wire_of K.inbound K.written K.faults link.new) }
     ensures inbound { K.inbound link.new ≡ K.inbound link.old }
     ensures count { Counts (K.faults link.old) (K.faults link.new) }
     ensures stored { result ≡ Some StoreFault → ⊥ }
@@ -69,14 +71,19 @@ pub(crate) fn tell<K: Link, V: Vault>(
     event: Event,
 ) -> Option<Attempted>
     requires { IsEvent terminal.old.state event }
-    ensures comes { Comes result (rule terminal.old.state event) (LeavesEvent terminal.old.state event)
-        (at_link terminal.old.state (V.holds terminal.old.vault) (V.faults terminal.old.vault) (wire_of K.inbound K.written K.faults link.old))
-        (at_link terminal.new.state (V.holds terminal.new.vault) (V.faults terminal.new.vault) (wire_of K.inbound K.written K.faults link.new)) }
+    ensures comes { Comes result (rule terminal.old.state event)
+        (LeavesEvent terminal.old.state event)
+        (at_link terminal.old.state (V.holds terminal.old.vault) (V.faults terminal.old.vault)
+        (wire_of K.inbound K.written K.faults link.old))
+        (at_link terminal.new.state (V.holds terminal.new.vault) (V.faults terminal.new.vault)
+        (wire_of K.inbound K.written K.faults link.new)) }
     ensures time { terminal.new.state.time ≡ time_after terminal.old.state event }
     ensures settings { terminal.new.state.settings ≡ terminal.old.state.settings }
     ensures inbound { K.inbound link.new ≡ K.inbound link.old }
     ensures count { Counts (K.faults link.old) (K.faults link.new) }
-    ensures vault { VaultStays (V.faults terminal.old.vault) (V.faults terminal.new.vault) (V.limit terminal.old.vault) (V.limit terminal.new.vault) (V.may_fail terminal.old.vault) (V.may_fail terminal.new.vault) (result ≡ Some StoreFault) }
+    ensures vault { VaultStays (V.faults terminal.old.vault) (V.faults terminal.new.vault)
+        (V.limit terminal.old.vault) (V.limit terminal.new.vault)
+        (V.may_fail terminal.old.vault) (V.may_fail terminal.new.vault) (result ≡ Some StoreFault) }
 {
     match terminal.event(alloc, event) {
         Ok(actions) => {
@@ -97,17 +104,24 @@ pub(crate) fn hear<K: Link, V: Vault>(
     octets: &[u8],
 ) -> Option<Attempted>
     requires { line.old.stream.place + length octets.now < 2 ^ 63 }
-    ensures comes { (seen : List ℕ) → StandsForLine line.old seen → Comes result (fed terminal.old.state seen octets.now) (LeavesAt terminal.old.state seen (Reads octets.now))
-        (at_link terminal.old.state (V.holds terminal.old.vault) (V.faults terminal.old.vault) (wire_of K.inbound K.written K.faults link.old))
-        (at_link terminal.new.state (V.holds terminal.new.vault) (V.faults terminal.new.vault) (wire_of K.inbound K.written K.faults link.new)) }
-    ensures line { (seen : List ℕ) → StandsForLine line.old seen → result ≡ None → StandsForLine line.new (seen ++ octets.now) }
+    ensures comes { (seen : List ℕ) → StandsForLine line.old seen →
+        Comes result (rule_at_octets terminal.old.state seen octets.now)
+        (LeavesAt terminal.old.state seen (Reads octets.now))
+        (at_link terminal.old.state (V.holds terminal.old.vault) (V.faults terminal.old.vault)
+        (wire_of K.inbound K.written K.faults link.old))
+        (at_link terminal.new.state (V.holds terminal.new.vault) (V.faults terminal.new.vault)
+        (wire_of K.inbound K.written K.faults link.new)) }
+    ensures line { (seen : List ℕ) → StandsForLine line.old seen → result ≡ None →
+        StandsForLine line.new (seen ++ octets.now) }
     ensures place { line.new.stream.place ≤ line.old.stream.place + length octets.now }
     ensures fit { AreOctets octets.now }
     ensures time { terminal.new.state.time ≡ terminal.old.state.time }
     ensures settings { terminal.new.state.settings ≡ terminal.old.state.settings }
     ensures inbound { K.inbound link.new ≡ K.inbound link.old }
     ensures count { Counts (K.faults link.old) (K.faults link.new) }
-    ensures vault { VaultStays (V.faults terminal.old.vault) (V.faults terminal.new.vault) (V.limit terminal.old.vault) (V.limit terminal.new.vault) (V.may_fail terminal.old.vault) (V.may_fail terminal.new.vault) (result ≡ Some StoreFault) }
+    ensures vault { VaultStays (V.faults terminal.old.vault) (V.faults terminal.new.vault)
+        (V.limit terminal.old.vault) (V.limit terminal.new.vault)
+        (V.may_fail terminal.old.vault) (V.may_fail terminal.new.vault) (result ≡ Some StoreFault) }
 {
     match line.feed(alloc, terminal, octets) {
         Ok(actions) => {
@@ -128,14 +142,18 @@ pub(crate) fn tick<K: Link, C: Clock, V: Vault>(
 ) -> Option<Attempted>
     requires { terminal.old.state.time ≤ (C.time clock.old).last }
     ensures ticks { TicksOnce result
-        (at_link terminal.old.state (V.holds terminal.old.vault) (V.faults terminal.old.vault) (wire_of K.inbound K.written K.faults link.old))
-        (at_link terminal.new.state (V.holds terminal.new.vault) (V.faults terminal.new.vault) (wire_of K.inbound K.written K.faults link.new))
+        (at_link terminal.old.state (V.holds terminal.old.vault) (V.faults terminal.old.vault)
+        (wire_of K.inbound K.written K.faults link.old))
+        (at_link terminal.new.state (V.holds terminal.new.vault) (V.faults terminal.new.vault)
+        (wire_of K.inbound K.written K.faults link.new))
         (C.time clock.old) (C.time clock.new) }
     ensures late { terminal.new.state.time ≤ (C.time clock.new).last }
     ensures settings { terminal.new.state.settings ≡ terminal.old.state.settings }
     ensures inbound { K.inbound link.new ≡ K.inbound link.old }
     ensures count { Counts (K.faults link.old) (K.faults link.new) }
-    ensures vault { VaultStays (V.faults terminal.old.vault) (V.faults terminal.new.vault) (V.limit terminal.old.vault) (V.limit terminal.new.vault) (V.may_fail terminal.old.vault) (V.may_fail terminal.new.vault) (result ≡ Some StoreFault) }
+    ensures vault { VaultStays (V.faults terminal.old.vault) (V.faults terminal.new.vault)
+        (V.limit terminal.old.vault) (V.limit terminal.new.vault)
+        (V.may_fail terminal.old.vault) (V.may_fail terminal.new.vault) (result ≡ Some StoreFault) }
 {
     let moment = clock.now();
     tell(alloc, link, terminal, Event::Tick(moment))

@@ -5,7 +5,7 @@ ghost use Rattle.jt_value.specs.Counts.{Rose, RoseBy};
 ghost use Rattle.jt_outside.specs.Link.{wire_of};
 ghost use Rattle.jt_terminal_rule.specs.declared.state.Phase.TheVariants.{Down};
 ghost use Rattle.jt_agent.specs.Attempt.{VaultStays};
-ghost use Rattle.jt_agent.specs.Tries.{IsStoreFault, Reports, TriesOnce, dials_in, ends_told, between};
+ghost use Rattle.jt_agent.specs.Tries.{IsStoreFault, Reports, TriesOnce, dials_in, ends_in, between};
 ghost use Rattle.jt_agent.specs.declared.ending.Attempted.TheVariants.{StoreFault};
 
 use crate::ending::{AttemptEnd, Attempted};
@@ -41,13 +41,17 @@ fn try_once<D: Dial, C: Clock, V: Vault>(
     requires down { terminal.old.state.phase ≡ Down }
     requires time { terminal.old.state.time ≤ (C.time clock.old).last }
     ensures tried { TriesOnce result
-        (between terminal.old.state (V.holds terminal.old.vault) (V.faults terminal.old.vault) (C.time clock.old) (D.pool dial.old) (D.faults dial.old))
-        (between terminal.new.state (V.holds terminal.new.vault) (V.faults terminal.new.vault) (C.time clock.new) (D.pool dial.new) (D.faults dial.new)) }
+        (between terminal.old.state (V.holds terminal.old.vault) (V.faults terminal.old.vault)
+        (C.time clock.old) (D.pool dial.old) (D.faults dial.old))
+        (between terminal.new.state (V.holds terminal.new.vault) (V.faults terminal.new.vault)
+        (C.time clock.new) (D.pool dial.new) (D.faults dial.new)) }
     ensures down { terminal.new.state.phase ≡ Down }
     ensures sent { terminal.old.state.sent ≡ 0 → terminal.new.state.sent ≡ 0 }
     ensures late { terminal.new.state.time ≤ (C.time clock.new).last }
     ensures settings { terminal.new.state.settings ≡ terminal.old.state.settings }
-    ensures vault { VaultStays (V.faults terminal.old.vault) (V.faults terminal.new.vault) (V.limit terminal.old.vault) (V.limit terminal.new.vault) (V.may_fail terminal.old.vault) (V.may_fail terminal.new.vault) (result ≡ StoreFault) }
+    ensures vault { VaultStays (V.faults terminal.old.vault) (V.faults terminal.new.vault)
+        (V.limit terminal.old.vault) (V.limit terminal.new.vault)
+        (V.may_fail terminal.old.vault) (V.may_fail terminal.new.vault) (result ≡ StoreFault) }
 {
     match dial.dial(host, port) {
         Some(link) => {
@@ -79,18 +83,23 @@ pub fn report_all<D: Dial, C: Clock, V: Vault>(
     requires time { terminal.old.state.time ≤ (C.time clock.old).last }
     // The attempts over the links that the dial gave, with their ends, and what they came to.
     ensures reports { Reports tries result
-        (between terminal.old.state (V.holds terminal.old.vault) (V.faults terminal.old.vault) (C.time clock.old) (D.pool dial.old) (D.faults dial.old))
-        (between terminal.new.state (V.holds terminal.new.vault) (V.faults terminal.new.vault) (C.time clock.new) (D.pool dial.new) (D.faults dial.new)) }
+        (between terminal.old.state (V.holds terminal.old.vault) (V.faults terminal.old.vault)
+        (C.time clock.old) (D.pool dial.old) (D.faults dial.old))
+        (between terminal.new.state (V.holds terminal.new.vault) (V.faults terminal.new.vault)
+        (C.time clock.new) (D.pool dial.new) (D.faults dial.new)) }
     // The dial's count rose for each attempt that ended for want of a link.
-    ensures dials { RoseBy (dials_in (ends_told result)) (D.faults dial.old) (D.faults dial.new) }
+    ensures dials { RoseBy (dials_in (ends_in result)) (D.faults dial.old) (D.faults dial.new) }
     // The vault failed only where its count rose in this call.
-    ensures failed { IsStoreFault result → Rose (V.faults terminal.old.vault) (V.faults terminal.new.vault) }
+    ensures failed { IsStoreFault result →
+        Rose (V.faults terminal.old.vault) (V.faults terminal.new.vault) }
     // So more attempts may follow.
     ensures down { terminal.new.state.phase ≡ Down }
     ensures sent { terminal.old.state.sent ≡ 0 → terminal.new.state.sent ≡ 0 }
     ensures late { terminal.new.state.time ≤ (C.time clock.new).last }
     ensures settings { terminal.new.state.settings ≡ terminal.old.state.settings }
-    ensures vault { VaultStays (V.faults terminal.old.vault) (V.faults terminal.new.vault) (V.limit terminal.old.vault) (V.limit terminal.new.vault) (V.may_fail terminal.old.vault) (V.may_fail terminal.new.vault) (IsStoreFault result) }
+    ensures vault { VaultStays (V.faults terminal.old.vault) (V.faults terminal.new.vault)
+        (V.limit terminal.old.vault) (V.limit terminal.new.vault)
+        (V.may_fail terminal.old.vault) (V.may_fail terminal.new.vault) (IsStoreFault result) }
 {
     let mut ends = Vec::new(alloc);
     while ends.len() < tries as usize {

@@ -15,13 +15,8 @@ use crate::moving::{hear, tell, tick};
 use jt_outside::{Clock, Link, LinkGot};
 use jt_store::Vault;
 use jt_terminal::{Event, Terminal, TerminalLine, law_steps};
+use jt_value::limits::{INPUT_LIMIT, READ_LIMIT};
 use std::alloc::Global;
-
-/// How many octets a read takes at most (this project's own).
-const PIECE: usize = 4096;
-
-/// The most octets that are taken from one link (this project's own).
-const MOST_OCTETS: u64 = 1 << 40;
 
 /// After so many reads in a row that gave nothing a link is idle (this project's own).
 const MOST_QUIETS: u32 = 1_000_000;
@@ -36,15 +31,19 @@ fn converse<K: Link, C: Clock, V: Vault>(
     quiets: u32,
 ) -> Attempted
     requires time { terminal.old.state.time ≤ (C.time clock.old).last }
-    requires octets { (1 ≤ octets) × (octets ≤ 2 ^ 40) }
-    requires quiets { (1 ≤ quiets) × (quiets ≤ 1000000) }
+    requires octets { (1 ≤ octets) × (octets ≤ INPUT_LIMIT) }
+    requires quiets { (1 ≤ quiets) × (quiets ≤ MOST_QUIETS) }
     ensures ends { Ends octets quiets
-        (at_link terminal.old.state (V.holds terminal.old.vault) (V.faults terminal.old.vault) (wire_of K.inbound K.written K.faults link.old))
-        (at_link terminal.new.state (V.holds terminal.new.vault) (V.faults terminal.new.vault) (wire_of K.inbound K.written K.faults link.new))
+        (at_link terminal.old.state (V.holds terminal.old.vault) (V.faults terminal.old.vault)
+        (wire_of K.inbound K.written K.faults link.old))
+        (at_link terminal.new.state (V.holds terminal.new.vault) (V.faults terminal.new.vault)
+        (wire_of K.inbound K.written K.faults link.new))
         (C.time clock.old) (C.time clock.new) result }
     ensures late { terminal.new.state.time ≤ (C.time clock.new).last }
     ensures settings { terminal.new.state.settings ≡ terminal.old.state.settings }
-    ensures vault { VaultStays (V.faults terminal.old.vault) (V.faults terminal.new.vault) (V.limit terminal.old.vault) (V.limit terminal.new.vault) (V.may_fail terminal.old.vault) (V.may_fail terminal.new.vault) (result ≡ StoreFault) }
+    ensures vault { VaultStays (V.faults terminal.old.vault) (V.faults terminal.new.vault)
+        (V.limit terminal.old.vault) (V.limit terminal.new.vault)
+        (V.may_fail terminal.old.vault) (V.may_fail terminal.new.vault) (result ≡ StoreFault) }
 {
     law_steps();
     let mut line = TerminalLine::new(alloc);
@@ -54,11 +53,11 @@ fn converse<K: Link, C: Clock, V: Vault>(
     if let Some(ended) = tell(alloc, link, terminal, Event::Opened) {
         return ended;
     }
-    let mut room = [0u8; PIECE];
+    let mut room = [0u8; READ_LIMIT];
     let mut taken = 0;
     let mut quiet = 0;
     while taken < octets {
-        let most = (octets - taken).min(PIECE as u64) as usize;
+        let most = (octets - taken).min(READ_LIMIT as u64) as usize;
         let piece = &mut room[..most];
         match link.read(piece) {
             LinkGot::Bytes(count) => {
@@ -89,11 +88,14 @@ fn converse<K: Link, C: Clock, V: Vault>(
 
 // The terminal loses its line.
 fn lose<V: Vault>(alloc: Global, terminal: &mut Terminal<V>)
-    ensures did { DidRule (rule terminal.old.state Lost) terminal.new.state (V.holds terminal.old.vault) (V.holds terminal.new.vault) }
+    ensures did { DidRule (rule terminal.old.state Lost) terminal.new.state
+        (V.holds terminal.old.vault) (V.holds terminal.new.vault) }
     ensures down { IsDown terminal.new.state }
     ensures time { terminal.new.state.time ≡ terminal.old.state.time }
     ensures settings { terminal.new.state.settings ≡ terminal.old.state.settings }
-    ensures vault { VaultStays (V.faults terminal.old.vault) (V.faults terminal.new.vault) (V.limit terminal.old.vault) (V.limit terminal.new.vault) (V.may_fail terminal.old.vault) (V.may_fail terminal.new.vault) ⊥ }
+    ensures vault { VaultStays (V.faults terminal.old.vault) (V.faults terminal.new.vault)
+        (V.limit terminal.old.vault) (V.limit terminal.new.vault)
+        (V.may_fail terminal.old.vault) (V.may_fail terminal.new.vault) ⊥ }
 {
     match terminal.event(alloc, Event::Lost) {
         Ok(_) => {}
@@ -121,18 +123,22 @@ pub fn attempt_within<K: Link, C: Clock, V: Vault>(
 ) -> Attempted
     requires down { terminal.old.state.phase ≡ Down }
     requires time { terminal.old.state.time ≤ (C.time clock.old).last }
-    requires octets { (1 ≤ octets) × (octets ≤ 2 ^ 40) }
-    requires quiets { (1 ≤ quiets) × (quiets ≤ 1000000) }
+    requires octets { (1 ≤ octets) × (octets ≤ INPUT_LIMIT) }
+    requires quiets { (1 ≤ quiets) × (quiets ≤ MOST_QUIETS) }
     // What the terminal was told, what it did and what was written, and why the attempt ended.
     ensures attempt { Attempt octets quiets
-        (at_link terminal.old.state (V.holds terminal.old.vault) (V.faults terminal.old.vault) (wire_of K.inbound K.written K.faults link.old))
-        (at_link terminal.new.state (V.holds terminal.new.vault) (V.faults terminal.new.vault) (wire_of K.inbound K.written K.faults link.new))
+        (at_link terminal.old.state (V.holds terminal.old.vault) (V.faults terminal.old.vault)
+        (wire_of K.inbound K.written K.faults link.old))
+        (at_link terminal.new.state (V.holds terminal.new.vault) (V.faults terminal.new.vault)
+        (wire_of K.inbound K.written K.faults link.new))
         (C.time clock.old) (C.time clock.new) result }
     // So another attempt may follow.
     ensures down { IsDown terminal.new.state }
     ensures late { terminal.new.state.time ≤ (C.time clock.new).last }
     ensures settings { terminal.new.state.settings ≡ terminal.old.state.settings }
-    ensures vault { VaultStays (V.faults terminal.old.vault) (V.faults terminal.new.vault) (V.limit terminal.old.vault) (V.limit terminal.new.vault) (V.may_fail terminal.old.vault) (V.may_fail terminal.new.vault) (result ≡ StoreFault) }
+    ensures vault { VaultStays (V.faults terminal.old.vault) (V.faults terminal.new.vault)
+        (V.limit terminal.old.vault) (V.limit terminal.new.vault)
+        (V.may_fail terminal.old.vault) (V.may_fail terminal.new.vault) (result ≡ StoreFault) }
 {
     let ended = converse(alloc, link, clock, terminal, octets, quiets);
     lose(alloc, terminal);
@@ -148,14 +154,18 @@ pub fn attempt<K: Link, C: Clock, V: Vault>(
 ) -> Attempted
     requires down { terminal.old.state.phase ≡ Down }
     requires time { terminal.old.state.time ≤ (C.time clock.old).last }
-    ensures attempt { Attempt (2 ^ 40) 1000000
-        (at_link terminal.old.state (V.holds terminal.old.vault) (V.faults terminal.old.vault) (wire_of K.inbound K.written K.faults link.old))
-        (at_link terminal.new.state (V.holds terminal.new.vault) (V.faults terminal.new.vault) (wire_of K.inbound K.written K.faults link.new))
+    ensures attempt { Attempt INPUT_LIMIT MOST_QUIETS
+        (at_link terminal.old.state (V.holds terminal.old.vault) (V.faults terminal.old.vault)
+        (wire_of K.inbound K.written K.faults link.old))
+        (at_link terminal.new.state (V.holds terminal.new.vault) (V.faults terminal.new.vault)
+        (wire_of K.inbound K.written K.faults link.new))
         (C.time clock.old) (C.time clock.new) result }
     ensures down { IsDown terminal.new.state }
     ensures late { terminal.new.state.time ≤ (C.time clock.new).last }
     ensures settings { terminal.new.state.settings ≡ terminal.old.state.settings }
-    ensures vault { VaultStays (V.faults terminal.old.vault) (V.faults terminal.new.vault) (V.limit terminal.old.vault) (V.limit terminal.new.vault) (V.may_fail terminal.old.vault) (V.may_fail terminal.new.vault) (result ≡ StoreFault) }
+    ensures vault { VaultStays (V.faults terminal.old.vault) (V.faults terminal.new.vault)
+        (V.limit terminal.old.vault) (V.limit terminal.new.vault)
+        (V.may_fail terminal.old.vault) (V.may_fail terminal.new.vault) (result ≡ StoreFault) }
 {
-    attempt_within(alloc, link, clock, terminal, MOST_OCTETS, MOST_QUIETS)
+    attempt_within(alloc, link, clock, terminal, INPUT_LIMIT, MOST_QUIETS)
 }

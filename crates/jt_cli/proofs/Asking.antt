@@ -1,32 +1,33 @@
 -- Words that ask one thing ask nothing else.
-use Rattle.std.proofs.Common.{◌≡◌, ℕ, List, Option, Some, None, IfSome, MatchOption, ap, sym, subst}
-use Rattle.jt_report_command.specs.ReportWords.{Told, AreWords as AreReportWords}
-use Rattle.jt_report_command.specs.Telling.{told_of}
+use Rattle.std.proofs.Common.{◌≡◌, ℕ, List, Option, Some, None, IfSome, MatchOption, refl, ap, sym, subst}
+use Rattle.jt_report_command.specs.ReportWords.{ReportValues, AreWords as AreReportWords}
+use Rattle.jt_report_command.specs.Telling.{values_in_words}
 use Rattle.jt_report_command.specs.declared.report_words.ReportWords.{ReportWords}
 use Rattle.jt_words.specs.Platform.{PlatformWords as AreWords}
 use Rattle.jt_cli.specs.Ask.{Ask, Act, ReportFixes, ServeLinks, Asks, AskOnly, AskNothing, TakesMemory}
-use Rattle.jt_cli.specs.Words.{words_of_task, AreNoTask, AreNoPlatform, AreNoReport}
+use Rattle.jt_cli.specs.Words.{task_of, AreNoTask, AreNoPlatform, AreNoReport}
 use Rattle.jt_cli.specs.declared.task.Task.{Task}
 use Rattle.jt_cli.proofs.TaskWords.{platform_alone, platform_or_report, report_alone}
 use Rattle.jt_cli.proofs.ToldWords.{is_told, same_told, no_told}
 
 -- ---- a task
 
-task_only : (task : Task) (words : List (List ℕ)) → words ≡ words_of_task task
-    → ((other : Task) → words ≡ words_of_task other → Some task ≡ Some other) → (other : Ask) → Asks other words → other ≡ Act task
-task_only task words is that (Act other) asks = let same = that other asks in let e : other ≡ task = cc same in ap Act e
-task_only task words is that (ReportFixes told) asks = absurd (report_alone told words asks task is)
-task_only task words is that (ServeLinks port sessions) asks = absurd (platform_alone port sessions words asks task is)
+no_task_is : (words : List (List ℕ)) (task : Task) → task_of words ≡ None → task_of words ≡ Some task → ⊥
+no_task_is words task none some = absurd cc
 
-pub of_task : (task : Task) (words : List (List ℕ)) → words ≡ words_of_task task
-    → ((other : Task) → words ≡ words_of_task other → Some task ≡ Some other) → AskOnly (Act task) words
-of_task task words is that = record { asks = is; only = task_only task words is that }
+task_only : (task : Task) (words : List (List ℕ)) → Some task ≡ task_of words → (other : Ask) → Asks other words → other ≡ Act task
+task_only task words is (Act other) asks = let e : other ≡ task = cc (is, asks) in ap Act e
+task_only task words is (ReportFixes told) asks = absurd (no_task_is words task (report_alone told words asks) (sym is))
+task_only task words is (ServeLinks port sessions) asks = absurd (no_task_is words task (platform_alone port sessions words asks) (sym is))
+
+pub of_task : (task : Task) (words : List (List ℕ)) → Some task ≡ task_of words → AskOnly (Act task) words
+of_task task words is = record { asks = sym is; only = task_only task words is }
 
 -- ---- links to serve
 
 platform_only : (port sessions : ℕ) (words : List (List ℕ)) → AreWords port sessions words
     → ((p s : ℕ) → AreWords p s words → (port ≡ p) × (sessions ≡ s)) → (other : Ask) → Asks other words → other ≡ ServeLinks port sessions
-platform_only port sessions words are that (Act task) asks = absurd (platform_alone port sessions words are task asks)
+platform_only port sessions words are that (Act task) asks = absurd (no_task_is words task (platform_alone port sessions words are) asks)
 platform_only port sessions words are that (ReportFixes told) asks = absurd (platform_or_report port sessions told words are asks)
 platform_only port sessions words are that (ServeLinks p s) asks = let same = that p s asks in cc (same.0, same.1)
 
@@ -37,30 +38,30 @@ of_platform port sessions words are that = record { asks = are; only = platform_
 -- ---- fixes to report
 
 report_only : (found : Option ReportWords) (told : ReportWords) (words : List (List ℕ)) → found ≡ Some told
-    → ((other : Told) → AreReportWords other words → MatchOption found ⊥ (λ t. told_of t ≡ other)) → AreNoTask words → AreNoPlatform words
-    → (other : Ask) → Asks other words → other ≡ ReportFixes (told_of told)
-report_only found told words is that task platform (Act other) asks = absurd (task other asks)
+    → ((other : ReportValues) → AreReportWords other words → MatchOption found ⊥ (λ t. values_in_words t ≡ other)) → AreNoTask words → AreNoPlatform words
+    → (other : Ask) → Asks other words → other ≡ ReportFixes (values_in_words told)
+report_only found told words is that task platform (Act other) asks = absurd (no_task_is words other task asks)
 report_only found told words is that task platform (ReportFixes other) asks = ap ReportFixes (sym (same_told found told other is (that other asks)))
 report_only found told words is that task platform (ServeLinks port sessions) asks = absurd (platform port sessions asks)
 
 pub of_report : (found : Option ReportWords) (told : ReportWords) (words : List (List ℕ)) → found ≡ Some told
-    → IfSome found (λ t. AreReportWords (told_of t) words)
-    → ((other : Told) → AreReportWords other words → MatchOption found ⊥ (λ t. told_of t ≡ other)) → AreNoTask words → AreNoPlatform words
-    → AskOnly (ReportFixes (told_of told)) words
+    → IfSome found (λ t. AreReportWords (values_in_words t) words)
+    → ((other : ReportValues) → AreReportWords other words → MatchOption found ⊥ (λ t. values_in_words t ≡ other)) → AreNoTask words → AreNoPlatform words
+    → AskOnly (ReportFixes (values_in_words told)) words
 of_report found told words is are that task platform =
     record { asks = is_told words found told is are; only = report_only found told words is that task platform }
 
 -- ---- nothing, or what memory was wanted for
 
 pub of_nothing : (found : Option ReportWords) (words : List (List ℕ)) → found ≡ None
-    → ((other : Told) → AreReportWords other words → MatchOption found ⊥ (λ t. told_of t ≡ other)) → AreNoTask words → AreNoPlatform words
+    → ((other : ReportValues) → AreReportWords other words → MatchOption found ⊥ (λ t. values_in_words t ≡ other)) → AreNoTask words → AreNoPlatform words
     → AskNothing words
-of_nothing found words is that task platform (Act other) asks = task other asks
+of_nothing found words is that task platform (Act other) asks = no_task_is words other task asks
 of_nothing found words is that task platform (ReportFixes told) asks = no_told found told is (that told asks)
 of_nothing found words is that task platform (ServeLinks port sessions) asks = platform port sessions asks
 
 pub of_want : (words : List (List ℕ)) → AreNoTask words → AreNoPlatform words → (ask : Ask) → Asks ask words → TakesMemory ask
-of_want words task platform (Act other) asks = task other asks
+of_want words task platform (Act other) asks = no_task_is words other task asks
 of_want words task platform (ReportFixes told) asks = tt
 of_want words task platform (ServeLinks port sessions) asks = platform port sessions asks
 
@@ -69,16 +70,18 @@ of_want words task platform (ServeLinks port sessions) asks = platform port sess
 pub nothing_along : (read words : List (List ℕ)) → read ≡ words → AskNothing read → AskNothing words
 nothing_along read words is nothing = subst AskNothing is nothing
 
+none_of : (found : Option Task) → ((task : Task) → found ≡ Some task → ⊥) → found ≡ None
+none_of None none = refl
+none_of (Some task) none = absurd (none task refl)
+
 pub nothing_alone : (read words : List (List ℕ)) → read ≡ words → AskNothing read → AreNoTask words × AreNoReport words
-nothing_alone read words is nothing = subst (λ (w : List (List ℕ)). AreNoTask w × AreNoReport w) is (λ task. nothing (Act task), λ told. nothing (ReportFixes told))
+nothing_alone read words is nothing =
+    subst (λ (w : List (List ℕ)). AreNoTask w × AreNoReport w) is (none_of (task_of read) (λ task. nothing (Act task)), λ told. nothing (ReportFixes told))
 
-serve_no_task : (port sessions : ℕ) (task : Task) → Act task ≡ ServeLinks port sessions → ⊥
-serve_no_task port sessions task e = cc e
-
-serve_no_report : (port sessions : ℕ) (told : Told) → ReportFixes told ≡ ServeLinks port sessions → ⊥
+serve_no_report : (port sessions : ℕ) (told : ReportValues) → ReportFixes told ≡ ServeLinks port sessions → ⊥
 serve_no_report port sessions told e = cc e
 
 pub serve_alone : (port sessions : ℕ) (read words : List (List ℕ)) → read ≡ words → AskOnly (ServeLinks port sessions) read → AreNoTask words × AreNoReport words
 serve_alone port sessions read words is only =
     subst (λ (w : List (List ℕ)). AreNoTask w × AreNoReport w) is
-    (λ task asks. serve_no_task port sessions task (only.only (Act task) asks), λ told asks. serve_no_report port sessions told (only.only (ReportFixes told) asks))
+    (platform_alone port sessions read only.asks, λ told asks. serve_no_report port sessions told (only.only (ReportFixes told) asks))

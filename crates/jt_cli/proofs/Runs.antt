@@ -1,7 +1,7 @@
 -- What a run did, by what was found in its words.
 use Rattle.std.proofs.Common.{◌≡◌, ℕ, List, [], Option, refl, sym, subst, inl, inr, arith}
 use Rattle.std.proofs.KnownBytes.{Appends-nil}
-use Rattle.jt_report_command.specs.ReportWords.{Told}
+use Rattle.jt_report_command.specs.ReportWords.{ReportValues}
 use Rattle.jt_report_command.specs.Running.{RunsReport, Scene}
 use Rattle.jt_report_command.specs.Settings.{settings_of}
 use Rattle.jt_terminal_steps.specs.Running.{IsStarted}
@@ -31,7 +31,7 @@ module _ {S K D L C P V : Type 0} (eyes : Eyes S K D C P V) (Serving : ℕ → O
   })
 
   by_memory : (ask : Ask) (old : Outside S K D L C P V) (ended : Ended S K D L C P V)
-      → TakesMemory ask → ((told : Told) → Reports eyes told old ended) → Does eyes Serving ask old ended
+      → TakesMemory ask → ((told : ReportValues) → Reports eyes told old ended) → Does eyes Serving ask old ended
   by_memory (Act task) old ended takes reports = absurd takes
   by_memory (ReportFixes told) old ended takes reports = reports told
   by_memory (ServeLinks port sessions) old ended takes reports = absurd takes

@@ -8,7 +8,7 @@ use Rattle.jt_view.specs.declared.closing.Closing.TheVariants.{Whole, TooLong, H
 use Rattle.jt_view.specs.declared.command.Command.{Command}
 use Rattle.jt_view.specs.declared.command.Report.{Report}
 use Rattle.jt_view.specs.declared.command.Report.TheVariants.{View, Check}
-use Rattle.jt_input.specs.Answer.{Answers, IsFault}
+use Rattle.jt_input.specs.Answer.{AnswersReply, IsFault}
 use Rattle.jt_input.specs.Reply.{Reply}
 use Rattle.jt_input.specs.declared.status.Status.{Status}
 use Rattle.jt_input.specs.declared.status.Status.TheVariants as status
@@ -47,6 +47,6 @@ of_fault status.NetFault f = absurd f
 of_fault status.Unsent f = absurd f
 of_fault status.Memory f = tt
 
-pub of_answers : (s : Status) (reply : Reply) (old now : Option (List ℕ)) → IsAlone reply.status → Answers s reply old now → IsAlone s
+pub of_answers : (s : Status) (reply : Reply) (old now : Option (List ℕ)) → IsAlone reply.status → AnswersReply s reply old now → IsAlone s
 of_answers s reply old now alone (inl told) = subst IsAlone (sym told.0) alone
 of_answers s reply old now alone (inr part) = of_fault s part.0

@@ -6,7 +6,7 @@ use Rattle.jt_outside.specs.Pool.{Pool}
 use Rattle.jt_platform.specs.History.{newest, tables_after}
 use Rattle.jt_platform_command.specs.Platform.{first_limit}
 use Rattle.jt_store.specs.Tables.{Tables}
-use Rattle.jt_report_command.specs.ReportWords.{Told, AreWords as AreReportWords}
+use Rattle.jt_report_command.specs.ReportWords.{ReportValues, AreWords as AreReportWords}
 use Rattle.jt_view.specs.declared.command.Command.{Command}
 use Rattle.jt_words.specs.Platform.{PlatformWords as AreWords}
 use Rattle.jt_input.specs.declared.status.Status.{Status}
@@ -16,7 +16,8 @@ use Rattle.jt_cli.specs.Ask.{Ask, Act, ReportFixes, ServeLinks, Asks, AskNothing
 use Rattle.jt_cli.specs.Running.{Eyes, Does, Ran, Refuses, Reports, Serves, Streams}
 use Rattle.jt_cli.specs.Statuses.{IsAlone}
 use Rattle.jt_cli.specs.Usage.{usage}
-use Rattle.jt_cli.specs.Words.{words_of, words_of_task, AreNoPlatform, AreNoReport, AreNoTask}
+use Rattle.jt_cli.specs.Words.{task_of, AreNoPlatform, AreNoReport}
+use Rattle.jt_cli.proofs.OldWords.{AreNoTask, words_of, words_of_task, asks_of, words_are}
 use Rattle.jt_cli.specs.declared.outside.Outside.{Outside}
 use Rattle.jt_cli.specs.declared.outside.Ended.{Ended}
 use Rattle.jt_cli.specs.declared.task.Task.{Task}
@@ -49,16 +50,15 @@ module _ {S K D L C P V : Type 0} (eyes : Eyes S K D C P V) (O : Type 0) (pool :
   -- ---- runs, whole, no_further, prints_taken, stops_at_write
   pub tells : (command : Command) → words ≡ words_of command
       → TellsOf command (eyes.left old.source) (eyes.left ended.outside.source) (eyes.written old.sink) (eyes.written ended.outside.sink) ended.status
-  unfolding words_of_task
-  tells command are = (ran.asked (Act (Tell command)) are).acts
+  tells command are = (ran.asked (Act (Tell command)) (asks_of (Tell command) words are)).acts
 
   -- ---- rehearses, rehearses_whole, rehearses_no_further, rehearses_prints_taken, rehearses_stops_at_write
   pub plays : words ≡ words_of_task Rehearse
       → Plays (eyes.left old.source) (eyes.left ended.outside.source) (eyes.written old.sink) (eyes.written ended.outside.sink) ended.status
-  plays are = (ran.asked (Act Rehearse) are).acts
+  plays are = (ran.asked (Act Rehearse) (asks_of Rehearse words are)).acts
 
   -- ---- report, reported, unsent, vault_fault
-  pub reports : (told : Told) → AreReportWords told words → Reports eyes told old ended
+  pub reports : (told : ReportValues) → AreReportWords told words → Reports eyes told old ended
   reports told are = ran.asked (ReportFixes told) are
 
   -- ---- platform
@@ -68,15 +68,15 @@ module _ {S K D L C P V : Type 0} (eyes : Eyes S K D C P V) (O : Type 0) (pool :
   -- ---- what holds of all words goes by what was done
 
   of_ask : {X : Type 0} (ask : Ask) → Asks ask words → Does eyes (Serves eyes O pool net_faults) ask old ended
-      → ((task : Task) → words ≡ words_of_task task → Streams eyes task old ended → X)
-      → ((told : Told) → AreReportWords told words → Reports eyes told old ended → X)
+      → ((task : Task) → task_of words ≡ Some task → Streams eyes task old ended → X)
+      → ((told : ReportValues) → AreReportWords told words → Reports eyes told old ended → X)
       → ((port sessions : ℕ) → AreWords port sessions words → Serves eyes O pool net_faults sessions old ended → X) → X
   of_ask (Act task) asks does t r s = t task asks does
   of_ask (ReportFixes told) asks does t r s = r told asks does
   of_ask (ServeLinks port sessions) asks does t r s = s port sessions asks does
 
-  by_row : {X : Type 0} → ((task : Task) → words ≡ words_of_task task → Streams eyes task old ended → X)
-      → ((told : Told) → AreReportWords told words → Reports eyes told old ended → X)
+  by_row : {X : Type 0} → ((task : Task) → task_of words ≡ Some task → Streams eyes task old ended → X)
+      → ((told : ReportValues) → AreReportWords told words → Reports eyes told old ended → X)
       → ((port sessions : ℕ) → AreWords port sessions words → Serves eyes O pool net_faults sessions old ended → X)
       → (Refuses eyes old ended → X) → X
   by_row t r s n = elim ran.one [
@@ -86,7 +86,7 @@ module _ {S K D L C P V : Type 0} (eyes : Eyes S K D C P V) (O : Type 0) (pool :
 
   -- ---- usage, usage_reads_nothing, usage_no_read_fault
   pub refuses : AreNoTask words → AreNoReport words → AreNoPlatform words → Refuses eyes old ended
-  refuses task report platform = by_row (λ t asks _. absurd (task t asks)) (λ told asks _. absurd (report told asks))
+  refuses task report platform = by_row (λ t asks _. absurd (task t (words_are words t asks))) (λ told asks _. absurd (report told asks))
       (λ port sessions asks _. absurd (platform port sessions asks)) (λ refuses. refuses)
 
   pub usage_reads_nothing : AreNoTask words → AreNoReport words → AreNoPlatform words → ended.outside.source ≡ old.source
@@ -94,7 +94,7 @@ module _ {S K D L C P V : Type 0} (eyes : Eyes S K D C P V) (O : Type 0) (pool :
 
   -- ---- usage_only, from the clause `usage`
   pub usage_only : AskNothing words → AreNoTask words × AreNoReport words × AreNoPlatform words
-  usage_only nothing = (λ task. nothing (Act task), λ told. nothing (ReportFixes told), λ port sessions. nothing (ServeLinks port sessions))
+  usage_only nothing = (λ task are. nothing (Act task) (asks_of task words are), λ told. nothing (ReportFixes told), λ port sessions. nothing (ServeLinks port sessions))
 
   -- ---- vault
   vault_stays : ended.outside.vault ≡ old.vault → (eyes.fix_limit ended.outside.vault ≡ eyes.fix_limit old.vault)
@@ -172,21 +172,21 @@ module _ {S K D L C P V : Type 0} (eyes : Eyes S K D C P V)
     (words : List (List ℕ)) (old : Outside S K D L C P V) (ended : Ended S K D L C P V)
     (ran : Ran eyes (λ sessions. Refuses eyes) words old ended) where
   of_ask_alone : {X : Type 0} (ask : Ask) → Asks ask words → Does eyes (λ sessions. Refuses eyes) ask old ended
-      → ((task : Task) → words ≡ words_of_task task → Streams eyes task old ended → X)
-      → ((told : Told) → AreReportWords told words → Reports eyes told old ended → X) → (Refuses eyes old ended → X) → X
+      → ((task : Task) → task_of words ≡ Some task → Streams eyes task old ended → X)
+      → ((told : ReportValues) → AreReportWords told words → Reports eyes told old ended → X) → (Refuses eyes old ended → X) → X
   of_ask_alone (Act task) asks does t r n = t task asks does
   of_ask_alone (ReportFixes told) asks does t r n = r told asks does
   of_ask_alone (ServeLinks port sessions) asks does t r n = n does
 
-  by_row_alone : {X : Type 0} → ((task : Task) → words ≡ words_of_task task → Streams eyes task old ended → X)
-      → ((told : Told) → AreReportWords told words → Reports eyes told old ended → X) → (Refuses eyes old ended → X) → X
+  by_row_alone : {X : Type 0} → ((task : Task) → task_of words ≡ Some task → Streams eyes task old ended → X)
+      → ((told : ReportValues) → AreReportWords told words → Reports eyes told old ended → X) → (Refuses eyes old ended → X) → X
   by_row_alone t r n = elim ran.one [
     | inl done ↦ of_ask_alone done.0 done.1 done.2 t r n
     | inr refuses ↦ n refuses
   ]
 
   pub refuses_alone : AreNoTask words → AreNoReport words → Refuses eyes old ended
-  refuses_alone task report = by_row_alone (λ t asks _. absurd (task t asks)) (λ told asks _. absurd (report told asks)) (λ refuses. refuses)
+  refuses_alone task report = by_row_alone (λ t asks _. absurd (task t (words_are words t asks))) (λ told asks _. absurd (report told asks)) (λ refuses. refuses)
 
   pub alone : AreNoReport words → IsAlone ended.status
   unfolding usage

@@ -1,6 +1,7 @@
 -- What a task does to the octets of its source and its sink. To be believed.
 use Rattle.std.specs.Prelude.{◌≡◌, ◌⊎◌, ℕ, ◌^◌, List, Option, IfSome}
 use Rattle.std.specs.Io.KnownBytes.{Appends, IsAtEnd}
+use Rattle.jt_value.specs.declared.limits.TheConstants.{INPUT_LIMIT}
 use Rattle.jt_world.specs.Claim.{Kept}
 use Rattle.jt_world.specs.Rehearsal.{script_reply, world_of}
 use Rattle.jt_world.specs.Rehearsing.{IsHeard}
@@ -19,20 +20,20 @@ use Rattle.jt_input.specs.declared.status.Status.TheVariants.{Done, ReadFault, W
 -- it is the answer to the whole source, whatever else the source has
 pub record TellsOf (command : Command) (left left_now old now : Option (List ℕ)) (status : Status)
     : Type 0 where
-  pub runs : Runs (answer_of command (2 ^ 40)) left left_now old now status
+  pub runs : Runs (answer_of command INPUT_LIMIT) left left_now old now status
   -- so, where the source tells its octets, and no fault came
   pub whole : IfSome left (λ octets. IsFault status
-      ⊎ ((status ≡ (answer_of command (2 ^ 40) octets).status)
-      × Appends old now (answer_of command (2 ^ 40) octets).text))
+      ⊎ ((status ≡ (answer_of command INPUT_LIMIT octets).status)
+      × Appends old now (answer_of command INPUT_LIMIT octets).text))
   -- the source is read no further than the piece of at most 2^14 octets that settles the report
-  pub no_further : ReadsNoFurther (IsOpen command (2 ^ 40)) (2 ^ 14) left left_now
+  pub no_further : ReadsNoFurther (IsOpen command INPUT_LIMIT) (2 ^ 14) left left_now
   -- what is printed of a piece is written before the next is read, so it is there also where that
   -- read fails
   pub prints_taken : status ≡ ReadFault
-      → PrintsTaken (IsOpen command (2 ^ 40)) left left_now old now
+      → PrintsTaken (IsOpen command INPUT_LIMIT) left left_now old now
   -- a write that failed ends the run
   pub stops_at_write : status ≡ WriteFault
-      → StopsAtWrite (answer_of command (2 ^ 40)) (IsOpen command (2 ^ 40)) (2 ^ 14)
+      → StopsAtWrite (answer_of command INPUT_LIMIT) (IsOpen command INPUT_LIMIT) (2 ^ 14)
       left left_now old now
   pub to_the_end : status ≡ Done → IsAtEnd left_now
   pub alone : IsAlone status

@@ -1,20 +1,20 @@
 -- What words ask of the program. To be believed.
-use Rattle.std.specs.Prelude.{◌≡◌, ℕ, List}
-use Rattle.jt_report_command.specs.ReportWords.{Told, AreWords as AreReportWords}
+use Rattle.std.specs.Prelude.{◌≡◌, ℕ, List, Some}
+use Rattle.jt_report_command.specs.ReportWords.{ReportValues, AreWords as AreReportWords}
 use Rattle.jt_words.specs.Platform.{PlatformWords}
-use Rattle.jt_cli.specs.Words.{words_of_task}
+use Rattle.jt_cli.specs.Words.{task_of}
 use Rattle.jt_cli.specs.declared.task.Task.{Task}
 
 -- a task over the source and the sink; fixes to report, with what `report` is told; or links to
 -- serve, at a port and so many
 pub data Ask : Type 0 where
   Act : Task → Ask
-  ReportFixes : Told → Ask
+  ReportFixes : ReportValues → Ask
   ServeLinks : ℕ → ℕ → Ask
 
 -- the words after the program's name that ask this
 abbrev pub Asks : Ask → List (List ℕ) → Type 0
-Asks (Act task) words = words ≡ words_of_task task
+Asks (Act task) words = task_of words ≡ Some task
 Asks (ReportFixes told) words = AreReportWords told words
 Asks (ServeLinks port sessions) words = PlatformWords port sessions words
 

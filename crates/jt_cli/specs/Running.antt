@@ -4,8 +4,8 @@ use Rattle.std.specs.Io.KnownBytes.{IsAtEnd}
 use Rattle.jt_value.specs.Counts.{Rose}
 use Rattle.jt_outside.specs.Pool.{Pool}
 use Rattle.jt_outside.specs.Time.{Time}
-use Rattle.jt_store.specs.Tables.{Tables, Told}
-use Rattle.jt_store.specs.Vaults.{Held, settled, unsettled}
+use Rattle.jt_store.specs.Tables.{Tables, WhereKnown}
+use Rattle.jt_store.specs.Vaults.{Held, accepted_count, pending_count}
 use Rattle.jt_platform.specs.History.{newest, tables_after}
 use Rattle.jt_platform_command.specs.Platform.{first_limit}
 use Rattle.jt_platform_command.specs.Running as platform
@@ -16,8 +16,7 @@ use Rattle.jt_report_command.specs.Running.{RunsReport}
 use Rattle.jt_report_command.specs.Settings.{settings_of}
 use Rattle.jt_report_command.specs.Steps.{VaultKeeps}
 use Rattle.jt_terminal_steps.specs.Running.{IsStarted}
-use Rattle.jt_input.specs.Answer.{Answers}
-use Rattle.jt_input.specs.declared.status.Status.{Status}
+use Rattle.jt_input.specs.Answer.{AnswersReply}
 use Rattle.jt_input.specs.declared.status.Status.TheVariants.{Done, Unsent, ReadFault, StoreFault, NetFault}
 use Rattle.jt_cli.specs.Acting.{Acts}
 use Rattle.jt_cli.specs.Ask.{Ask, Act, ReportFixes, ServeLinks, Asks}
@@ -66,7 +65,7 @@ module _ {S K D L C P V : Type 0} (eyes : Eyes S K D C P V) where
   pub record Refuses (old : Outside S K D L C P V) (ended : Ended S K D L C P V) : Type 0 where
     pub rest : ended.outside ≡ record old { sink = ended.outside.sink }
     pub no_link : (ended.reports ≡ []) × (ended.history ≡ [])
-    pub answers : Answers ended.status usage
+    pub answers : AnswersReply ended.status usage
         (eyes.written old.sink) (eyes.written ended.outside.sink)
     pub not_read : ended.status ≢ ReadFault
 
@@ -88,7 +87,7 @@ module _ {S K D L C P V : Type 0} (eyes : Eyes S K D C P V) where
       (eyes.vault_faults o.vault) (eyes.time o.clock)
       (eyes.dialled o.dial) (eyes.dial_faults o.dial)
 
-  pub record Reports (told : words.Told) (old : Outside S K D L C P V) (ended : Ended S K D L C P V)
+  pub record Reports (told : words.ReportValues) (old : Outside S K D L C P V) (ended : Ended S K D L C P V)
       : Type 0 where
     pub rest : ended.outside ≡ record old {
       source = ended.outside.source;
@@ -109,14 +108,14 @@ module _ {S K D L C P V : Type 0} (eyes : Eyes S K D C P V) where
         (eyes.may_fail old.vault) (eyes.may_fail ended.outside.vault)
     -- every recorded fix is accepted, or some fix is not; on both the source was read to its end
     pub done : ended.status ≡ Done
-        → Told (eyes.held ended.outside.vault) (λ held. settled held ≡ length held.recorded)
+        → WhereKnown (eyes.held ended.outside.vault) (λ held. accepted_count held ≡ length held.recorded)
         × IsAtEnd (eyes.left ended.outside.source)
     pub unsent : ended.status ≡ Unsent
-        → Told (eyes.held ended.outside.vault) (λ held. settled held ≢ length held.recorded)
+        → WhereKnown (eyes.held ended.outside.vault) (λ held. accepted_count held ≢ length held.recorded)
         × IsAtEnd (eyes.left ended.outside.source)
     pub store_fault : ended.status ≡ StoreFault
         → Rose (eyes.vault_faults old.vault) (eyes.vault_faults ended.outside.vault)
-        ⊎ Told (eyes.held ended.outside.vault) (λ held. unsettled held ≡ eyes.fix_limit old.vault)
+        ⊎ WhereKnown (eyes.held ended.outside.vault) (λ held. pending_count held ≡ eyes.fix_limit old.vault)
     pub no_net_fault : ended.status ≢ NetFault
 
   -- ---- `platform`: the dial, the clock and the vault come back as they were handed in

@@ -1,37 +1,41 @@
 -- The words of each command, which stand after the program's name. To be believed.
-use Rattle.std.specs.Prelude.{◌≢◌, ℕ, List, [], ◌∷◌, codes}
-use Rattle.jt_view.specs.declared.command.Command.{Command}
+use Rattle.std.specs.Prelude.{◌≡◌, ℕ, List, [], ◌∷◌, codes, Option, Some, None, if◌then◌else◌}
+use Rattle.std.specs.Str.{bytes_eq}
 use Rattle.jt_view.specs.declared.command.Encoding.{Encoding}
 use Rattle.jt_view.specs.declared.command.Encoding.TheVariants.{Octets, Hex}
-use Rattle.jt_cli.specs.declared.task.Task.{Task}
-use Rattle.jt_cli.specs.declared.task.Task.TheVariants.{Tell, Rehearse}
-use Rattle.jt_view.specs.declared.command.Report.{Report}
-use Rattle.jt_words.specs.Platform.{PlatformWords}
-use Rattle.jt_report_command.specs.ReportWords.{Told, AreWords as AreReportWords}
 use Rattle.jt_view.specs.declared.command.Report.TheVariants.{View, Check}
+use Rattle.jt_cli.specs.declared.task.Task.{Task}
+use Rattle.jt_cli.specs.declared.task.Task.TheVariants as tasks
+use Rattle.jt_words.specs.Platform.{PlatformWords}
+use Rattle.jt_report_command.specs.ReportWords.{ReportValues, AreWords as AreReportWords}
 
--- what to tell of the input
-unfoldable pub report_word : Report → List ℕ
-report_word View = codes "view"
-report_word Check = codes "check"
+-- ---- the words of tasks, a line each
 
--- how the input is written
-unfoldable pub encoding_words : Encoding → List (List ℕ)
-encoding_words Octets = []
-encoding_words Hex = codes "--hex" ∷ []
+-- what is told of octets or of digits
+unfoldable pub telling : Encoding → List ℕ → Option Task
+telling encoding word =
+    if bytes_eq word (codes "view") then Some (tasks.Tell (record { report = View; encoding = encoding }))
+    else if bytes_eq word (codes "check") then Some (tasks.Tell (record { report = Check; encoding = encoding }))
+    else None
 
--- the words of a command
-unfoldable pub words_of : Command → List (List ℕ)
-words_of command = report_word command.report ∷ encoding_words command.encoding
+-- one word
+unfoldable pub task_named : List ℕ → Option Task
+task_named word =
+    if bytes_eq word (codes "rehearse") then Some tasks.Rehearse
+    else telling Octets word
 
--- the words of a task
-unfoldable pub words_of_task : Task → List (List ℕ)
-words_of_task (Tell command) = words_of command
-words_of_task Rehearse = codes "rehearse" ∷ []
+-- the task that words ask
+abbrev pub task_of : List (List ℕ) → Option Task
+task_of [] = None
+task_of (word ∷ []) = task_named word
+task_of (word ∷ flag ∷ []) = if bytes_eq flag (codes "--hex") then telling Hex word else None
+task_of (word ∷ flag ∷ other ∷ words) = None
 
--- these are the words of no task
+-- ---- words that are those of none
+
+-- they ask no task
 abbrev pub AreNoTask : List (List ℕ) → Type 0
-AreNoTask words = (task : Task) → words ≢ words_of_task task
+AreNoTask words = task_of words ≡ None
 
 -- they are no words of `platform`
 abbrev pub AreNoPlatform : List (List ℕ) → Type 0
@@ -39,4 +43,4 @@ AreNoPlatform words = (port sessions : ℕ) → PlatformWords port sessions word
 
 -- they are no words of `report`
 abbrev pub AreNoReport : List (List ℕ) → Type 0
-AreNoReport words = (told : Told) → AreReportWords told words → ⊥
+AreNoReport words = (told : ReportValues) → AreReportWords told words → ⊥

@@ -2,7 +2,7 @@
 
 ghost use Rattle.std.specs.Prelude.{◌≡◌, ◌≢◌, []};
 ghost use Rattle.jt_value.specs.Counts.{Rose};
-ghost use Rattle.jt_input.specs.Answer.{Answers};
+ghost use Rattle.jt_input.specs.Answer.{AnswersReply};
 ghost use Rattle.jt_cli.specs.Acting.{Acts};
 ghost use Rattle.jt_cli.specs.Running.{Refuses, Streams, eyes_of};
 ghost use Rattle.jt_cli.specs.Usage.{usage};
@@ -15,16 +15,14 @@ use jt_input::Status;
 use jt_outside::{Clock, Dial, Sink, Source, write_all};
 use jt_store::{Keeper, Vault};
 use jt_value::Seq;
+use jt_value::limits::INPUT_LIMIT;
 use jt_view::report;
 use std::alloc::Global;
-
-// How many octets of one input are viewed or checked at most.
-const MOST: u64 = 1 << 40;
 
 // Writes the usage line.
 #[tactic(auto, unfolding(crate::specs::Usage::usage))]
 fn write_usage<K: Sink>(alloc: Global, sink: &mut K) -> Status
-    ensures answer { Answers result usage (K.written sink.old) (K.written sink.new) }
+    ensures answer { AnswersReply result usage (K.written sink.old) (K.written sink.new) }
     ensures not_read_fault { result ≢ Status.ReadFault }
     ensures write_fault { result ≡ Status.WriteFault →
         Rose (K.faults sink.old) (K.faults sink.new) }
@@ -53,7 +51,7 @@ fn act<S: Source, K: Sink>(alloc: Global, source: &mut S, sink: &mut K, task: Ta
     ensures not_usage { result ≢ Status.Usage }
 {
     match task {
-        Task::Tell(command) => report(alloc, source, sink, command, MOST),
+        Task::Tell(command) => report(alloc, source, sink, command, INPUT_LIMIT),
         Task::Rehearse => play(alloc, source, sink),
     }
 }

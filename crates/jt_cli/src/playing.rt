@@ -17,16 +17,22 @@ use std::alloc::Global;
 
 /// Rehearses the script of the source, and writes what is printed of it.
 pub fn play<S: Source, K: Sink>(alloc: Global, source: &mut S, sink: &mut K) -> Status
-    ensures runs { RunsScript (S.left source.old) (S.left source.new) (K.written sink.old) (K.written sink.new) result }
-    ensures whole { IfSome (S.left source.old) (λ script. IsFault result ⊎ ((result ≡ (script_reply script).status)
-        × Appends (K.written sink.old) (K.written sink.new) (script_reply script).text × Kept (world_of script))) }
+    ensures runs { RunsScript (S.left source.old) (S.left source.new)
+        (K.written sink.old) (K.written sink.new) result }
+    ensures whole { IfSome (S.left source.old) (λ script.
+        IsFault result ⊎ ((result ≡ (script_reply script).status)
+        × Appends (K.written sink.old) (K.written sink.new) (script_reply script).text
+        × Kept (world_of script))) }
     ensures no_further { ReadsNoFurther IsHeard (2 ^ 14) (S.left source.old) (S.left source.new) }
-    ensures prints_taken { result ≡ Status.ReadFault → PrintsTaken IsHeard (S.left source.old) (S.left source.new) (K.written sink.old) (K.written sink.new) }
+    ensures prints_taken { result ≡ Status.ReadFault → PrintsTaken IsHeard
+        (S.left source.old) (S.left source.new) (K.written sink.old) (K.written sink.new) }
     ensures stops_at_write { result ≡ Status.WriteFault → StopsAtWrite script_reply IsHeard (2 ^ 14)
         (S.left source.old) (S.left source.new) (K.written sink.old) (K.written sink.new) }
     ensures to_the_end { result ≡ Status.Done → IsAtEnd (S.left source.new) }
-    ensures read_fault { result ≡ Status.ReadFault → Rose (S.faults source.old) (S.faults source.new) }
-    ensures write_fault { result ≡ Status.WriteFault → Rose (K.faults sink.old) (K.faults sink.new) }
+    ensures read_fault { result ≡ Status.ReadFault →
+        Rose (S.faults source.old) (S.faults source.new) }
+    ensures write_fault { result ≡ Status.WriteFault →
+        Rose (K.faults sink.old) (K.faults sink.new) }
     ensures not_usage { result ≢ Status.Usage }
     ensures alone { IsAlone result }
 {

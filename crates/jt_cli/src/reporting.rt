@@ -2,7 +2,7 @@
 
 ghost use Rattle.std.specs.Prelude.{◌≡◌, ◌≢◌};
 ghost use Rattle.jt_value.specs.Counts.{Rose};
-ghost use Rattle.jt_report_command.specs.Telling.{told_of};
+ghost use Rattle.jt_report_command.specs.Telling.{values_in_words};
 ghost use Rattle.jt_report_command.specs.Settings.{AreSpoken};
 ghost use Rattle.jt_cli.specs.Running.{Reports, eyes_of};
 
@@ -20,10 +20,10 @@ pub fn run_report<S: Source, K: Sink, D: Dial, L, C: Clock, P: Keeper, V: Vault>
     words: ReportWords,
     outside: Outside<S, K, D, L, C, P, V>,
 ) -> Ended<S, K, D, L, C, P, V>
-    requires words { AreSpoken (told_of words) }
+    requires words { AreSpoken (values_in_words words) }
     ensures does { let eyes = eyes_of S.left K.written D.pool D.faults C.time
         P.tables P.limit P.faults V.holds V.limit V.faults V.may_fail in
-        Reports eyes (told_of words) outside result }
+        Reports eyes (values_in_words words) outside result }
     ensures read_fault { result.status ≡ Status.ReadFault →
         Rose (S.faults outside.source) (S.faults result.outside.source) }
     ensures write_fault { result.status ≡ Status.WriteFault →

@@ -1,9 +1,7 @@
 //! The words of a task.
 
-ghost use Rattle.std.specs.Prelude.{◌≡◌, ◌≢◌, ◌↔◌, List, ℕ, map, string_bytes, IfSome, IsNone, IsTrue};
-ghost use Rattle.jt_view.specs.declared.command.Command.{Command};
-ghost use Rattle.jt_cli.specs.declared.task.Task.{Task};
-ghost use Rattle.jt_cli.specs.Words.{words_of, words_of_task};
+ghost use Rattle.std.specs.Prelude.{◌≡◌, ◌↔◌, ◌∷◌, map, string_bytes, IsTrue};
+ghost use Rattle.jt_cli.specs.Words.{task_named, task_of, telling as task_telling};
 
 use jt_view::{Command, Encoding, Report};
 
@@ -26,38 +24,53 @@ fn are_words(words: &[String], expected: &[&str]) -> bool
             .all(|(word, expected)| word.as_str() == *expected)
 }
 
-// The one command of a report that has these words. None means that no command does.
-fn command_of(words: &[String]) -> Option<Command>
-    ensures some { IfSome result (λ command. map string_bytes words.now ≡ words_of command) }
-    ensures that_one { (command : Command) → map string_bytes words.now ≡ words_of command → result ≡ Some command }
-    ensures none { IsNone result → (command : Command) → map string_bytes words.now ≢ words_of command }
+// The task that a word asks of octets or of digits.
+#[tactic(auto, unfolding(crate::specs::Words::telling))]
+fn telling(encoding: Encoding, word: &str) -> Option<Task>
+    ensures { result ≡ task_telling encoding word.now }
 {
-    let (report, encoding) = if are_words(words, &["view"]) {
-        (Report::View, Encoding::Octets)
-    } else if are_words(words, &["view", "--hex"]) {
-        (Report::View, Encoding::Hex)
-    } else if are_words(words, &["check"]) {
-        (Report::Check, Encoding::Octets)
-    } else if are_words(words, &["check", "--hex"]) {
-        (Report::Check, Encoding::Hex)
+    if word == "view" {
+        let report = Report::View;
+        return Some(Task::Tell(Command { report, encoding }));
+    }
+    if word == "check" {
+        let report = Report::Check;
+        return Some(Task::Tell(Command { report, encoding }));
+    }
+    None
+}
+
+// The task that one word asks.
+#[tactic(auto, unfolding(crate::specs::Words::task_named))]
+fn named(word: &str) -> Option<Task>
+    ensures { result ≡ task_named word.now }
+{
+    if word == "rehearse" {
+        return Some(Task::Rehearse);
+    }
+    telling(Encoding::Octets, word)
+}
+
+// The task that a word asks, before others.
+fn task_in(word: &str, others: &[String]) -> Option<Task>
+    ensures { result ≡ task_of (word.now ∷ map string_bytes others.now) }
+{
+    if are_words(others, &[]) {
+        named(word)
+    } else if are_words(others, &["--hex"]) {
+        telling(Encoding::Hex, word)
     } else {
-        return None;
-    };
-    Some(Command { report, encoding })
+        None
+    }
 }
 
 impl Task {
-    /// Reads the words after the program's name: the one task that has them. None means that no task does.
+    /// Reads the words after the program's name. None means that they are those of no task.
     pub fn from_words(words: &[String]) -> Option<Task>
-        ensures some { IfSome result (λ task. map string_bytes words.now ≡ words_of_task task) }
-        ensures that_one { (task : Task) → map string_bytes words.now ≡ words_of_task task → result ≡ Some task }
-        ensures none { IsNone result → (task : Task) → map string_bytes words.now ≢ words_of_task task }
+        ensures { result ≡ task_of (map string_bytes words.now) }
     {
-        if are_words(words, &["rehearse"]) {
-            return Some(Task::Rehearse);
-        }
-        match command_of(words) {
-            Some(command) => Some(Task::Tell(command)),
+        match words.split_first() {
+            Some((word, others)) => task_in(word.as_str(), others),
             None => None,
         }
     }

@@ -19,7 +19,7 @@ use Rattle.jt_codec.specs.Answer.{IsUnlessMemory}
 use Rattle.jt_codec.specs.Bodies.{body, HasBody}
 use Rattle.jt_codec.specs.Frames.{Frame, FrameAnswers, HasMessage, IsRefused, RefusesMessage, in_content}
 use Rattle.jt_codec.specs.Law.{HasFrame, HasRefusal}
-use Rattle.jt_codec.specs.Parsing.{beside, message_read, parsed, placed}
+use Rattle.jt_codec.specs.Parsing.{beside, message_read, parse_of, body_answer}
 use Rattle.jt_codec.specs.declared.message.Message.{Message}
 use Rattle.jt_codec.specs.declared.message.Message.TheVariants.{Part}
 use Rattle.jt_codec.proofs.BodyLaws.{body_law}
@@ -27,14 +27,14 @@ use Rattle.jt_codec.proofs.BodyLaws.{body_law}
 -- ---- the message behind a header
 
 message_is : (p : Option Packet) (edition : Edition) (id : ℕ) (v : List ℕ) (m : Message) → HasMessage p edition id v m → message_read p edition id v ≡ Ok m
-message_is None edition id v m h = ap (placed (header_len edition false)) ((body_law edition id).again v 0 m (omega arith) h)
+message_is None edition id v m h = ap (body_answer (header_len edition false)) ((body_law edition id).again v 0 m (omega arith) h)
 message_is (Some packet) edition id v m h = rw h refl
 
-placed_ok : (n : ℕ) (r : Result Message Refusal) (m : Message) → placed n r ≡ Ok m → r ≡ Ok m
+placed_ok : (n : ℕ) (r : Result Message Refusal) (m : Message) → body_answer n r ≡ Ok m → r ≡ Ok m
 placed_ok n (Ok a) m e = e
 placed_ok n (Err d) m e = absurd cc
 
-placed_err : (n : ℕ) (r : Result Message Refusal) (d : Refusal) → placed n r ≡ Err d → (c : Refusal) × (r ≡ Err c) × (d ≡ in_content n c)
+placed_err : (n : ℕ) (r : Result Message Refusal) (d : Refusal) → body_answer n r ≡ Err d → (c : Refusal) × (r ≡ Err c) × (d ≡ in_content n c)
 placed_err n (Ok a) d e = absurd cc
 placed_err n (Err c) d e = (c, refl, sym (err_is {A = Message} (in_content n c) d e))
 
@@ -72,17 +72,17 @@ read_at (Some packet) edition id v m none h = absurd cc
 
 module _ (only : IsReadBack) (found : IsContentOfItsFields) where
   -- what a content with this header and this body is parsed as
-  behind : (h : Header) (v c : List ℕ) → Content h v c → parsed c ≡ beside h (message_read h.packet h.edition h.id v)
-  unfolding parsed
+  behind : (h : Header) (v c : List ℕ) → Content h v c → parse_of c ≡ beside h (message_read h.packet h.edition h.id v)
+  unfolding parse_of
   behind h v c is =
       let r = only h v c is in
       rw (r.no_reason, ← r.header, ← r.body_is) refl
 
-  pub parsed_frame : (c v : List ℕ) (h : Header) (m : Message) → Frame h v m c → parsed c ≡ Ok (h, m)
+  pub parsed_frame : (c v : List ℕ) (h : Header) (m : Message) → Frame h v m c → parse_of c ≡ Ok (h, m)
   parsed_frame c v h m f = behind h v c f.is_content ∙ ap (beside h) (message_is h.packet h.edition h.id v m f.has_message)
 
-  pub parsed_refusal : (c : List ℕ) (r : Refusal) → IsRefused c r → parsed c ≡ Err r
-  unfolding parsed
+  pub parsed_refusal : (c : List ℕ) (r : Refusal) → IsRefused c r → parse_of c ≡ Err r
+  unfolding parse_of
   parsed_refusal c r (inl e) = rw e refl
   parsed_refusal c r (inr b) =
       let read = (body_law b.h.edition b.h.id).refuses b.octets 0 b.found (omega arith) b.refuses in
@@ -110,7 +110,7 @@ module _ (only : IsReadBack) (found : IsContentOfItsFields) where
   one_or_the_other c are = either c (reason c) are refl
 
   pub never_both : (c : List ℕ) → HasFrame c → HasRefusal c → ⊥
-  never_both c f r = apart (f.0, f.2) r.0 (parsed c) (parsed_frame c f.1 f.0 f.2 f.3) (parsed_refusal c r.0 r.1)
+  never_both c f r = apart (f.0, f.2) r.0 (parse_of c) (parsed_frame c f.1 f.0 f.2 f.3) (parsed_refusal c r.0 r.1)
 
   pub one_frame : (c : List ℕ) (h g : Header) (v w : List ℕ) (m n : Message) → Frame h v m c → Frame g w n c → (h ≡ g) × (v ≡ w) × (m ≡ n)
   one_frame c h g v w m n x y =
@@ -121,14 +121,14 @@ module _ (only : IsReadBack) (found : IsContentOfItsFields) where
   one_refusal c r s x y = err_is {A = Header × Message} r s (sym (parsed_refusal c r x) ∙ parsed_refusal c s y)
 
   -- what gives what parsing gives answers by the definition of frames
-  answered : (c : List ℕ) (r : Result (Header × Message) CodecError) → HasFrame c ⊎ HasRefusal c → IsUnlessMemory r (parsed c) → FrameAnswers c r
+  answered : (c : List ℕ) (r : Result (Header × Message) CodecError) → HasFrame c ⊎ HasRefusal c → IsUnlessMemory r (parse_of c) → FrameAnswers c r
   answered c (Err errors.Memory) is e = tt
   answered c (Ok x) (inl f) e =
       let one : (f.0, f.2) ≡ x = ok_is (f.0, f.2) x (sym (parsed_frame c f.1 f.0 f.2 f.3) ∙ e) in
       subst (λ (z : Header × Message). Frame z.0 (body_at c) z.1 c) one (subst (λ (v : List ℕ). Frame f.0 v f.2 c) (only f.0 f.1 c f.3.is_content).body_is f.3)
-  answered c (Ok x) (inr r) e = absurd (apart x r.0 (parsed c) e (parsed_refusal c r.0 r.1))
-  answered c (Err (errors.Refused d)) (inl f) e = absurd (apart (f.0, f.2) d (parsed c) (parsed_frame c f.1 f.0 f.2 f.3) e)
+  answered c (Ok x) (inr r) e = absurd (apart x r.0 (parse_of c) e (parsed_refusal c r.0 r.1))
+  answered c (Err (errors.Refused d)) (inl f) e = absurd (apart (f.0, f.2) d (parse_of c) (parsed_frame c f.1 f.0 f.2 f.3) e)
   answered c (Err (errors.Refused d)) (inr r) e = subst (IsRefused c) (err_is {A = Header × Message} r.0 d (sym (parsed_refusal c r.0 r.1) ∙ e)) r.1
 
-  pub answers : (c : List ℕ) (r : Result (Header × Message) CodecError) → AreOctets c → IsUnlessMemory r (parsed c) → FrameAnswers c r
+  pub answers : (c : List ℕ) (r : Result (Header × Message) CodecError) → AreOctets c → IsUnlessMemory r (parse_of c) → FrameAnswers c r
   answers c r are e = answered c r (one_or_the_other c are) e

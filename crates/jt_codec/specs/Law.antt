@@ -9,7 +9,7 @@ use Rattle.jt_header.specs.declared.header.Packet.{Packet}
 use Rattle.jt_layout.specs.Answer.{IsOneToOne}
 use Rattle.jt_codec.specs.Bodies.{Fits, body, body_octets, id_of}
 use Rattle.jt_codec.specs.Frames.{Frame, HasMessage, IsRefused, RefusesMessage}
-use Rattle.jt_codec.specs.Parsing.{message_read, parsed}
+use Rattle.jt_codec.specs.Parsing.{message_read, parse_of}
 use Rattle.jt_codec.specs.declared.message.Message.{Message}
 use Rattle.jt_codec.specs.declared.message.Message.TheVariants.{TerminalAck, PlatformAck}
 
@@ -57,11 +57,11 @@ IsOneRefusal = (content : List ℕ) (r s : Refusal) → IsRefused content r → 
 
 -- parsing as a function gives the frame's header and message
 abbrev pub IsParsedFrame : Type 0
-IsParsedFrame = (content octets : List ℕ) (h : Header) (message : Message) → Frame h octets message content → parsed content ≡ Ok (h, message)
+IsParsedFrame = (content octets : List ℕ) (h : Header) (message : Message) → Frame h octets message content → parse_of content ≡ Ok (h, message)
 
 -- and the refusal
 abbrev pub IsParsedRefusal : Type 0
-IsParsedRefusal = (content : List ℕ) (refusal : Refusal) → IsRefused content refusal → parsed content ≡ Err refusal
+IsParsedRefusal = (content : List ℕ) (refusal : Refusal) → IsRefused content refusal → parse_of content ≡ Err refusal
 
 -- behind every header, reading as a function gives exactly the message
 abbrev pub IsMessageRead : Type 0

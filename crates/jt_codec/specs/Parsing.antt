@@ -14,25 +14,25 @@ use Rattle.jt_codec.specs.declared.message.Message.{Message}
 use Rattle.jt_codec.specs.declared.message.Message.TheVariants.{Part}
 
 -- a body's answer, a refusal's place counted in the content
-abbrev pub placed : ℕ → Result Message Refusal → Result Message Refusal
-placed start (Ok message) = Ok message
-placed start (Err refusal) = Err (in_content start refusal)
+abbrev pub body_answer : ℕ → Result Message Refusal → Result Message Refusal
+body_answer start (Ok message) = Ok message
+body_answer start (Err refusal) = Err (in_content start refusal)
 
 -- the message behind a header
 abbrev pub message_read : Option Packet → Edition → ℕ → List ℕ → Result Message Refusal
-message_read None edition id octets = placed (header_len edition false) ((body edition id).read octets 0)
+message_read None edition id octets = body_answer (header_len edition false) ((body edition id).read octets 0)
 message_read (Some packet) edition id octets = Ok (Part octets)
 
 abbrev pub beside : Header → Result Message Refusal → Result (Header × Message) Refusal
 beside h (Ok message) = Ok (h, message)
 beside h (Err refusal) = Err refusal
 
-abbrev pub parsed_unless : Option Refusal → List ℕ → Result (Header × Message) Refusal
-parsed_unless (Some refusal) content = Err refusal
-parsed_unless None content =
+abbrev pub parse_unless : Option Refusal → List ℕ → Result (Header × Message) Refusal
+parse_unless (Some refusal) content = Err refusal
+parse_unless None content =
     let h = header_at content in
     beside h (message_read h.packet h.edition h.id (body_at content))
 
 -- the header and the message of a content, or the first reason
-unfoldable pub parsed : List ℕ → Result (Header × Message) Refusal
-parsed content = parsed_unless (reason content) content
+unfoldable pub parse_of : List ℕ → Result (Header × Message) Refusal
+parse_of content = parse_unless (reason content) content

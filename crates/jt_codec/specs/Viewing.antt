@@ -3,7 +3,7 @@ use Rattle.std.specs.Prelude.{ℕ, Bool, ◌==◌, ◌||◌, ◌⊎◌, List, Op
 use Rattle.jt_value.specs.declared.phone.Edition.{Edition}
 use Rattle.jt_value.specs.declared.ids.TheConstants.{BATCH, CONTROL, DEREGISTER, HEARTBEAT, PLATFORM_ACK, POSITION, QUERY_PARAMS, QUERY_POSITION, TERMINAL_ACK, TEXT, TRACK}
 use Rattle.jt_header.specs.declared.header.Packet.{Packet}
-use Rattle.jt_position.specs.BatchViews.{viewed_position}
+use Rattle.jt_position.specs.BatchViews.{position_in_view}
 use Rattle.jt_codec.specs.Bodies.{body}
 use Rattle.jt_codec.specs.declared.message.Message.{Message}
 use Rattle.jt_codec.specs.declared.message.Message.TheVariants as message
@@ -32,17 +32,17 @@ IsViewed None edition id octets = IsReadInPlace edition id octets
 IsViewed (Some packet) edition id octets = Unit {0}
 
 -- the message that a view is of
-abbrev pub viewed : MessageView → Message
-viewed view.Heartbeat = message.Heartbeat
-viewed (view.TerminalAck reply id result) = message.TerminalAck reply id result
-viewed (view.PlatformAck reply id result) = message.PlatformAck reply id result
-viewed view.Deregister = message.Deregister
-viewed view.QueryParams = message.QueryParams
-viewed view.QueryPosition = message.QueryPosition
-viewed (view.Track interval validity) = message.Track interval validity
-viewed (view.Text flag kind text) = message.Text flag kind text.now
-viewed (view.Control command text) = message.Control command text.now
-viewed (view.Position position) = message.Position (viewed_position position)
-viewed (view.Batch batch) = message.Batch (record { kind = batch.kind; fixes = batch.fixes })
-viewed (view.Opaque id body) = message.Opaque id body.now
-viewed (view.Part octets) = message.Part octets.now
+abbrev pub message_in_view : MessageView → Message
+message_in_view view.Heartbeat = message.Heartbeat
+message_in_view (view.TerminalAck reply id result) = message.TerminalAck reply id result
+message_in_view (view.PlatformAck reply id result) = message.PlatformAck reply id result
+message_in_view view.Deregister = message.Deregister
+message_in_view view.QueryParams = message.QueryParams
+message_in_view view.QueryPosition = message.QueryPosition
+message_in_view (view.Track interval validity) = message.Track interval validity
+message_in_view (view.Text flag kind text) = message.Text flag kind text.now
+message_in_view (view.Control command text) = message.Control command text.now
+message_in_view (view.Position position) = message.Position (position_in_view position)
+message_in_view (view.Batch batch) = message.Batch (record { kind = batch.kind; fixes = batch.fixes })
+message_in_view (view.Opaque id body) = message.Opaque id body.now
+message_in_view (view.Part octets) = message.Part octets.now

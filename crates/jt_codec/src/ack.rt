@@ -26,7 +26,8 @@ fn fields_in(octets: &[u8]) -> Result<(u16, u16, u8), Refusal>
 // The serial and the id that are answered, and the result.
 #[inline(always)]
 pub(crate) fn view_ack(octets: &[u8]) -> Result<(u16, u16, u8), Refusal>
-    ensures { MatchResult result (Fills ack octets.now 0) (λ refusal. ack.Refuses octets.now 0 refusal) }
+    ensures { MatchResult result (Fills ack octets.now 0)
+        (λ refusal. ack.Refuses octets.now 0 refusal) }
 {
     fields_in(octets)
 }

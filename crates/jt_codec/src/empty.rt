@@ -10,7 +10,8 @@ use jt_value::{CodecError, Refusal};
 // Nothing, where no octets are there.
 #[inline(always)]
 pub(crate) fn view_empty(octets: &[u8]) -> Result<(), Refusal>
-    ensures { MatchResult result (Fills empty octets.now 0) (λ refusal. empty.Refuses octets.now 0 refusal) }
+    ensures { MatchResult result (Fills empty octets.now 0)
+        (λ refusal. empty.Refuses octets.now 0 refusal) }
 {
     Reader::new(octets).end()
 }

@@ -1,6 +1,7 @@
 //! Whole frames: contents parsed, and frames put together.
 
 ghost use Rattle.std.specs.Prelude.{◌≡◌, ◌≤◌, ◌<◌, ◌+◌, ◌^◌, [], List, ℕ, false, Ok, Err, length, IsNone};
+ghost use Rattle.jt_value.specs.declared.limits.TheConstants.{CONTENT_LIMIT};
 ghost use Rattle.jt_value.specs.declared.refusal.Refusal.{Refusal};
 ghost use Rattle.jt_escape.specs.Frame.{framed};
 ghost use Rattle.jt_header.specs.Content.{IsHeader, content_of, header_len};
@@ -8,7 +9,7 @@ ghost use Rattle.jt_header.specs.declared.header.Header.{Header};
 ghost use Rattle.jt_codec.specs.Answer.{IsUnlessMemory};
 ghost use Rattle.jt_codec.specs.Frames as frames;
 ghost use Rattle.jt_codec.specs.Frames.{Frame, FrameAnswers, IsRefused};
-ghost use Rattle.jt_codec.specs.Parsing.{message_read, parsed};
+ghost use Rattle.jt_codec.specs.Parsing.{message_read, parse_of};
 ghost use Rattle.jt_codec.specs.declared.message.Message.{Message};
 
 use crate::body::read_body;
@@ -52,7 +53,7 @@ fn message_at(
     body: &[u8],
 ) -> Result<Message, CodecError>
     requires start { IsNone header.now.packet → start ≡ header_len header.now.edition false }
-    requires short { start + length body.now ≤ 1045 }
+    requires short { start + length body.now ≤ CONTENT_LIMIT }
     ensures { IsUnlessMemory result
         (message_read header.now.packet header.now.edition header.now.id body.now) }
 {
@@ -77,10 +78,10 @@ pub fn read_message(alloc: Global, header: &Header, body: &[u8]) -> Result<Messa
 }
 
 // What `parse_frame` answers, as a function of the content.
-#[tactic(auto, unfolding(crate::specs::Parsing::parsed))]
+#[tactic(auto, unfolding(crate::specs::Parsing::parse_of))]
 fn parse(alloc: Global, content: &[u8]) -> Result<(Header, Message), CodecError>
-    requires { length content.now ≤ 1045 }
-    ensures { IsUnlessMemory result (parsed content.now) }
+    requires { length content.now ≤ CONTENT_LIMIT }
+    ensures { IsUnlessMemory result (parse_of content.now) }
 {
     let (header, body) = read_header(content)?;
     let start = content.len() - 1 - body.len();
@@ -92,16 +93,16 @@ fn parse(alloc: Global, content: &[u8]) -> Result<(Header, Message), CodecError>
 /// and for a content with a header, that of `read_body`. `inside` is the offset in the content, and `at` is 0. The body of a
 /// packet is a `Part` and not read (this project's own rule).
 pub fn parse_frame(alloc: Global, content: &[u8]) -> Result<(Header, Message), CodecError>
-    requires { length content.now ≤ 1045 }
+    requires { length content.now ≤ CONTENT_LIMIT }
     // The header and the message that the content is, or the reason against it.
     ensures answer { FrameAnswers content.now result }
     // Each frame's content is parsed as what it is, unless memory is wanted.
-    ensures every_frame { (h : Header) (octets : List ℕ) (message : Message) → Frame h octets message content.now
-        → IsUnlessMemory result (Ok (h, message)) }
+    ensures every_frame { (h : Header) (octets : List ℕ) (message : Message) →
+        Frame h octets message content.now → IsUnlessMemory result (Ok (h, message)) }
     ensures every_refusal { (refusal : Refusal) → IsRefused content.now refusal
         → IsUnlessMemory result (Err refusal) }
     // The same as a function of the content.
-    ensures parsed { IsUnlessMemory result (parsed content.now) }
+    ensures parsed { IsUnlessMemory result (parse_of content.now) }
 {
     law_of_contents();
     parse(alloc, content)

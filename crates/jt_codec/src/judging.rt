@@ -125,7 +125,8 @@ pub fn judge_message(alloc: Global, header: &Header, body: &[u8]) -> Result<Opti
     requires { length body.now < 2 ^ 10 }
     ensures refusal { IfOk result (λ refusal. refusal
         ≡ result_err (message_read header.now.packet header.now.edition header.now.id body.now)) }
-    ensures no_memory { IsViewed header.now.packet header.now.edition header.now.id body.now → IsOk result }
+    ensures no_memory { IsViewed header.now.packet header.now.edition header.now.id body.now →
+        IsOk result }
 {
     match view_message(header, body) {
         Some(Ok(_)) => Ok(None),

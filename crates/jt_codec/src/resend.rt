@@ -97,7 +97,8 @@ fn judge(edition: Edition, octets: &[u8]) -> Result<(), Refusal>
 }
 
 fn read_count(reader: &mut Reader<'_>, wide: bool) -> Result<u16, Refusal>
-    ensures value { Finds (λ count. (count, reader.new.place)) result ((layouts.count wide).read reader.old.octets reader.old.place) }
+    ensures value { Finds (λ count. (count, reader.new.place)) result
+        ((layouts.count wide).read reader.old.octets reader.old.place) }
     ensures octets { reader.new.octets ≡ reader.old.octets }
 {
     if wide {

@@ -31,7 +31,8 @@ pub(crate) fn terminal_resend_row(
     edition: Edition,
     octets: &[u8],
 ) -> Result<Message, CodecError>
-    ensures { Answers (body_case (resend edition) message.TerminalResend terminal_resend_of) octets.now result }
+    ensures { Answers (body_case (resend edition) message.TerminalResend terminal_resend_of)
+        octets.now result }
 {
     Ok(Message::TerminalResend(read_resend(alloc, edition, octets)?))
 }
@@ -55,7 +56,8 @@ pub(crate) fn register_row(
     edition: Edition,
     octets: &[u8],
 ) -> Result<Message, CodecError>
-    ensures { Answers (body_case (register edition) message.Register register_of) octets.now result }
+    ensures { Answers (body_case (register edition) message.Register register_of)
+        octets.now result }
 {
     Ok(Message::Register(read_register(alloc, edition, octets)?))
 }
@@ -63,7 +65,8 @@ pub(crate) fn register_row(
 #[inline(never)]
 #[tactic(auto, using(jt_layout::proofs::Answering::answers_case))]
 pub(crate) fn register_reply_row(alloc: Global, octets: &[u8]) -> Result<Message, CodecError>
-    ensures { Answers (body_case register_reply message.RegisterReply register_reply_of) octets.now result }
+    ensures { Answers (body_case register_reply message.RegisterReply register_reply_of)
+        octets.now result }
 {
     Ok(Message::RegisterReply(read_register_reply(alloc, octets)?))
 }
@@ -99,7 +102,8 @@ pub(crate) fn query_some_row(alloc: Global, octets: &[u8]) -> Result<Message, Co
 #[inline(never)]
 #[tactic(auto, using(jt_layout::proofs::Answering::answers_case))]
 pub(crate) fn params_row(alloc: Global, octets: &[u8]) -> Result<Message, CodecError>
-    ensures { Answers (body_case params_reply (λ x. message.Params x.0 x.1) params_of) octets.now result }
+    ensures { Answers (body_case params_reply (λ x. message.Params x.0 x.1) params_of)
+        octets.now result }
 {
     let (reply, params) = read_params_reply(alloc, octets)?;
     Ok(Message::Params { reply, params })
@@ -116,7 +120,8 @@ pub(crate) fn position_row(alloc: Global, octets: &[u8]) -> Result<Message, Code
 #[inline(never)]
 #[tactic(auto, using(jt_layout::proofs::Answering::answers_case))]
 pub(crate) fn position_reply_row(alloc: Global, octets: &[u8]) -> Result<Message, CodecError>
-    ensures { Answers (body_case position_reply (λ x. message.PositionReply x.0 x.1) position_reply_of) octets.now result }
+    ensures { Answers (body_case position_reply (λ x. message.PositionReply x.0 x.1)
+        position_reply_of) octets.now result }
 {
     let (reply, position) = read_position_reply(alloc, octets)?;
     Ok(Message::PositionReply { reply, position })
@@ -142,7 +147,8 @@ pub(crate) fn batch_row(alloc: Global, octets: &[u8]) -> Result<Message, CodecEr
 #[inline(never)]
 #[tactic(auto, using(jt_layout::proofs::Answering::answers_case))]
 pub(crate) fn text_row(alloc: Global, octets: &[u8]) -> Result<Message, CodecError>
-    ensures { Answers (body_case octet_and_text (λ x. message.Text x.0 None x.1) text_of) octets.now result }
+    ensures { Answers (body_case octet_and_text (λ x. message.Text x.0 None x.1) text_of)
+        octets.now result }
 {
     let (flag, text) = read_octet_and_text(alloc, octets)?;
     let kind = None;
@@ -153,7 +159,8 @@ pub(crate) fn text_row(alloc: Global, octets: &[u8]) -> Result<Message, CodecErr
 #[inline(never)]
 #[tactic(auto, using(jt_layout::proofs::Answering::answers_case))]
 pub(crate) fn kind_text_row(alloc: Global, octets: &[u8]) -> Result<Message, CodecError>
-    ensures { Answers (body_case flag_kind_and_text (λ x. message.Text x.0 (Some x.1) x.2) kind_text_of) octets.now result }
+    ensures { Answers (body_case flag_kind_and_text (λ x. message.Text x.0 (Some x.1) x.2)
+        kind_text_of) octets.now result }
 {
     let (flag, kind, text) = read_flag_kind_and_text(alloc, octets)?;
     let kind = Some(kind);
@@ -163,7 +170,8 @@ pub(crate) fn kind_text_row(alloc: Global, octets: &[u8]) -> Result<Message, Cod
 #[inline(never)]
 #[tactic(auto, using(jt_layout::proofs::Answering::answers_case))]
 pub(crate) fn control_row(alloc: Global, octets: &[u8]) -> Result<Message, CodecError>
-    ensures { Answers (body_case octet_and_text (λ x. message.Control x.0 x.1) control_of) octets.now result }
+    ensures { Answers (body_case octet_and_text (λ x. message.Control x.0 x.1) control_of)
+        octets.now result }
 {
     let (command, text) = read_octet_and_text(alloc, octets)?;
     Ok(Message::Control { command, text })
@@ -172,7 +180,8 @@ pub(crate) fn control_row(alloc: Global, octets: &[u8]) -> Result<Message, Codec
 #[inline(never)]
 #[tactic(auto, using(jt_layout::proofs::Answering::answers_case))]
 pub(crate) fn circles_row(alloc: Global, octets: &[u8]) -> Result<Message, CodecError>
-    ensures { Answers (body_case circles (λ x. message.Circles x.0 x.1) circles_of) octets.now result }
+    ensures { Answers (body_case circles (λ x. message.Circles x.0 x.1) circles_of)
+        octets.now result }
 {
     let (setting, list) = read_circles(alloc, octets)?;
     Ok(Message::Circles { setting, list })
@@ -181,7 +190,8 @@ pub(crate) fn circles_row(alloc: Global, octets: &[u8]) -> Result<Message, Codec
 #[inline(never)]
 #[tactic(auto, using(jt_layout::proofs::Answering::answers_case))]
 pub(crate) fn rectangles_row(alloc: Global, octets: &[u8]) -> Result<Message, CodecError>
-    ensures { Answers (body_case rectangles (λ x. message.Rectangles x.0 x.1) rectangles_of) octets.now result }
+    ensures { Answers (body_case rectangles (λ x. message.Rectangles x.0 x.1) rectangles_of)
+        octets.now result }
 {
     let (setting, list) = read_rectangles(alloc, octets)?;
     Ok(Message::Rectangles { setting, list })

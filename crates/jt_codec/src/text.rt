@@ -23,14 +23,17 @@ fn octet_and_slice<'a>(octets: &'a [u8]) -> Result<(u8, &'a [u8]), Refusal>
 
 // A flag or a command, and the text behind it, in place.
 pub(crate) fn view_octet_and_text<'a>(octets: &'a [u8]) -> Result<(u8, &'a [u8]), Refusal>
-    ensures { MatchResult result (λ fields. Fills octet_and_text octets.now 0 (fields.0, fields.1.now)) (λ refusal. octet_and_text.Refuses octets.now 0 refusal) }
+    ensures { MatchResult result
+        (λ fields. Fills octet_and_text octets.now 0 (fields.0, fields.1.now))
+        (λ refusal. octet_and_text.Refuses octets.now 0 refusal) }
 {
     octet_and_slice(octets)
 }
 
 #[tactic(auto, unfolding(crate::specs::Layouts::flag_kind_and_text, jt_layout::specs::Layout::rest))]
 fn flag_kind_and_slice<'a>(octets: &'a [u8]) -> Result<(u8, u8, &'a [u8]), Refusal>
-    ensures { Finds (λ fields. (fields.0, fields.1, fields.2.now)) result (flag_kind_and_text.read octets.now 0) }
+    ensures { Finds (λ fields. (fields.0, fields.1, fields.2.now)) result
+        (flag_kind_and_text.read octets.now 0) }
 {
     let mut reader = Reader::new(octets);
     let flag = reader.byte()?;
@@ -40,7 +43,9 @@ fn flag_kind_and_slice<'a>(octets: &'a [u8]) -> Result<(u8, u8, &'a [u8]), Refus
 
 // A flag, a kind and the text behind them, in place.
 pub(crate) fn view_flag_kind_and_text<'a>(octets: &'a [u8]) -> Result<(u8, u8, &'a [u8]), Refusal>
-    ensures { MatchResult result (λ fields. Fills flag_kind_and_text octets.now 0 (fields.0, fields.1, fields.2.now)) (λ refusal. flag_kind_and_text.Refuses octets.now 0 refusal) }
+    ensures { MatchResult result
+        (λ fields. Fills flag_kind_and_text octets.now 0 (fields.0, fields.1, fields.2.now))
+        (λ refusal. flag_kind_and_text.Refuses octets.now 0 refusal) }
 {
     flag_kind_and_slice(octets)
 }
@@ -123,7 +128,8 @@ pub(crate) fn write_text(
     text: &Octets,
 ) -> Result<Octets, Memory>
     requires { Fits edition (message.Text flag kind text.now) }
-    ensures { IfOk result (λ octets. octets ≡ body_octets edition (message.Text flag kind text.now)) }
+    ensures { IfOk result (λ octets.
+        octets ≡ body_octets edition (message.Text flag kind text.now)) }
 {
     match (edition, kind) {
         (Edition::E2019, Some(kind)) => write_flag_kind_and_text(alloc, flag, kind, text),

@@ -13,7 +13,8 @@ use std::alloc::Global;
 // The validity, which may be missing where the interval is 0.
 #[tactic(auto, unfolding(jt_layout::specs::Layout::only_if))]
 fn validity_in(reader: &mut Reader<'_>, interval: u16) -> Result<Option<u32>, Refusal>
-    ensures { Finds (λ validity. validity) result ((if_body (interval == 0) (may_end dword) (ended (only_if true dword))).read reader.old.octets reader.old.place) }
+    ensures { Finds (λ validity. validity) result ((if_body (interval == 0) (may_end dword)
+        (ended (only_if true dword))).read reader.old.octets reader.old.place) }
 {
     if interval == 0 && reader.is_at_end() {
         return Ok(None);
@@ -35,7 +36,8 @@ fn track_in(octets: &[u8]) -> Result<(u16, Option<u32>), Refusal>
 
 // The interval and the validity, both in seconds.
 pub(crate) fn view_track(octets: &[u8]) -> Result<(u16, Option<u32>), Refusal>
-    ensures { MatchResult result (Fills track octets.now 0) (λ refusal. track.Refuses octets.now 0 refusal) }
+    ensures { MatchResult result (Fills track octets.now 0)
+        (λ refusal. track.Refuses octets.now 0 refusal) }
 {
     track_in(octets)
 }

@@ -4,7 +4,7 @@ ghost use Rattle.std.specs.Prelude.{◌≡◌, ◌<◌, ◌^◌, ◌↔◌, Ok, 
 ghost use Rattle.jt_layout.specs.Layout.{Fills};
 ghost use Rattle.jt_codec.specs.Bodies.{body};
 ghost use Rattle.jt_codec.specs.Parsing.{message_read};
-ghost use Rattle.jt_codec.specs.Viewing.{IsReadInPlace, IsViewed, viewed};
+ghost use Rattle.jt_codec.specs.Viewing.{IsReadInPlace, IsViewed, message_in_view};
 
 use crate::ack::view_ack;
 use crate::empty::view_empty;
@@ -77,7 +77,7 @@ pub enum MessageView<'a> {
 #[tactic(auto, unfolding(crate::specs::Bodies::body), using(jt_layout::proofs::Answering::answers_case))]
 fn view_text<'a>(edition: Edition, octets: &'a [u8]) -> Result<MessageView<'a>, Refusal>
     ensures { MatchResult result
-        (λ view. Fills (body edition 0x8300) octets.now 0 (viewed view))
+        (λ view. Fills (body edition 0x8300) octets.now 0 (message_in_view view))
         (λ refusal. (body edition 0x8300).Refuses octets.now 0 refusal) }
 {
     match edition {
@@ -105,7 +105,7 @@ fn view_row<'a>(
 ) -> Option<Result<MessageView<'a>, Refusal>>
     ensures some { IsSome result ↔ IsReadInPlace edition id octets.now }
     ensures answer { IfSome result (λ answer. MatchResult answer
-        (λ view. Fills (body edition id) octets.now 0 (viewed view))
+        (λ view. Fills (body edition id) octets.now 0 (message_in_view view))
         (λ refusal. (body edition id).Refuses octets.now 0 refusal)) }
 {
     match id {
@@ -162,10 +162,13 @@ fn view_row<'a>(
 #[inline(always)]
 pub fn view_message<'a>(header: &Header, body: &'a [u8]) -> Option<Result<MessageView<'a>, Refusal>>
     requires { length body.now < 2 ^ 10 }
-    ensures some { IsSome result ↔ IsViewed header.now.packet header.now.edition header.now.id body.now }
+    ensures some { IsSome result
+        ↔ IsViewed header.now.packet header.now.edition header.now.id body.now }
     ensures answer { IfSome result (λ answer. MatchResult answer
-        (λ view. message_read header.now.packet header.now.edition header.now.id body.now ≡ Ok (viewed view))
-        (λ refusal. message_read header.now.packet header.now.edition header.now.id body.now ≡ Err refusal)) }
+        (λ view. message_read header.now.packet header.now.edition header.now.id body.now
+        ≡ Ok (message_in_view view))
+        (λ refusal. message_read header.now.packet header.now.edition header.now.id body.now
+        ≡ Err refusal)) }
 {
     if header.packet.is_some() {
         return Some(Ok(MessageView::Part(body)));

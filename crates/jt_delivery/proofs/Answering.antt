@@ -22,7 +22,7 @@ use Rattle.jt_platform.specs.History.{live, closed, holder, or_else, takes, regi
 use Rattle.jt_platform.specs.Allowed.{makes_entry, RegisterReply, AuthReply, StoreReply, GuardedReply}
 use Rattle.jt_platform.specs.Laws.{shelf_of}
 use Rattle.jt_delivery.specs.World.{Up, Authentication, OtherMessage, Sending, Down, Admission, Line, World, IsOpened, opening, row_at, number_at}
-use Rattle.jt_delivery.specs.Steps.{shut, AreOthers, Outcome, Answered, Quiet, Stopped, Answers, Cuts, RestartsPlatform, MayTake, MayAnswer, IsWritten, is_fenced, entry, after}
+use Rattle.jt_delivery.specs.Steps.{closed_line, AreOthers, Outcome, Answered, Quiet, Stopped, Answers, Cuts, RestartsPlatform, MayTake, MayAnswer, IsWritten, is_fenced, entry, after}
 use Rattle.jt_delivery.specs.Record.{top, seen, Carries, Took, TookAfter, HolderIs, RowsOk, LineOk, LastRowOk, InUseOk, Stands, units_in, accepted_in, AnswersInOrder}
 use Rattle.jt_delivery.specs.Claim.{IsRenumbered}
 use Rattle.jt_delivery.proofs.Lists.{put_elim, Chain_ok}
@@ -226,7 +226,7 @@ answer_kept near w l m q o v take may = goes near w l q m o (record { inv = v; m
 
 -- ---- the platform's end is closed
 
-line_shut : (key : List ℕ) (units : List Row) (a j : ℕ) (takers : List ℕ) (h h2 : List Entry) (l : ℕ) (x : Line) → LineOk key units a j takers h l x → LineOk key units a j takers h2 l (shut x)
+line_shut : (key : List ℕ) (units : List Row) (a j : ℕ) (takers : List ℕ) (h h2 : List Entry) (l : ℕ) (x : Line) → LineOk key units a j takers h l x → LineOk key units a j takers h2 l (closed_line x)
 line_shut key units a j takers h h2 l x o = record {
   first_formed = o.first_formed;
   formed_units = o.formed_units;
@@ -243,7 +243,7 @@ line_shut key units a j takers h h2 l x o = record {
   order = shut_order o.order;
 }
   where
-    shut_order : AnswersInOrder x → AnswersInOrder (shut x)
+    shut_order : AnswersInOrder x → AnswersInOrder (closed_line x)
     shut_order (inl e) = inl e
     shut_order (inr b) = inr (b.0, b.1, λ p. absurd (false≢true p))
 
@@ -251,17 +251,17 @@ pub cut_kept : (w : World) (l : ℕ) → Stands w → IsOpened w.count l → Sta
 cut_kept w l v m = record {
   units = v.units;
   rows = v.rows;
-  lines = λ k. put_elim (λ n y. IsOpened w.count n → LineOk w.key w.units w.accepted (length w.keeper.rows) w.takers h n y) w.lines l (shut (w.lines l)) (λ lt. line_shut w.key w.units w.accepted (length w.keeper.rows) w.takers w.history h l (w.lines l) (v.lines l lt)) k
+  lines = λ k. put_elim (λ n y. IsOpened w.count n → LineOk w.key w.units w.accepted (length w.keeper.rows) w.takers h n y) w.lines l (closed_line (w.lines l)) (λ lt. line_shut w.key w.units w.accepted (length w.keeper.rows) w.takers w.history h l (w.lines l) (v.lines l lt)) k
       (λ n lt. line_other w.key w.units w.accepted (length w.keeper.rows) (length w.keeper.rows) w.takers w.takers w.history h k (w.lines k) (v.lines k lt) (omega arith) (λ t. t) (λ t. t) (live_other w.key l k ask.Close say.Accepted w.history n) (closed_other l k ask.Close say.Accepted w.history n));
-  across = across_put w.count w.lines l (shut (w.lines l)) (λ k n nk nn. v.across k n) (λ k one kl lc. v.across k l one kl lc) (λ n one ln nc. v.across l n one ln nc);
+  across = across_put w.count w.lines l (closed_line (w.lines l)) (λ k n nk nn. v.across k n) (λ k one kl lc. v.across k l one kl lc) (λ n one ln nc. v.across l n one ln nc);
   takers = record {
     opened = v.takers.opened;
     unopened = λ k ge. let n : k ≢ l = λ s. absurd (omega (arith, m.1)) in (live_other w.key l k ask.Close say.Accepted w.history n ∙ (v.takers.unopened k ge).0, closed_other l k ask.Close say.Accepted w.history n ∙ (v.takers.unopened k ge).1);
-    fence = fence_put w.lines w.takers l (shut (w.lines l)) v.takers.fence (λ k t lt c. v.takers.fence l k t lt c);
+    fence = fence_put w.lines w.takers l (closed_line (w.lines l)) v.takers.fence (λ k t lt c. v.takers.fence l k t lt c);
     holder_last = v.takers.holder_last;
   };
-  last_row = λ some. last_put w.lines w.takers (length w.keeper.rows) w.row_line l (shut (w.lines l)) (v.last_row some) (λ s. subst (λ r. length w.keeper.rows ≤ top (w.lines r).first (w.lines r).gone) s (v.last_row some).there);
-  in_use = λ u. put_elim (λ n y. n ≡ w.count → InUseOk w.units w.accepted w.count y) w.lines l (shut (w.lines l))
+  last_row = λ some. last_put w.lines w.takers (length w.keeper.rows) w.row_line l (closed_line (w.lines l)) (v.last_row some) (λ s. subst (λ r. length w.keeper.rows ≤ top (w.lines r).first (w.lines r).gone) s (v.last_row some).there);
+  in_use = λ u. put_elim (λ n y. n ≡ w.count → InUseOk w.units w.accepted w.count y) w.lines l (closed_line (w.lines l))
       (λ s. let i : InUseOk w.units w.accepted w.count (w.lines l) = rw s (v.in_use u) in record { some_line = i.some_line; accepted_sent = i.accepted_sent; chain = i.chain })
       w.count (λ n s. v.in_use u) refl;
   told = v.told;

@@ -1,5 +1,6 @@
 -- Seven facts about every world that is reached (this project's own), over messages and numbers that do not wrap. To be believed.
 use Rattle.std.specs.Prelude.{◌≡◌, ◌⊎◌, ℕ, suc, ◌+◌, ◌<◌, ◌≤◌, List, [], ◌∷◌, ◌++◌, length, take, true, false}
+use Rattle.jt_value.specs.declared.limits.TheConstants.{UNIT_WINDOW}
 use Rattle.jt_platform.specs.declared.request.Entry.{Entry}
 use Rattle.jt_platform.specs.History.{live, takes}
 use Rattle.jt_delivery.specs.World.{World, Setting, Up, Sending, Down, Acceptance, Line, IsOpened, IsSentIn, HasAdmission, number_at}
@@ -20,7 +21,7 @@ abbrev pub IsSending : Line → List Up → ℕ → ℕ → Type 0
 IsSending line older place formed = (newer : List Up) × (all_up line ≡ newer ++ Sending place formed ∷ older)
 
 -- The units accepted are no more than the rows, and these no more than the units. The rows are the first units, with their numbers.
-pub record Counts (w : World) : Type 0 where
+pub record CountsInOrder (w : World) : Type 0 where
   pub accepted : w.accepted ≤ length w.keeper.rows
   pub stored : length w.keeper.rows ≤ length w.units
   pub first_units : w.keeper.rows ≡ take (length w.keeper.rows) w.units
@@ -28,9 +29,9 @@ pub record Counts (w : World) : Type 0 where
 -- Each unit's number is at most 32,766 above that of the unit before it, and, if it is not accepted, above that of the last accepted
 -- unit. The first is at most 32,765.
 pub record Numbers (w : World) : Type 0 where
-  pub near_before : (place : ℕ) → suc place < length w.units → number_at w.units (suc place) ≤ number_at w.units place + 32766
-  pub near_mark : (place : ℕ) → w.accepted ≤ place → place < length w.units → number_at w.units place < past_accepted w.units w.accepted + 32766
-  pub first : 0 < length w.units → number_at w.units 0 ≤ 32765
+  pub near_before : (place : ℕ) → suc place < length w.units → number_at w.units (suc place) ≤ number_at w.units place + UNIT_WINDOW
+  pub near_mark : (place : ℕ) → w.accepted ≤ place → place < length w.units → number_at w.units place < past_accepted w.units w.accepted + UNIT_WINDOW
+  pub first : 0 < length w.units → number_at w.units 0 ≤ (UNIT_WINDOW - 1)
 
 -- On each line a unit is written only after every older unit that was not accepted when the line was opened.
 abbrev pub Order : World → Type 0
@@ -41,7 +42,7 @@ Order w = (number : ℕ) → IsOpened w.count number → (before : List Up) (pla
 -- later is written after it on that line, or not on that line.
 pub record Closeness (w : World) : Type 0 where
   pub near : (number : ℕ) → IsOpened w.count number → (before : List Up) (place formed : ℕ) → IsSending (w.lines number) before place formed
-      → (other : ℕ) → other < formed → number_at w.units other ≤ number_at w.units place + 32765
+      → (other : ℕ) → other < formed → number_at w.units other ≤ number_at w.units place + (UNIT_WINDOW - 1)
   pub later : (number : ℕ) → IsOpened w.count number → (before : List Up) (place formed : ℕ) → IsSending (w.lines number) before place formed
       → (other : ℕ) → formed ≤ other → IsSentIn before other → ⊥
 
@@ -68,11 +69,11 @@ pub record Acceptances (w : World) : Type 0 where
 -- The number of a unit whose acceptance is not yet read on the line in use is more than that of the last accepted unit less 32,766, and
 -- at most 32,766 above it.
 pub record Window (w : World) : Type 0 where
-  pub above : w.using ≡ true → (before behind : List Down) (place formed : ℕ) → (w.lines w.count).unread ≡ before ++ Acceptance place formed ∷ behind → past_accepted w.units w.accepted ≤ number_at w.units place + 32766
-  pub below : w.using ≡ true → (before behind : List Down) (place formed : ℕ) → (w.lines w.count).unread ≡ before ++ Acceptance place formed ∷ behind → number_at w.units place < past_accepted w.units w.accepted + 32766
+  pub above : w.using ≡ true → (before behind : List Down) (place formed : ℕ) → (w.lines w.count).unread ≡ before ++ Acceptance place formed ∷ behind → past_accepted w.units w.accepted ≤ number_at w.units place + UNIT_WINDOW
+  pub below : w.using ≡ true → (before behind : List Down) (place formed : ℕ) → (w.lines w.count).unread ≡ before ++ Acceptance place formed ∷ behind → number_at w.units place < past_accepted w.units w.accepted + UNIT_WINDOW
 
 pub record Parts (w : World) : Type 0 where
-  pub counts : Counts w
+  pub counts : CountsInOrder w
   pub numbers : Numbers w
   pub order : Order w
   pub closeness : Closeness w

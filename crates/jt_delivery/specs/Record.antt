@@ -8,6 +8,7 @@ use Rattle.jt_platform.specs.History.{live, closed, holder}
 use Rattle.jt_platform.specs.Laws.{shelf_of}
 use Rattle.jt_delivery.specs.World.{Up, Authentication, OtherMessage, Sending, Down, Admission, Acceptance, OtherAnswer, Line, World, IsOpened, number_at, WasSent, HasAdmission}
 use mathlib.Core.List.{IsPrefix}
+use Rattle.jt_value.specs.declared.limits.TheConstants.{UNIT_WINDOW}
 use Rattle.jt_store.specs.Units.{past_accepted, fixes_in}
 use Rattle.jt_delivery.specs.Claim.{NoneRenumbered}
 
@@ -48,7 +49,7 @@ line_top line = end_top (top line.first line.gone) line.waiting
 pub record SendOk (units : List Row) (place formed : ℕ) : Type 0 where
   pub before : place < formed
   pub known : formed ≤ length units
-  pub near : number_at units (formed - 1) ≤ number_at units place + 32765
+  pub near : number_at units (formed - 1) ≤ number_at units place + (UNIT_WINDOW - 1)
 
 -- What is true of a sending by what was sent before it on its line: up to `before`, and with `seen_by` units formed at the last one.
 pub record Follows (units : List Row) (first before seen_by place formed : ℕ) : Type 0 where
@@ -138,9 +139,9 @@ HolderIs (Some h) (t ∷ takers) = h ≡ t
 -- numbers rise, each near the one before it, and those that are not accepted near the last accepted one
 pub record UnitsOk (units : List Row) (accepted : ℕ) : Type 0 where
   pub rise : (older newer : ℕ) → older < newer → newer < length units → number_at units older < number_at units newer
-  pub near_before : (place : ℕ) → suc place < length units → number_at units (suc place) ≤ number_at units place + 32766
-  pub near_first : 0 < length units → number_at units 0 ≤ 32765
-  pub near_mark : (place : ℕ) → accepted ≤ place → place < length units → number_at units place ≤ past_accepted units accepted + 32765
+  pub near_before : (place : ℕ) → suc place < length units → number_at units (suc place) ≤ number_at units place + UNIT_WINDOW
+  pub near_first : 0 < length units → number_at units 0 ≤ (UNIT_WINDOW - 1)
+  pub near_mark : (place : ℕ) → accepted ≤ place → place < length units → number_at units place ≤ past_accepted units accepted + (UNIT_WINDOW - 1)
 
 -- the rows are the first units, and those that are accepted are among them
 pub record RowsOk (units : List Row) (accepted : ℕ) (rows : List Row) : Type 0 where

@@ -153,8 +153,8 @@ says line message = record line { waiting = line.waiting ++ message ∷ [] }
 abbrev pub reads : Line → Down → List Down → Line
 reads line answer rest = record line { read = answer ∷ line.read; unread = rest }
 
-abbrev pub shut : Line → Line
-shut line = record line { is_open = false }
+abbrev pub closed_line : Line → Line
+closed_line line = record line { is_open = false }
 
 -- what a session writes
 abbrev pub written : Outcome → List Down
@@ -173,8 +173,8 @@ ends (Quiet answers) = false
 ends Stopped = true
 
 -- the line behind one more message
-abbrev pub moved : Line → Up → List Up → Outcome → Line
-moved line message rest outcome = record line { gone = message ∷ line.gone; waiting = rest; unread = line.unread ++ written outcome; ended = ends outcome }
+abbrev pub line_after_message : Line → Up → List Up → Outcome → Line
+line_after_message line message rest outcome = record line { gone = message ∷ line.gone; waiting = rest; unread = line.unread ++ written outcome; ended = ends outcome }
 
 abbrev pub entry : ℕ → Request → Reply → Entry
 entry number request reply = record { session = number; request = request; reply = reply }
@@ -211,12 +211,12 @@ after w (Answers number message rest outcome) = record w {
   history = entries number outcome ++ w.history;
   takers = takers_after w number outcome;
   row_line = row_line_after w.row_line number message outcome;
-  lines = put w.lines number (moved (w.lines number) message rest outcome);
+  lines = put w.lines number (line_after_message (w.lines number) message rest outcome);
   just = None;
 }
 after w (Hears answer rest named) = record w { lines = put w.lines w.count (reads (w.lines w.count) answer rest); told = named ++ w.told; just = Some answer }
 after w Accepts = record w { accepted = suc w.accepted; just = None }
 after w Loses = without_line w
 after w Restarts = without_line w
-after w (Cuts number) = record w { history = entry number ask.Close say.Accepted ∷ w.history; lines = put w.lines number (shut (w.lines number)); just = None }
-after w RestartsPlatform = record w { history = []; began = w.keeper; lines = λ number. shut (w.lines number); just = None }
+after w (Cuts number) = record w { history = entry number ask.Close say.Accepted ∷ w.history; lines = put w.lines number (closed_line (w.lines number)); just = None }
+after w RestartsPlatform = record w { history = []; began = w.keeper; lines = λ number. closed_line (w.lines number); just = None }

@@ -4,7 +4,7 @@ use Rattle.std.proofs.lemmas.Bool.{cases_eq, ne_eqb}
 use Rattle.std.proofs.lemmas.List.{append-nil}
 use Rattle.std.proofs.lemmas.List.Concat.{flat_map-append}
 use Rattle.jt_escape.specs.Frame.{escaped_octet, escaped}
-use Rattle.jt_escape.specs.Span.{HasNoFlag, IsUpToFlag, Span, Frame, Stray, Empty, BadEscape, TooLong, Unfinished, Escaping, octets_of, IsSpan, stream_of, AreSpans}
+use Rattle.jt_escape.specs.Span.{HasNoFlag, IsUpToFlag, Span, Frame, Stray, Empty, BadEscape, TooLong, Unfinished, Escaping, span_octets, IsSpan, stream_of, AreSpans}
 
 -- a stream as spans
 pub record Cut (stream : List ℕ) : Type 0 where
@@ -37,13 +37,13 @@ HasNoFlag-push [] octet none other = (other, tt)
 HasNoFlag-push (first ∷ skipped) octet none other = (none.0, HasNoFlag-push skipped octet none.1 other)
 
 -- a stream of one span
-alone : (span : Span) → IsSpan span [] → (stream : List ℕ) → stream ≡ octets_of span → Cut stream
-alone span is stream e = record { spans = span ∷ []; whole = e ∙ sym (append-nil (octets_of span)); each = (is, tt) }
+alone : (span : Span) → IsSpan span [] → (stream : List ℕ) → stream ≡ span_octets span → Cut stream
+alone span is stream e = record { spans = span ∷ []; whole = e ∙ sym (append-nil (span_octets span)); each = (is, tt) }
 
 -- a span before a stream that is cut
-then_cut : (span : Span) (stream rest : List ℕ) → IsSpan span rest → stream ≡ octets_of span ++ rest → Cut rest → Cut stream
+then_cut : (span : Span) (stream rest : List ℕ) → IsSpan span rest → stream ≡ span_octets span ++ rest → Cut rest → Cut stream
 then_cut span stream rest is e cut =
-    record { spans = span ∷ cut.spans; whole = e ∙ ap (λ (xs : List ℕ). octets_of span ++ xs) cut.whole; each = (subst (IsSpan span) cut.whole is, cut.each) }
+    record { spans = span ∷ cut.spans; whole = e ∙ ap (λ (xs : List ℕ). span_octets span ++ xs) cut.whole; each = (subst (IsSpan span) cut.whole is, cut.each) }
 
 -- an unfinished span may end the stream
 final : (front : Span) → IsFront front → IsSpan front []
@@ -67,7 +67,7 @@ goes_on : (front more : List ℕ) (octet : ℕ) (stream : List ℕ) → more ≡
 goes_on front more octet stream e cut = subst Cut (ap (λ (xs : List ℕ). xs ++ stream) e ∙ append_assoc front (octet ∷ []) stream) cut
 
 -- one more octet ends the span
-ends_with : (span : Span) (front : List ℕ) (octet : ℕ) (stream : List ℕ) → IsSpan span stream → octets_of span ≡ front ++ octet ∷ [] → Cut stream → Cut (front ++ octet ∷ stream)
+ends_with : (span : Span) (front : List ℕ) (octet : ℕ) (stream : List ℕ) → IsSpan span stream → span_octets span ≡ front ++ octet ∷ [] → Cut stream → Cut (front ++ octet ∷ stream)
 ends_with span front octet stream is e cut =
     then_cut span (front ++ octet ∷ stream) stream is (sym (append_assoc front (octet ∷ []) stream) ∙ ap (λ (xs : List ℕ). xs ++ stream) (sym e)) cut
 
@@ -75,7 +75,7 @@ length-push : (content : List ℕ) (octet : ℕ) → length (content ++ octet �
 length-push content octet = length-append content (octet ∷ [])
 
 -- one more content octet
-unfinished-push : (content line : List ℕ) (octet : ℕ) → escaped_octet octet ≡ line → octets_of (Unfinished (content ++ octet ∷ [])) ≡ 0x7E ∷ (escaped content ++ line)
+unfinished-push : (content line : List ℕ) (octet : ℕ) → escaped_octet octet ≡ line → span_octets (Unfinished (content ++ octet ∷ [])) ≡ 0x7E ∷ (escaped content ++ line)
 unfinished-push content line octet e = ap (λ (xs : List ℕ). 0x7E ∷ xs) (escaped-push content octet ∙ ap (λ (xs : List ℕ). escaped content ++ xs) e)
 
 regroup : (content front more : List ℕ) → 0x7E ∷ (escaped content ++ (front ++ more)) ≡ (0x7E ∷ (escaped content ++ front)) ++ more
@@ -90,8 +90,8 @@ mutual
         | inr other ↦ cut_after stream (Stray (octet ∷ [])) (omega arith, (other, tt))
       ]
 
-  cut_after : (stream : List ℕ) (front : Span) → IsFront front → Cut (octets_of front ++ stream)
-  cut_after [] front is = alone front (final front is) (octets_of front ++ []) (append-nil (octets_of front))
+  cut_after : (stream : List ℕ) (front : Span) → IsFront front → Cut (span_octets front ++ stream)
+  cut_after [] front is = alone front (final front is) (span_octets front ++ []) (append-nil (span_octets front))
   cut_after (octet ∷ stream) (Frame content) is = absurd is
   cut_after (octet ∷ stream) Empty is = absurd is
   cut_after (octet ∷ stream) (Stray front) is =
@@ -106,19 +106,19 @@ mutual
         | inl e ↦ rw e (then_cut Empty (0x7E ∷ 0x7E ∷ stream) (0x7E ∷ stream) refl refl (cut_after stream (Unfinished []) (omega arith)))
         | inr flag ↦ elim (cases_eq octet 0x7D) [
           | inl e ↦ rw e (cut_after stream (Escaping []) (omega arith))
-          | inr escape ↦ goes_on (octets_of (Unfinished [])) (octets_of (Unfinished (octet ∷ []))) octet stream (unfinished-push [] (octet ∷ []) octet (plain octet flag escape)) (cut_after stream (Unfinished (octet ∷ [])) (omega arith))
+          | inr escape ↦ goes_on (span_octets (Unfinished [])) (span_octets (Unfinished (octet ∷ []))) octet stream (unfinished-push [] (octet ∷ []) octet (plain octet flag escape)) (cut_after stream (Unfinished (octet ∷ [])) (omega arith))
         ]
       ]
   cut_after (octet ∷ stream) (Unfinished (first ∷ others)) is =
       let content : List ℕ = first ∷ others in
       elim (cases_eq octet 0x7E) [
-        | inl e ↦ rw e (ends_with (Frame content) (octets_of (Unfinished content)) 0x7E stream (omega arith, is) refl (cut_outside stream))
+        | inl e ↦ rw e (ends_with (Frame content) (span_octets (Unfinished content)) 0x7E stream (omega arith, is) refl (cut_outside stream))
         | inr flag ↦ elim (cases_eq (length content) 1045) [
-          | inl full ↦ goes_on (octets_of (Unfinished content)) (octets_of (TooLong content octet [])) octet stream refl (cut_after stream (TooLong content octet []) (full, flag, tt))
+          | inl full ↦ goes_on (span_octets (Unfinished content)) (span_octets (TooLong content octet [])) octet stream refl (cut_after stream (TooLong content octet []) (full, flag, tt))
           | inr short ↦ elim (cases_eq octet 0x7D) [
-            | inl e ↦ rw e (goes_on (octets_of (Unfinished content)) (octets_of (Escaping content)) 0x7D stream refl (cut_after stream (Escaping content) (omega (arith, is, short))))
+            | inl e ↦ rw e (goes_on (span_octets (Unfinished content)) (span_octets (Escaping content)) 0x7D stream refl (cut_after stream (Escaping content) (omega (arith, is, short))))
             | inr escape ↦
-                goes_on (octets_of (Unfinished content)) (octets_of (Unfinished (content ++ octet ∷ []))) octet stream (unfinished-push content (octet ∷ []) octet (plain octet flag escape))
+                goes_on (span_octets (Unfinished content)) (span_octets (Unfinished (content ++ octet ∷ []))) octet stream (unfinished-push content (octet ∷ []) octet (plain octet flag escape))
                 (cut_after stream (Unfinished (content ++ octet ∷ [])) (omega (arith, is, short, length-push content octet)))
           ]
         ]
@@ -126,17 +126,17 @@ mutual
   cut_after (octet ∷ stream) (Escaping content) is =
       elim (cases_eq octet 1) [
         | inl e ↦
-            rw e (goes_on (octets_of (Escaping content)) (octets_of (Unfinished (content ++ 0x7D ∷ []))) 1 stream (unfinished-push content (0x7D ∷ 1 ∷ []) 0x7D refl ∙ regroup content (0x7D ∷ []) (1 ∷ []))
+            rw e (goes_on (span_octets (Escaping content)) (span_octets (Unfinished (content ++ 0x7D ∷ []))) 1 stream (unfinished-push content (0x7D ∷ 1 ∷ []) 0x7D refl ∙ regroup content (0x7D ∷ []) (1 ∷ []))
             (cut_after stream (Unfinished (content ++ 0x7D ∷ [])) (omega (arith, is, length-push content 0x7D))))
         | inr not1 ↦ elim (cases_eq octet 2) [
           | inl e ↦
-              rw e (goes_on (octets_of (Escaping content)) (octets_of (Unfinished (content ++ 0x7E ∷ []))) 2 stream (unfinished-push content (0x7D ∷ 2 ∷ []) 0x7E refl ∙ regroup content (0x7D ∷ []) (2 ∷ []))
+              rw e (goes_on (span_octets (Escaping content)) (span_octets (Unfinished (content ++ 0x7E ∷ []))) 2 stream (unfinished-push content (0x7D ∷ 2 ∷ []) 0x7E refl ∙ regroup content (0x7D ∷ []) (2 ∷ []))
               (cut_after stream (Unfinished (content ++ 0x7E ∷ [])) (omega (arith, is, length-push content 0x7E))))
           | inr not2 ↦ elim (cases_eq octet 0x7E) [
             | inl e ↦
-                ends_with (BadEscape content octet []) (octets_of (Escaping content)) octet stream (is, not1, not2, inl (e, refl)) (regroup content (0x7D ∷ []) (octet ∷ [])) (cut_outside stream)
+                ends_with (BadEscape content octet []) (span_octets (Escaping content)) octet stream (is, not1, not2, inl (e, refl)) (regroup content (0x7D ∷ []) (octet ∷ [])) (cut_outside stream)
             | inr other ↦
-                goes_on (octets_of (Escaping content)) (octets_of (BadEscape content octet [])) octet stream (regroup content (0x7D ∷ []) (octet ∷ []))
+                goes_on (span_octets (Escaping content)) (span_octets (BadEscape content octet [])) octet stream (regroup content (0x7D ∷ []) (octet ∷ []))
                 (cut_after stream (BadEscape content octet []) (is, not1, not2, other, tt))
           ]
         ]
@@ -144,19 +144,19 @@ mutual
   cut_after (octet ∷ stream) (BadEscape content first skipped) is =
       elim (cases_eq octet 0x7E) [
         | inl e ↦
-            rw e (ends_with (BadEscape content first (skipped ++ 0x7E ∷ [])) (octets_of (BadEscape content first skipped)) 0x7E stream
+            rw e (ends_with (BadEscape content first (skipped ++ 0x7E ∷ [])) (span_octets (BadEscape content first skipped)) 0x7E stream
             (is.0, is.1, is.2, inr (is.3, up_to_flag skipped stream is.4)) (regroup content (0x7D ∷ first ∷ skipped) (0x7E ∷ [])) (cut_outside stream))
         | inr other ↦
-            goes_on (octets_of (BadEscape content first skipped)) (octets_of (BadEscape content first (skipped ++ octet ∷ []))) octet stream (regroup content (0x7D ∷ first ∷ skipped) (octet ∷ []))
+            goes_on (span_octets (BadEscape content first skipped)) (span_octets (BadEscape content first (skipped ++ octet ∷ []))) octet stream (regroup content (0x7D ∷ first ∷ skipped) (octet ∷ []))
             (cut_after stream (BadEscape content first (skipped ++ octet ∷ [])) (is.0, is.1, is.2, is.3, HasNoFlag-push skipped octet is.4 other))
       ]
   cut_after (octet ∷ stream) (TooLong content first skipped) is =
       elim (cases_eq octet 0x7E) [
         | inl e ↦
-            rw e (ends_with (TooLong content first (skipped ++ 0x7E ∷ [])) (octets_of (TooLong content first skipped)) 0x7E stream
+            rw e (ends_with (TooLong content first (skipped ++ 0x7E ∷ [])) (span_octets (TooLong content first skipped)) 0x7E stream
             (is.0, is.1, up_to_flag skipped stream is.2) (regroup content (first ∷ skipped) (0x7E ∷ [])) (cut_outside stream))
         | inr other ↦
-            goes_on (octets_of (TooLong content first skipped)) (octets_of (TooLong content first (skipped ++ octet ∷ []))) octet stream (regroup content (first ∷ skipped) (octet ∷ []))
+            goes_on (span_octets (TooLong content first skipped)) (span_octets (TooLong content first (skipped ++ octet ∷ []))) octet stream (regroup content (first ∷ skipped) (octet ∷ []))
             (cut_after stream (TooLong content first (skipped ++ octet ∷ [])) (is.0, is.1, HasNoFlag-push skipped octet is.2 other))
       ]
 

@@ -6,7 +6,7 @@ use Rattle.std.proofs.Math.Seq.{take-append_seam, take-append-add}
 use Rattle.std.specs.Prelude.{All}
 use Rattle.std.specs.List.{flat_map}
 use Rattle.jt_escape.specs.Frame.{framed}
-use Rattle.jt_escape.specs.Span.{Event, Whole, IsContent, Span, Frame, Stray, Empty, BadEscape, TooLong, Unfinished, Escaping, octets_of, stream_of, AreSpans, events_from, contents_from, Events}
+use Rattle.jt_escape.specs.Span.{Event, Whole, IsContent, Span, Frame, Stray, Empty, BadEscape, TooLong, Unfinished, Escaping, span_octets, stream_of, AreSpans, events_from, contents_from, Events}
 use Rattle.jt_escape.proofs.Reading.{some_octets, front_first, whole_is}
 
 -- ---- frames, one after another
@@ -44,7 +44,7 @@ front_of s a b octet e some =
 -- an unfinished frame is the last span
 unfinished_last : (next : Span) (spans : List Span) → AreSpans (next ∷ spans) → stream_of (next ∷ spans) ≡ [] → ⊥
 unfinished_last next spans each e =
-    absurd (omega (arith, some_octets next (stream_of spans) each.0, length-append (octets_of next) (stream_of spans), ap length e))
+    absurd (omega (arith, some_octets next (stream_of spans) each.0, length-append (span_octets next) (stream_of spans), ap length e))
 
 -- the stream before its last octet has no frame
 no_earlier : (front a b : List ℕ) (octet : ℕ) (content : List ℕ) → Events front [] → front ++ octet ∷ [] ≡ a ++ b → 0 < length b
@@ -63,7 +63,7 @@ first_is (Frame other ∷ []) front octet opened content none e each read =
     (e ∙ append-nil (framed other) ∙ ap framed (sym same.0), same.1)
 first_is (Frame other ∷ next ∷ spans) front octet opened content none e each read =
     absurd (no_earlier front (framed other) (stream_of (next ∷ spans)) octet other none e
-    (omega (arith, some_octets next (stream_of spans) each.1.0, length-append (octets_of next) (stream_of spans))) (one_frame other each.0))
+    (omega (arith, some_octets next (stream_of spans) each.1.0, length-append (span_octets next) (stream_of spans))) (one_frame other each.0))
 first_is (Stray run ∷ spans) front octet opened content none e each read = absurd cc
 first_is (Empty ∷ spans) front octet opened content none e each read = absurd cc
 first_is (BadEscape other wrong skipped ∷ spans) front octet opened content none e each read = absurd cc

@@ -9,7 +9,7 @@ use Rattle.jt_escape.specs.declared.splitter.Split.{Split}
 use Rattle.jt_escape.specs.declared.splitter.Split.TheVariants as split
 use Rattle.jt_escape.specs.Span.{Whole, IsContent}
 use Rattle.jt_escape.specs.Scan.{State, after, events_of, opening, keeping_all, lending, lasting, IsPlain, AreAlike, RunsInPlace}
-use Rattle.jt_escape.specs.Splitter.{told, told_in_place, lent}
+use Rattle.jt_escape.specs.Splitter.{split_events, split_events_in_place, lent}
 use Rattle.jt_escape.proofs.Scanning.{at}
 use Rattle.jt_escape.proofs.Runs.{Runs-one, Runs-then, keeps_all_plain, opens_frame}
 
@@ -20,7 +20,7 @@ lent_kept state taken some =
     let more : eqb (length state.content) 0 ≡ false = ne_eqb _ _ (λ e. omega (arith, e)) in
     rw more refl
 
-pub told_kept : (answer : Split) (state : State) (taken : List ℕ) → (answer ≡ split.Content → 0 < length state.content) → told_in_place answer state taken ≡ told answer state
+pub told_kept : (answer : Split) (state : State) (taken : List ℕ) → (answer ≡ split.Content → 0 < length state.content) → split_events_in_place answer state taken ≡ split_events answer state
 told_kept split.More state taken some = refl
 told_kept split.Content state taken some = ap (λ (content : List ℕ). Whole state.opened content ∷ []) (lent_kept state taken (some refl))
 told_kept (split.Refused refusal) state taken some = refl

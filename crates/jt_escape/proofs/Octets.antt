@@ -4,7 +4,7 @@ use Rattle.std.proofs.lemmas.Bool.{cases_eq}
 use Rattle.std.proofs.lemmas.List.Elements.{All-nil, All-cons, All-append}
 use Rattle.std.specs.Prelude.{All}
 use Rattle.jt_escape.specs.Frame.{escaped_octet, escaped}
-use Rattle.jt_escape.specs.Span.{Event, Whole, HasOctets, Span, Frame, Stray, Empty, BadEscape, TooLong, Unfinished, Escaping, octets_of, stream_of, events_at, events_from, Events}
+use Rattle.jt_escape.specs.Span.{Event, Whole, HasOctets, Span, Frame, Stray, Empty, BadEscape, TooLong, Unfinished, Escaping, span_octets, stream_of, events_at, events_from, Events}
 use Rattle.jt_value.specs.Octets.{AreOctets}
 use Rattle.jt_value.proofs.OctetLists.{AreOctets-front, AreOctets-rest, AreOctets-nil, AreOctets-cons}
 use Rattle.jt_escape.proofs.Cutting.{plain}
@@ -30,7 +30,7 @@ unescaped (octet ∷ content) are =
 one_has : (event : Event) → HasOctets event → All HasOctets (event ∷ [])
 one_has event has = All-cons HasOctets event [] has (All-nil HasOctets)
 
-events_octets : (span : Span) (place : ℕ) → AreOctets (octets_of span) → All HasOctets (events_at place span)
+events_octets : (span : Span) (place : ℕ) → AreOctets (span_octets span) → All HasOctets (events_at place span)
 events_octets (Frame content) place all =
     one_has (Whole place content) (unescaped content (AreOctets-front (escaped content) (0x7E ∷ []) (AreOctets-rest (0x7E ∷ []) (escaped content ++ 0x7E ∷ []) all)))
 events_octets (Stray run) place all = one_has _ tt
@@ -43,9 +43,9 @@ events_octets (Escaping content) place all = All-nil HasOctets
 all_octets : (spans : List Span) (place : ℕ) → AreOctets (stream_of spans) → All HasOctets (events_from place spans)
 all_octets [] place all = All-nil HasOctets
 all_octets (span ∷ spans) place all =
-    All-append HasOctets (events_at place span) (events_from (place + length (octets_of span)) spans)
-    (events_octets span place (AreOctets-front (octets_of span) (stream_of spans) all))
-    (all_octets spans (place + length (octets_of span)) (AreOctets-rest (octets_of span) (stream_of spans) all))
+    All-append HasOctets (events_at place span) (events_from (place + length (span_octets span)) spans)
+    (events_octets span place (AreOctets-front (span_octets span) (stream_of spans) all))
+    (all_octets spans (place + length (span_octets span)) (AreOctets-rest (span_octets span) (stream_of spans) all))
 
 pub octets_held : (stream : List ℕ) (events : List Event) → AreOctets stream → Events stream events → All HasOctets events
 octets_held stream events all held =

@@ -5,7 +5,7 @@ use Rattle.std.proofs.lemmas.List.{append-nil, append_cancel_left}
 use Rattle.jt_value.specs.declared.refusal.Refusal.{Refusal}
 use Rattle.jt_escape.specs.declared.splitter.Mode.{Mode}
 use Rattle.jt_escape.specs.declared.splitter.Mode.TheVariants as modes
-use Rattle.jt_escape.specs.Span.{Event, Whole, Refused, Span, Frame, Stray, Empty, BadEscape, TooLong, Unfinished, Escaping, octets_of, IsSpan, stream_of, AreSpans, events_at, events_from, Events, end_at, end_of, Ends}
+use Rattle.jt_escape.specs.Span.{Event, Whole, Refused, Span, Frame, Stray, Empty, BadEscape, TooLong, Unfinished, Escaping, span_octets, IsSpan, stream_of, AreSpans, events_at, events_from, Events, end_at, end_of, Ends}
 use Rattle.jt_escape.specs.Scan.{end_of_stream, State, start, after, events_of, events_in, run, scan, end_in}
 use Rattle.jt_escape.proofs.Scanning.{last_in, scanned, end_events, all_from, scans}
 use Rattle.jt_escape.proofs.Cutting.{cut}
@@ -52,7 +52,7 @@ end_is (Unfinished content) place = refl
 end_is (Escaping content) place = refl
 
 -- a span has octets
-pub some_octets : (span : Span) (rest : List ℕ) → IsSpan span rest → 0 < length (octets_of span)
+pub some_octets : (span : Span) (rest : List ℕ) → IsSpan span rest → 0 < length (span_octets span)
 some_octets (Frame content) rest is = omega arith
 some_octets (Stray front) rest is = is.0
 some_octets Empty rest is = omega arith
@@ -89,17 +89,17 @@ run-append (octet ∷ stream) rest state = run-append stream rest (after state o
 -- without its end, and with it
 without_end : (spans : List Span) (place : ℕ) → all_from false place spans ≡ events_from place spans
 without_end [] place = refl
-without_end (span ∷ spans) place = rw (no_end span (place + length (octets_of span)), append-nil (events_at place span), without_end spans (place + length (octets_of span))) refl
+without_end (span ∷ spans) place = rw (no_end span (place + length (span_octets span)), append-nil (events_at place span), without_end spans (place + length (span_octets span))) refl
 
 with_end : (spans : List Span) (place : ℕ) → AreSpans spans → all_from true place spans ≡ events_from place spans ++ bads (end_of (place + length (stream_of spans)) spans)
 with_end [] place each = refl
 with_end (span ∷ []) place each = simp (append-nil, end_is)
 with_end (span ∷ next ∷ spans) place each =
-    let later : 0 < length (stream_of (next ∷ spans)) = omega (arith, some_octets next (stream_of spans) each.1.0, length-append (octets_of next) (stream_of spans)) in
-    let first : end_events true (place + length (octets_of span)) span ≡ [] = not_last span (stream_of (next ∷ spans)) (place + length (octets_of span)) each.0 later in
-    let rest = with_end (next ∷ spans) (place + length (octets_of span)) each.1 in
-    let total : (place + length (octets_of span)) + length (stream_of (next ∷ spans)) ≡ place + length (stream_of (span ∷ next ∷ spans)) = omega (arith, length-append (octets_of span) (stream_of (next ∷ spans))) in
-    let place' : ℕ = place + length (octets_of span) in
+    let later : 0 < length (stream_of (next ∷ spans)) = omega (arith, some_octets next (stream_of spans) each.1.0, length-append (span_octets next) (stream_of spans)) in
+    let first : end_events true (place + length (span_octets span)) span ≡ [] = not_last span (stream_of (next ∷ spans)) (place + length (span_octets span)) each.0 later in
+    let rest = with_end (next ∷ spans) (place + length (span_octets span)) each.1 in
+    let total : (place + length (span_octets span)) + length (stream_of (next ∷ spans)) ≡ place + length (stream_of (span ∷ next ∷ spans)) = omega (arith, length-append (span_octets span) (stream_of (next ∷ spans))) in
+    let place' : ℕ = place + length (span_octets span) in
     ap (λ (xs : List Event). (events_at place span ++ xs) ++ all_from true place' (next ∷ spans)) first
     ∙ ap (λ (xs : List Event). xs ++ all_from true place' (next ∷ spans)) (append-nil (events_at place span))
     ∙ ap (λ (xs : List Event). events_at place span ++ xs) (rest ∙ ap (λ (n : ℕ). events_from place' (next ∷ spans) ++ bads (end_of n (next ∷ spans))) total)

@@ -7,7 +7,7 @@ use Rattle.jt_value.specs.declared.refusal.Why.TheVariants as why
 use Rattle.jt_escape.specs.declared.splitter.Mode.{Mode}
 use Rattle.jt_escape.specs.declared.splitter.Mode.TheVariants as modes
 use Rattle.jt_escape.specs.Frame.{escaped_octet, escaped}
-use Rattle.jt_escape.specs.Span.{Event, Whole, refused_at, HasNoFlag, IsUpToFlag, IsAtFlagOrEnd, Span, Frame, Stray, Empty, BadEscape, TooLong, Unfinished, Escaping, octets_of, IsSpan, stream_of, AreSpans, events_at}
+use Rattle.jt_escape.specs.Span.{Event, Whole, refused_at, HasNoFlag, IsUpToFlag, IsAtFlagOrEnd, Span, Frame, Stray, Empty, BadEscape, TooLong, Unfinished, Escaping, span_octets, IsSpan, stream_of, AreSpans, events_at}
 use Rattle.jt_escape.specs.Scan.{State, after, events_of}
 
 -- a state by its parts
@@ -42,7 +42,7 @@ module _ (ending : Bool) where
   -- the events of spans, with those of the end after each
   abbrev pub all_from : ℕ → List Span → List Event
   all_from place [] = []
-  all_from place (span ∷ spans) = (events_at place span ++ end_events (place + length (octets_of span)) span) ++ all_from (place + length (octets_of span)) spans
+  all_from place (span ∷ spans) = (events_at place span ++ end_events (place + length (span_octets span)) span) ++ all_from (place + length (span_octets span)) spans
 
   -- ---- inside a frame
 
@@ -166,7 +166,7 @@ module _ (ending : Bool) where
   end_moved place other e = ap (λ (n : ℕ). cond ending (refused_at why.Truncated n ∷ []) []) e ∙ sym (append-nil (cond ending (refused_at why.Truncated other ∷ []) []))
 
   -- each span brings its events
-  passes : (span : Span) (kept rest : List ℕ) (place opened : ℕ) → IsSpan span rest → Passes kept rest place opened (octets_of span) (events_at place span ++ end_events (place + length (octets_of span)) span)
+  passes : (span : Span) (kept rest : List ℕ) (place opened : ℕ) → IsSpan span rest → Passes kept rest place opened (span_octets span) (events_at place span ++ end_events (place + length (span_octets span)) span)
   unfolding after events_of
   passes (Frame content) kept rest place opened is = (
     content,
@@ -206,4 +206,4 @@ module _ (ending : Bool) where
   scans [] kept place opened each = refl
   scans (span ∷ spans) kept place opened each =
       let first = passes span kept (stream_of spans) place opened each.0 in
-      first.2 ∙ ap (λ (xs : List Event). (events_at place span ++ end_events (place + length (octets_of span)) span) ++ xs) (scans spans first.0 (place + length (octets_of span)) first.1 each.1)
+      first.2 ∙ ap (λ (xs : List Event). (events_at place span ++ end_events (place + length (span_octets span)) span) ++ xs) (scans spans first.0 (place + length (span_octets span)) first.1 each.1)

@@ -8,7 +8,7 @@ use Rattle.jt_escape.specs.declared.splitter.Split.{Split}
 use Rattle.jt_escape.specs.declared.splitter.Split.TheVariants as split
 use Rattle.jt_escape.specs.Span.{Whole, Ends}
 use Rattle.jt_escape.specs.Scan.{end_of_stream, State, start, after, after_in, events_of, events_in, run, end_in}
-use Rattle.jt_escape.specs.Splitter.{StandsFor, Continues, told}
+use Rattle.jt_escape.specs.Splitter.{StandsFor, Continues, split_events}
 use Rattle.jt_escape.proofs.Lasting.{end_like}
 use Rattle.jt_escape.proofs.Reading.{ended, whole_is}
 
@@ -72,6 +72,6 @@ some_in modes.Escaping state octet opened content e =
     ]
 some_in modes.Skipping state octet opened content e = absurd cc
 
-pub content_some : (old new : State) (octet : ℕ) (answer : Split) → told answer new ≡ events_of old octet → answer ≡ split.Content → 0 < length new.content
+pub content_some : (old new : State) (octet : ℕ) (answer : Split) → split_events answer new ≡ events_of old octet → answer ≡ split.Content → 0 < length new.content
 unfolding events_of
 content_some old new octet answer e is = some_in old.mode old octet new.opened new.content (rw is at e)

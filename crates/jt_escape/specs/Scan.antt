@@ -1,6 +1,7 @@
 -- Going through a stream octet by octet: the state that is kept, the next state, and the events on the way. A step
 -- function for the proofs.
 use Rattle.std.specs.Prelude.{◌≡◌, ◌≢◌, ◌⊎◌, Option, Some, None, ℕ, ◌+◌, ◌<◌, List, [], ◌∷◌, ◌++◌, length, take, ◌==◌, if◌then◌else◌}
+use Rattle.jt_value.specs.declared.limits.TheConstants.{CONTENT_LIMIT}
 use Rattle.jt_value.specs.declared.refusal.Why.TheVariants as why
 use Rattle.jt_value.specs.declared.refusal.Refusal.{Refusal}
 use Rattle.jt_escape.specs.declared.splitter.Mode.{Mode}
@@ -49,7 +50,7 @@ after_in Outside state octet = if octet == 0x7E then opening state else passing 
 after_in Straying state octet = if octet == 0x7E then opening state else passing state Straying
 after_in Inside state octet =
     if octet == 0x7E then (if length state.content == 0 then opening state else passing state Outside)
-    else if length state.content == 1045 then passing state Skipping
+    else if length state.content == CONTENT_LIMIT then passing state Skipping
     else if octet == 0x7D then passing state Escaping
     else keeping state octet
 after_in Escaping state octet =
@@ -69,7 +70,7 @@ events_in Straying state octet = []
 events_in Inside state octet =
     if octet == 0x7E
     then (if length state.content == 0 then refused_at why.EmptyFrame state.opened ∷ [] else Whole state.opened state.content ∷ [])
-    else if length state.content == 1045 then refused_at why.TooLong state.place ∷ []
+    else if length state.content == CONTENT_LIMIT then refused_at why.TooLong state.place ∷ []
     else []
 events_in Escaping state octet =
     if octet == 0x01 then [] else if octet == 0x02 then [] else refused_at why.BadEscape state.place ∷ []

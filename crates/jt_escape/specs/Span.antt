@@ -1,6 +1,7 @@
 -- What stands in a stream of octets: it is cut into spans, each span has one event or none, and a stream that ends
 -- inside a frame is refused at its end. The cut is this project's own, over the standard's frames. To be believed.
 use Rattle.std.specs.Prelude.{◌≡◌, ◌≢◌, ℕ, ◌+◌, ◌≤◌, ◌<◌, List, [], ◌∷◌, ◌++◌, length, ◌⊎◌, Option, Some, None}
+use Rattle.jt_value.specs.declared.limits.TheConstants.{CONTENT_LIMIT}
 use Rattle.jt_value.specs.Octets.{AreOctets}
 use Rattle.jt_value.specs.declared.refusal.Why.{Why}
 use Rattle.jt_value.specs.declared.refusal.Why.TheVariants as why
@@ -41,14 +42,14 @@ pub data Span : Type 0 where
   -- the same with an escape begun
   Escaping : List ℕ → Span
 
-abbrev pub octets_of : Span → List ℕ
-octets_of (Frame content) = framed content
-octets_of (Stray run) = run
-octets_of Empty = 0x7E ∷ []
-octets_of (BadEscape content octet skipped) = 0x7E ∷ escaped content ++ 0x7D ∷ octet ∷ skipped
-octets_of (TooLong content octet skipped) = 0x7E ∷ escaped content ++ octet ∷ skipped
-octets_of (Unfinished content) = 0x7E ∷ escaped content
-octets_of (Escaping content) = 0x7E ∷ escaped content ++ 0x7D ∷ []
+abbrev pub span_octets : Span → List ℕ
+span_octets (Frame content) = framed content
+span_octets (Stray run) = run
+span_octets Empty = 0x7E ∷ []
+span_octets (BadEscape content octet skipped) = 0x7E ∷ escaped content ++ 0x7D ∷ octet ∷ skipped
+span_octets (TooLong content octet skipped) = 0x7E ∷ escaped content ++ octet ∷ skipped
+span_octets (Unfinished content) = 0x7E ∷ escaped content
+span_octets (Escaping content) = 0x7E ∷ escaped content ++ 0x7D ∷ []
 
 -- no octet is a flag
 abbrev pub HasNoFlag : List ℕ → Type 0
@@ -72,7 +73,7 @@ IsAtFlagOrEnd (octet ∷ more) = octet ≡ 0x7E
 
 -- a content that a frame may have
 abbrev pub IsContent : List ℕ → Type 0
-IsContent content = (0 < length content) × (length content ≤ 1045)
+IsContent content = (0 < length content) × (length content ≤ CONTENT_LIMIT)
 
 -- the span may stand in a stream before this rest, and only the last span may be unfinished
 abbrev pub IsSpan : Span → List ℕ → Type 0
@@ -82,14 +83,14 @@ IsSpan Empty rest = BeginsWithFlag rest
 IsSpan (BadEscape content octet skipped) rest =
     (length content ≤ 1044) × (octet ≢ 0x01) × (octet ≢ 0x02)
     × (((octet ≡ 0x7E) × (skipped ≡ [])) ⊎ ((octet ≢ 0x7E) × IsUpToFlag skipped rest))
-IsSpan (TooLong content octet skipped) rest = (length content ≡ 1045) × (octet ≢ 0x7E) × IsUpToFlag skipped rest
-IsSpan (Unfinished content) rest = (length content ≤ 1045) × (rest ≡ [])
+IsSpan (TooLong content octet skipped) rest = (length content ≡ CONTENT_LIMIT) × (octet ≢ 0x7E) × IsUpToFlag skipped rest
+IsSpan (Unfinished content) rest = (length content ≤ CONTENT_LIMIT) × (rest ≡ [])
 IsSpan (Escaping content) rest = (length content ≤ 1044) × (rest ≡ [])
 
 -- the stream of these spans, one after another
 abbrev pub stream_of : List Span → List ℕ
 stream_of [] = []
-stream_of (span ∷ spans) = octets_of span ++ stream_of spans
+stream_of (span ∷ spans) = span_octets span ++ stream_of spans
 
 abbrev pub AreSpans : List Span → Type 0
 AreSpans [] = Unit {0}
@@ -109,7 +110,7 @@ events_at place (Escaping content) = []
 -- the events of spans, the first of which begins at this place
 abbrev pub events_from : ℕ → List Span → List Event
 events_from place [] = []
-events_from place (span ∷ spans) = events_at place span ++ events_from (place + length (octets_of span)) spans
+events_from place (span ∷ spans) = events_at place span ++ events_from (place + length (span_octets span)) spans
 
 -- the stream has these events
 pub record Events (stream : List ℕ) (events : List Event) : Type 0 where

@@ -45,10 +45,10 @@ abbrev pub IsSilentInPlace : State → List ℕ → Type 0
 IsSilentInPlace old octets = AddsNothing Continues old octets
 
 -- the events that an answer tells of the splitter that gave it
-abbrev pub told : Split → State → List Event
-told split.More state = []
-told split.Content state = Whole state.opened state.content ∷ []
-told (split.Refused refusal) state = Refused refusal ∷ []
+abbrev pub split_events : Split → State → List Event
+split_events split.More state = []
+split_events split.Content state = Whole state.opened state.content ∷ []
+split_events (split.Refused refusal) state = Refused refusal ∷ []
 
 -- The content that these octets completed: that of the splitter or, where it kept none, what stands between the first
 -- and the last of the octets.
@@ -56,7 +56,7 @@ abbrev pub lent : State → List ℕ → List ℕ
 lent state taken = if length state.content == 0 then slice_range taken 1 (length taken - 1) else state.content
 
 -- the events that an answer tells of these octets and of the splitter that took them
-abbrev pub told_in_place : Split → State → List ℕ → List Event
-told_in_place split.More state taken = []
-told_in_place split.Content state taken = Whole state.opened (lent state taken) ∷ []
-told_in_place (split.Refused refusal) state taken = Refused refusal ∷ []
+abbrev pub split_events_in_place : Split → State → List ℕ → List Event
+split_events_in_place split.More state taken = []
+split_events_in_place split.Content state taken = Whole state.opened (lent state taken) ∷ []
+split_events_in_place (split.Refused refusal) state taken = Refused refusal ∷ []

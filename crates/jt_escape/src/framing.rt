@@ -5,7 +5,7 @@ ghost use Rattle.std.specs.Simd.Lanes.{zip2};
 ghost use Rattle.jt_escape.specs.Frame.{check_of, framed};
 
 use arrayvec::ArrayVec;
-use jt_value::limits::FRAME_LIMIT;
+use jt_value::limits::{CONTENT_LIMIT, FRAME_LIMIT};
 use std::simd::prelude::*;
 
 /// Opens and closes a frame.
@@ -59,7 +59,7 @@ pub fn check(octets: &[u8]) -> u8
 
 /// Writes the frame of a content of at most 1,045 octets into an empty `out` (the standard's framing).
 pub fn escape_into(content: &[u8], out: &mut ArrayVec<u8, FRAME_LIMIT>)
-    requires short { length content.now ≤ 1045 }
+    requires short { length content.now ≤ CONTENT_LIMIT }
     requires empty { out.old.items ≡ [] }
     ensures { out.new.items ≡ framed content.now }
 {

@@ -17,8 +17,8 @@ pub fn law_one_list()
 
 /// The events of the front of a stream are the first events of the stream.
 pub fn law_front()
-    ensures { (front rest : List ℕ) (events all : List Event) →
-        Events front events → Events (front ++ rest) all → (more : List Event) × (all ≡ events ++ more) }
+    ensures { (front rest : List ℕ) (events all : List Event) → Events front events →
+        Events (front ++ rest) all → (more : List Event) × (all ≡ events ++ more) }
 {}
 
 /// One more octet brings one event at most.

@@ -5,7 +5,7 @@ ghost use Rattle.jt_value.specs.declared.refusal.Refusal.{Refusal};
 ghost use Rattle.jt_escape.specs.declared.splitter.Mode.TheVariants.{Outside, Straying, Inside, Escaping, Skipping};
 ghost use Rattle.jt_escape.specs.Span.{Ends, HasNoFlag, IsContent, refusal_at};
 ghost use Rattle.jt_escape.specs.Scan.{State, opening, passing, passing_all, keeping, keeping_all, gathering, standing, lending, after_in, after, events_in, events_of, end_in, IsPlain, Runs, RunsInPlace, StandsAtFront};
-ghost use Rattle.jt_escape.specs.Splitter.{StandsFor, Continues, Takes, TakesInPlace, IsSilent, IsSilentInPlace, told, lent, told_in_place};
+ghost use Rattle.jt_escape.specs.Splitter.{StandsFor, Continues, Takes, TakesInPlace, IsSilent, IsSilentInPlace, split_events, lent, split_events_in_place};
 
 use crate::framing::{ESCAPE, ESCAPE_CODE, FLAG, FLAG_CODE};
 use arrayvec::ArrayVec;
@@ -66,6 +66,7 @@ impl Model for Splitter {
     ghost use Rattle.std.specs.Prelude.{◌≡◌, ◌<◌, length};
     ghost use Rattle.jt_escape.specs.declared.splitter.Mode.TheVariants.{Escaping};
     ghost use Rattle.jt_escape.specs.Scan.{State};
+    ghost use Rattle.jt_value.specs.declared.limits.TheConstants.{CONTENT_LIMIT};
 
     ghost Value = { State };
 
@@ -76,7 +77,7 @@ impl Model for Splitter {
       opened = splitter.opened;
     } };
 
-    ghost invariant = { λ splitter. splitter.mode ≡ Escaping → length splitter.content.items < 1045 };
+    ghost invariant = { λ splitter. splitter.mode ≡ Escaping → length splitter.content.items < CONTENT_LIMIT };
 }
 
 fn refused(why: Why, at: u64) -> Split
@@ -104,7 +105,8 @@ fn plain_len(octets: &[u8]) -> usize
 // The octet that an escape with this code stands for.
 #[inline(always)]
 fn unescaped(code: u8) -> Option<u8>
-    ensures { IfSome result (λ octet. ((code ≡ 0x01) × (octet ≡ 0x7D)) ⊎ ((code ≡ 0x02) × (octet ≡ 0x7E))) }
+    ensures { IfSome result (λ octet.
+        ((code ≡ 0x01) × (octet ≡ 0x7D)) ⊎ ((code ≡ 0x02) × (octet ≡ 0x7E))) }
 {
     match code {
         ESCAPE_CODE => Some(ESCAPE),
@@ -133,7 +135,7 @@ fn front(octet: u8, code: u8) -> Option<(usize, u8)>
 #[inline(always)]
 fn plain_front(piece: &[u8]) -> usize
     requires { 0 < length piece.now }
-    ensures short { result ≤ 1045 }
+    ensures short { result ≤ CONTENT_LIMIT }
     ensures within { result + 1 ≤ length piece.now }
     ensures plain { IsPlain (slice_range piece.now 1 (result + 1)) }
 {
@@ -144,7 +146,8 @@ fn plain_front(piece: &[u8]) -> usize
 #[inline(always)]
 fn is_closed(piece: &[u8], count: usize) -> bool
     requires { count + 1 ≤ length piece.now }
-    ensures { IsTrue result → (0 < count) × (count + 2 ≤ length piece.now) × (slice_index piece.now (count + 1) ≡ 0x7E) }
+    ensures { IsTrue result →
+        (0 < count) × (count + 2 ≤ length piece.now) × (slice_index piece.now (count + 1) ≡ 0x7E) }
 {
     count > 0 && count + 1 < piece.len() && piece[count + 1] == FLAG
 }
@@ -177,7 +180,7 @@ impl Splitter {
 
     fn pass(&mut self, mode: Mode)
         requires place { self.old.place < 2 ^ 63 }
-        requires room { mode ≡ Escaping → length self.old.content < 1045 }
+        requires room { mode ≡ Escaping → length self.old.content < CONTENT_LIMIT }
         ensures { self.new ≡ passing self.old mode }
     {
         self.mode = mode;
@@ -186,7 +189,7 @@ impl Splitter {
 
     fn keep(&mut self, octet: u8)
         requires place { self.old.place < 2 ^ 63 }
-        requires room { length self.old.content < 1045 }
+        requires room { length self.old.content < CONTENT_LIMIT }
         ensures { self.new ≡ keeping self.old octet }
     {
         self.mode = Mode::Inside;
@@ -198,7 +201,7 @@ impl Splitter {
     fn take_inside(&mut self, octet: u8) -> Split
         requires { self.old.place < 2 ^ 63 }
         ensures next { self.new ≡ after_in Inside self.old octet }
-        ensures told { told result self.new ≡ events_in Inside self.old octet }
+        ensures told { split_events result self.new ≡ events_in Inside self.old octet }
     {
         let at = self.place;
         if octet == FLAG {
@@ -227,7 +230,7 @@ impl Splitter {
         requires place { self.old.place < 2 ^ 63 }
         requires mode { self.old.mode ≡ Escaping }
         ensures next { self.new ≡ after_in Escaping self.old octet }
-        ensures told { told result self.new ≡ events_in Escaping self.old octet }
+        ensures told { split_events result self.new ≡ events_in Escaping self.old octet }
     {
         let at = self.place;
         match octet {
@@ -254,7 +257,7 @@ impl Splitter {
     fn take_outside(&mut self, octet: u8) -> Split
         requires { self.old.place < 2 ^ 63 }
         ensures next { self.new ≡ after_in Outside self.old octet }
-        ensures told { told result self.new ≡ events_in Outside self.old octet }
+        ensures told { split_events result self.new ≡ events_in Outside self.old octet }
     {
         let at = self.place;
         if octet == FLAG {
@@ -271,7 +274,7 @@ impl Splitter {
     fn step(&mut self, octet: u8) -> Split
         requires { self.old.place < 2 ^ 63 }
         ensures next { self.new ≡ after self.old octet }
-        ensures told { told result self.new ≡ events_of self.old octet }
+        ensures told { split_events result self.new ≡ events_of self.old octet }
     {
         match self.mode {
             Mode::Outside => self.take_outside(octet),
@@ -300,7 +303,7 @@ impl Splitter {
     #[inline(always)]
     fn keep_all(&mut self, octets: &[u8])
         requires place { self.old.place + length octets.now < 2 ^ 63 }
-        requires room { length self.old.content + length octets.now ≤ 1045 }
+        requires room { length self.old.content + length octets.now ≤ CONTENT_LIMIT }
         ensures { self.new ≡ keeping_all self.old octets.now }
     {
         self.content.try_extend_from_slice(octets).unwrap();
@@ -335,7 +338,7 @@ impl Splitter {
     #[inline(always)]
     fn gather(&mut self, octet: u8)
         requires mode { self.old.mode ≡ Inside }
-        requires room { length self.old.content < 1045 }
+        requires room { length self.old.content < CONTENT_LIMIT }
         ensures { self.new ≡ gathering self.old octet }
     {
         self.content.push(octet);
@@ -346,13 +349,14 @@ impl Splitter {
     #[inline(always)]
     fn gather_escape(&mut self, octets: &[u8]) -> usize
         requires mode { self.old.mode ≡ Inside }
-        requires room { length self.old.content < 1045 }
+        requires room { length self.old.content < CONTENT_LIMIT }
         requires some { 0 < length octets.now }
         requires escape { slice_index octets.now 0 ≡ 0x7D }
         ensures within { result ≤ length octets.now }
         ensures mode { self.new.mode ≡ Inside }
         ensures place { self.new.place ≡ self.old.place }
-        ensures runs { (place : ℕ) → Runs (standing self.old place) (standing self.new (place + result)) (take result octets.now) [] }
+        ensures runs { (place : ℕ) → Runs (standing self.old place)
+            (standing self.new (place + result)) (take result octets.now) [] }
     {
         if octets.len() == 1 {
             return 0;
@@ -372,11 +376,12 @@ impl Splitter {
     #[inline(always)]
     fn gather_near(&mut self, octets: &[u8]) -> usize
         requires mode { self.old.mode ≡ Inside }
-        requires room { length self.old.content + length octets.now ≤ 1045 }
+        requires room { length self.old.content + length octets.now ≤ CONTENT_LIMIT }
         ensures within { result ≤ length octets.now }
         ensures mode { self.new.mode ≡ Inside }
         ensures place { self.new.place ≡ self.old.place }
-        ensures runs { Runs self.old (standing self.new (self.old.place + result)) (take result octets.now) [] }
+        ensures runs { Runs self.old (standing self.new (self.old.place + result))
+            (take result octets.now) [] }
     {
         if octets.is_empty() {
             return 0;
@@ -512,7 +517,7 @@ impl Splitter {
         ensures within { (run ≤ result.0) × (result.0 ≤ length octets.now) }
         ensures place { self.new.place + run ≡ self.old.place + result.0 }
         ensures runs { (before : State) → Runs before self.old (take run octets.now) []
-            → Runs before self.new (take result.0 octets.now) (told result.1 self.new) }
+            → Runs before self.new (take result.0 octets.now) (split_events result.1 self.new) }
         ensures content { result.1 ≡ Split.Content → 0 < length self.new.content }
     {
         if run == octets.len() {
@@ -531,7 +536,8 @@ impl Splitter {
         ensures some { 0 < result.0 }
         ensures within { result.0 ≤ length octets.now }
         ensures place { self.new.place ≡ self.old.place + result.0 }
-        ensures runs { Runs self.old self.new (take result.0 octets.now) (told result.1 self.new) }
+        ensures runs { Runs self.old self.new (take result.0 octets.now)
+            (split_events result.1 self.new) }
         ensures content { result.1 ≡ Split.Content → 0 < length self.new.content }
     {
         let run = self.keep_content(octets);
@@ -547,7 +553,8 @@ impl Splitter {
         ensures some { 0 < result.0 }
         ensures within { result.0 ≤ length octets.now }
         ensures place { self.new.place ≡ self.old.place + result.0 }
-        ensures runs { Runs self.old self.new (take result.0 octets.now) (told result.1 self.new) }
+        ensures runs { Runs self.old self.new (take result.0 octets.now)
+            (split_events result.1 self.new) }
         ensures content { result.1 ≡ Split.Content → 0 < length self.new.content }
     {
         let run = self.pass_run(octets);
@@ -562,7 +569,8 @@ impl Splitter {
         ensures some { 0 < result.0 }
         ensures within { result.0 ≤ length octets.now }
         ensures place { self.new.place ≡ self.old.place + result.0 }
-        ensures runs { Runs self.old self.new (take result.0 octets.now) (told result.1 self.new) }
+        ensures runs { Runs self.old self.new (take result.0 octets.now)
+            (split_events result.1 self.new) }
         ensures content { result.1 ≡ Split.Content → 0 < length self.new.content }
     {
         match self.mode {
@@ -577,7 +585,8 @@ impl Splitter {
         ensures within { result.0 ≤ length piece.now }
         ensures some { 0 < length piece.now → 0 < result.0 }
         ensures place { self.new.place ≡ self.old.place + result.0 }
-        ensures runs { Runs self.old self.new (take result.0 piece.now) (told result.1 self.new) }
+        ensures runs { Runs self.old self.new (take result.0 piece.now)
+            (split_events result.1 self.new) }
         ensures more { result.1 ≡ Split.More → result.0 ≡ length piece.now }
         ensures content { result.1 ≡ Split.Content → 0 < length self.new.content }
     {
@@ -601,13 +610,16 @@ impl Splitter {
         ensures taken { result.0 ≤ length piece.now }
         ensures some { 0 < length piece.now → 0 < result.0 }
         ensures place { self.new.place ≡ self.old.place + result.0 }
-        ensures events { Takes self.old self.new (take result.0 piece.now) (told result.1 self.new) }
+        ensures events { Takes self.old self.new (take result.0 piece.now)
+            (split_events result.1 self.new) }
         // The same also holds after `take_in_place`.
-        ensures in_place { TakesInPlace self.old self.new (take result.0 piece.now) (told result.1 self.new) }
+        ensures in_place { TakesInPlace self.old self.new (take result.0 piece.now)
+            (split_events result.1 self.new) }
         ensures more { result.1 ≡ Split.More → result.0 ≡ length piece.now }
         // No octet past the first that completes something is taken.
         ensures first { (count : ℕ) → count < result.0 → IsSilent self.old (take count piece.now) }
-        ensures first_in_place { (count : ℕ) → count < result.0 → IsSilentInPlace self.old (take count piece.now) }
+        ensures first_in_place { (count : ℕ) → count < result.0 →
+            IsSilentInPlace self.old (take count piece.now) }
         ensures content { result.1 ≡ Split.Content → 0 < length self.new.content }
     {
         self.take_all(piece)
@@ -646,10 +658,12 @@ impl Splitter {
         ensures within { (taken ≤ result.0) × (result.0 ≤ length piece.now) }
         ensures some { taken < length piece.now → taken < result.0 }
         ensures place { self.new.place + taken ≡ self.old.place + result.0 }
-        ensures runs { (before : State) → Runs before self.old (take taken piece.now) []
-            → RunsInPlace before self.new (take result.0 piece.now) (told_in_place result.1 self.new (take result.0 piece.now)) }
+        ensures runs { (before : State) → Runs before self.old (take taken piece.now) [] →
+            RunsInPlace before self.new (take result.0 piece.now)
+            (split_events_in_place result.1 self.new (take result.0 piece.now)) }
         ensures more { result.1 ≡ Split.More → result.0 ≡ length piece.now }
-        ensures content { result.1 ≡ Split.Content → IsContent (lent self.new (take result.0 piece.now)) }
+        ensures content { result.1 ≡ Split.Content →
+            IsContent (lent self.new (take result.0 piece.now)) }
     {
         let (count, split) = self.take_all(&piece[taken..]);
         // The place of a content has no more room, which callers could not know.
@@ -662,16 +676,17 @@ impl Splitter {
     fn take_begun(&mut self, piece: &[u8], count: usize) -> (usize, Split)
         requires place { self.old.place + length piece.now < 2 ^ 63 }
         requires mode { (self.old.mode ≡ Outside) ⊎ (self.old.mode ≡ Straying) }
-        requires short { count ≤ 1045 }
+        requires short { count ≤ CONTENT_LIMIT }
         requires within { count + 1 ≤ length piece.now }
         requires flag { slice_index piece.now 0 ≡ 0x7E }
         requires plain { IsPlain (slice_range piece.now 1 (count + 1)) }
         ensures within { (0 < result.0) × (result.0 ≤ length piece.now) }
         ensures place { self.new.place ≡ self.old.place + result.0 }
         ensures runs { RunsInPlace self.old self.new (take result.0 piece.now)
-            (told_in_place result.1 self.new (take result.0 piece.now)) }
+            (split_events_in_place result.1 self.new (take result.0 piece.now)) }
         ensures more { result.1 ≡ Split.More → result.0 ≡ length piece.now }
-        ensures content { result.1 ≡ Split.Content → IsContent (lent self.new (take result.0 piece.now)) }
+        ensures content { result.1 ≡ Split.Content →
+            IsContent (lent self.new (take result.0 piece.now)) }
     {
         self.open();
         self.keep_all(&piece[1..count + 1]);
@@ -689,9 +704,10 @@ impl Splitter {
         ensures within { (0 < result.0) × (result.0 ≤ length piece.now) }
         ensures place { self.new.place ≡ self.old.place + result.0 }
         ensures runs { RunsInPlace self.old self.new (take result.0 piece.now)
-            (told_in_place result.1 self.new (take result.0 piece.now)) }
+            (split_events_in_place result.1 self.new (take result.0 piece.now)) }
         ensures more { result.1 ≡ Split.More → result.0 ≡ length piece.now }
-        ensures content { result.1 ≡ Split.Content → IsContent (lent self.new (take result.0 piece.now)) }
+        ensures content { result.1 ≡ Split.Content →
+            IsContent (lent self.new (take result.0 piece.now)) }
     {
         let count = plain_front(piece);
         if !is_closed(piece, count) {
@@ -711,11 +727,13 @@ impl Splitter {
         ensures some { 0 < length piece.now → 0 < result.0 }
         ensures place { self.new.place ≡ self.old.place + result.0 }
         ensures events { TakesInPlace self.old self.new (take result.0 piece.now)
-            (told_in_place result.1 self.new (take result.0 piece.now)) }
+            (split_events_in_place result.1 self.new (take result.0 piece.now)) }
         ensures more { result.1 ≡ Split.More → result.0 ≡ length piece.now }
         // No octet past the first that completes something is taken.
-        ensures first { (count : ℕ) → count < result.0 → IsSilentInPlace self.old (take count piece.now) }
-        ensures content { result.1 ≡ Split.Content → IsContent (lent self.new (take result.0 piece.now)) }
+        ensures first { (count : ℕ) → count < result.0 →
+            IsSilentInPlace self.old (take count piece.now) }
+        ensures content { result.1 ≡ Split.Content →
+            IsContent (lent self.new (take result.0 piece.now)) }
     {
         if self.opens(piece) {
             return self.take_frame(piece);
@@ -740,9 +758,10 @@ impl Splitter {
     pub fn push(&mut self, octet: u8) -> Split
         requires { self.old.place < 2 ^ 63 }
         ensures place { self.new.place ≡ self.old.place + 1 }
-        ensures events { Takes self.old self.new (octet ∷ []) (told result self.new) }
+        ensures events { Takes self.old self.new (octet ∷ []) (split_events result self.new) }
         // The same also holds after `take_in_place`.
-        ensures in_place { TakesInPlace self.old self.new (octet ∷ []) (told result self.new) }
+        ensures in_place { TakesInPlace self.old self.new (octet ∷ [])
+            (split_events result self.new) }
         ensures content { result ≡ Split.Content → 0 < length self.new.content }
     {
         self.step(octet)
@@ -751,7 +770,7 @@ impl Splitter {
     /// The last whole content that `push` or `take` completed, until the next call that takes octets.
     pub fn content(&self) -> &[u8]
         ensures octets { result.now ≡ self.now.content }
-        ensures length { length result.now ≤ 1045 }
+        ensures length { length result.now ≤ CONTENT_LIMIT }
     {
         self.content.as_slice()
     }

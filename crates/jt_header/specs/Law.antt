@@ -1,6 +1,7 @@
 -- The law of contents: octets are one header and one body, or have one reason. To be believed.
 use Rattle.std.specs.Prelude.{◌≡◌, ◌↔◌, ◌+◌, ◌≤◌, ◌⊎◌, ℕ, List, ◌∷◌, ◌++◌, length, Option, None, Some, is_some}
 use Rattle.std.specs.List.{AllByRecursion}
+use Rattle.jt_value.specs.declared.limits.TheConstants.{CONTENT_LIMIT}
 use Rattle.jt_value.specs.Octets.{AreOctets}
 use Rattle.jt_value.specs.declared.refusal.Refusal.{Refusal}
 use Rattle.jt_header.specs.Content.{Content, header_len}
@@ -49,4 +50,4 @@ pub record IsFirstReason : Type 0 where
 abbrev pub IsLengthOfContent : Type 0
 IsLengthOfContent =
     (h : Header) (body octets : List ℕ) → Content h body octets
-    → (length octets ≡ header_len h.edition (is_some h.packet) + length body + 1) × (length octets ≤ 1045)
+    → (length octets ≡ header_len h.edition (is_some h.packet) + length body + 1) × (length octets ≤ CONTENT_LIMIT)

@@ -1,6 +1,7 @@
 //! Reading the header of a content, or the first reason against it.
 
 ghost use Rattle.std.specs.Prelude.{◌≡◌, ◌+◌, ◌<◌, ◌≤◌, ◌^◌, ℕ, List, [], ◌∷◌, length, IfOk, IfErr, MatchResult, IsOkAnd, None, Some};
+ghost use Rattle.jt_value.specs.declared.limits.TheConstants.{CONTENT_LIMIT};
 ghost use Rattle.jt_value.specs.Phone.{digits_of, field_len};
 ghost use Rattle.jt_header.specs.Content.{Content};
 ghost use Rattle.jt_header.specs.Fields.{attributes_at, edition_in, header_len_in, packet_at, packet_place, phone_place, serial_place, version_at, word_at};
@@ -42,7 +43,11 @@ const PLACES_2019: Places = Places {
 
 #[inline(always)]
 fn places_of(edition: Edition) -> Places
-    ensures { result ≡ record { phone = phone_place edition; serial = serial_place edition; packet = packet_place edition } }
+    ensures { result ≡ record {
+      phone = phone_place edition;
+      serial = serial_place edition;
+      packet = packet_place edition;
+    } }
 {
     match edition {
         Edition::E2013 => PLACES_2013,
@@ -85,10 +90,11 @@ fn word(content: &[u8], place: usize) -> u16
 #[inline(always)]
 #[tactic(auto, unfolding(crate::specs::Reason::too_short))]
 fn attributes(content: &[u8]) -> Result<Attributes, Refusal>
-    requires { length content.now ≤ 1045 }
+    requires { length content.now ≤ CONTENT_LIMIT }
     ensures row { Rejects result (too_short content.now) }
     ensures value { IfOk result (λ attributes. attributes.0 ≡ attributes_at content.now) }
-    ensures room { IfOk result (λ _. header_len_in (attributes_at content.now) < length content.now) }
+    ensures room { IfOk result (λ _.
+        header_len_in (attributes_at content.now) < length content.now) }
 {
     let len = content.len();
     if len < 5 {
@@ -105,7 +111,7 @@ fn attributes(content: &[u8]) -> Result<Attributes, Refusal>
 #[tactic(auto, unfolding(crate::specs::Reason::check_mismatch))]
 fn check_octet(content: &[u8]) -> Result<(), Refusal>
     requires some { 0 < length content.now }
-    requires short { length content.now ≤ 1045 }
+    requires short { length content.now ≤ CONTENT_LIMIT }
     ensures { Rejects result (check_mismatch content.now) }
 {
     let last = content.len() - 1;
@@ -121,7 +127,8 @@ fn check_octet(content: &[u8]) -> Result<(), Refusal>
 #[inline(always)]
 #[tactic(auto, unfolding(crate::specs::Reason::encrypted, crate::specs::Reason::length_mismatch))]
 fn attributes_hold(attributes: Attributes, actual: u16) -> Result<(), Refusal>
-    ensures { Rejects result (first_of (encrypted attributes.0 ∷ length_mismatch attributes.0 actual ∷ [])) }
+    ensures { Rejects result
+        (first_of (encrypted attributes.0 ∷ length_mismatch attributes.0 actual ∷ [])) }
 {
     if attributes.is_encrypted() {
         return Err(refusal(ATTRIBUTES, Why::Encrypted));
@@ -138,7 +145,8 @@ fn attributes_hold(attributes: Attributes, actual: u16) -> Result<(), Refusal>
 fn phone(edition: Edition, field: &[u8]) -> Result<Phone, Refusal>
     requires { length field.now ≡ field_len edition }
     ensures row { Rejects result (phone_digit edition field.now) }
-    ensures value { IfOk result (λ phone. phone ≡ record { edition = edition; digits = digits_of edition field.now }) }
+    ensures value { IfOk result (λ phone.
+        phone ≡ record { edition = edition; digits = digits_of edition field.now }) }
 {
     let start = places_of(edition).phone;
     let at_digit = |offset| refusal(start + offset as usize, Why::PhoneDigit);
@@ -174,7 +182,7 @@ fn packet(
 #[inline(always)]
 #[tactic(auto, unfolding(crate::specs::Reason::reason, crate::specs::Fields::header_in))]
 fn read(content: &[u8]) -> Result<(Header, &[u8]), Refusal>
-    requires { length content.now ≤ 1045 }
+    requires { length content.now ≤ CONTENT_LIMIT }
     ensures { MatchResult result (λ x. Reads content.now x.0 x.1.now)
         (λ refusal. reason content.now ≡ Some refusal) }
 {
@@ -205,7 +213,7 @@ fn read(content: &[u8]) -> Result<(Header, &[u8]), Refusal>
 /// 0.
 #[inline(always)]
 pub fn read_header(content: &[u8]) -> Result<(Header, &[u8]), Refusal>
-    requires { length content.now ≤ 1045 }
+    requires { length content.now ≤ CONTENT_LIMIT }
     // What is read is what the octets are.
     ensures content { IfOk result (λ x. Content x.0 x.1.now content.now) }
     // Each content is read, as what it is.

@@ -33,7 +33,7 @@ pub fn write_header(header: &Header, body_len: u16, out: &mut ArrayVec<u8, CONTE
 }
 
 fn put(out: &mut ArrayVec<u8, CONTENT_LIMIT>, octets: &[u8])
-    requires { length out.old.items + length octets.now ≤ 1045 }
+    requires { length out.old.items + length octets.now ≤ CONTENT_LIMIT }
     ensures { out.new.items ≡ out.old.items ++ octets.now }
 {
     out.try_extend_from_slice(octets).unwrap();

@@ -4,8 +4,8 @@ use Rattle.std.proofs.lemmas.Bool.{and_right, lt-leb}
 use Rattle.std.proofs.lemmas.Grind.{flat_map-append}
 use Rattle.std.proofs.lemmas.List.{take-append-drop, take_all}
 use Rattle.std.specs.List.{flat_map, position}
-use Rattle.jt_input.specs.Text.{IsLine, terminated, Cuts, lines_of, is_within}
-use Rattle.jt_input.specs.Cutter.{Held, Takes, IsBegun, IsBeyond, begun_of, begun_line}
+use Rattle.jt_input.specs.Text.{IsLine, with_line_feed, Cuts, lines_of, is_within}
+use Rattle.jt_input.specs.Cutter.{Held, CutsOctets, IsBegun, IsBeyond, begun_of, begun_line}
 use Rattle.jt_input.proofs.Lacking.{Lacks-append, front_before, lacks_all}
 use Rattle.jt_input.proofs.Lines.{AreLines-append, lines_of-front, lines_of-unfinished, some_line, long_line}
 
@@ -19,16 +19,16 @@ positive (suc n) e = omega arith
 
 pub cuts_more : (text begun octets : List ℕ) (lines : List (List ℕ)) → Cuts text lines begun → IsLine octets → Cuts (text ++ octets) lines (begun ++ octets)
 cuts_more text begun octets lines cuts h = record {
-  whole = rw (cuts.whole) (append_assoc (flat_map terminated lines) begun octets);
+  whole = rw (cuts.whole) (append_assoc (flat_map with_line_feed lines) begun octets);
   each = cuts.each;
   unfinished = Lacks-append 10 begun octets cuts.unfinished h;
 }
 
 pub cuts_line : (text begun front : List ℕ) (lines : List (List ℕ)) → Cuts text lines begun → IsLine front
-    → Cuts (text ++ terminated front) (lines ++ (begun ++ front) ∷ []) []
+    → Cuts (text ++ with_line_feed front) (lines ++ (begun ++ front) ∷ []) []
 cuts_line text begun front lines cuts h = record {
   whole =
-      rw (flat_map-append, append-nil) (ap (λ (t : List ℕ). t ++ terminated front) cuts.whole ∙ simp append_assoc);
+      rw (flat_map-append, append-nil) (ap (λ (t : List ℕ). t ++ with_line_feed front) cuts.whole ∙ simp append_assoc);
   each = AreLines-append lines ((begun ++ front) ∷ []) cuts.each (Lacks-append 10 begun front cuts.unfinished h, tt);
   unfinished = tt;
 }
@@ -64,7 +64,7 @@ too_long held octets part others is h long = λ text rest lines cuts.
 
 -- further octets of a line
 pub takes_more : (old new : Held) (piece : List ℕ) → position (λ x. eqb x 10) piece ≡ None → new.whole ≡ false
-    → new.line ≡ begun_of old ++ piece → new.number ≡ old.number → Takes old new (take (length piece) piece) []
+    → new.line ≡ begun_of old ++ piece → new.number ≡ old.number → CutsOctets old new (take (length piece) piece) []
 takes_more old new piece without begun line number = record {
   cuts = λ text lines cuts.
       let now : begun_of new ≡ begun_of old ++ piece = ap (λ (b : Bool). begun_line b new.line) begun ∙ line in
@@ -74,7 +74,7 @@ takes_more old new piece without begun line number = record {
 
 -- the rest of a line, and its line feed
 pub takes_line : (old new : Held) (piece : List ℕ) (end : ℕ) → position (λ x. eqb x 10) piece ≡ Some end → new.whole ≡ true
-    → new.line ≡ begun_of old ++ take end piece → new.number ≡ old.number + 1 → Takes old new (take (end + 1) piece) (new.line ∷ [])
+    → new.line ≡ begun_of old ++ take end piece → new.number ≡ old.number + 1 → CutsOctets old new (take (end + 1) piece) (new.line ∷ [])
 takes_line old new piece end found whole line number =
     let before = front_before 10 piece end found in
     record {

@@ -3,29 +3,29 @@ use Rattle.std.proofs.Common.{◌≡◌, ◌<◌, ◌≤◌, ℕ, List, [], ◌�
 use Rattle.std.proofs.lemmas.Bool.{cases_Bool, ne_eqb}
 use Rattle.std.proofs.lemmas.List.Concat.{flat_map-cons}
 use Rattle.std.specs.List.{flat_map}
-use Rattle.jt_input.specs.Text.{IsLine, AreLines, terminated, Cuts, into_first, lines_of}
+use Rattle.jt_input.specs.Text.{IsLine, AreLines, with_line_feed, Cuts, into_first, lines_of}
 
 pub AreLines-append : (xs ys : List (List ℕ)) → AreLines xs → AreLines ys → AreLines (xs ++ ys)
 AreLines-append [] ys h k = k
 AreLines-append (x ∷ xs) ys h k = (h.0, AreLines-append xs ys h.1 k)
 
 -- a line with its line feed is the first line
-pub lines_of-terminated : (line rest : List ℕ) → IsLine line → lines_of (terminated line ++ rest) ≡ line ∷ lines_of rest
-lines_of-terminated [] rest h = refl
-lines_of-terminated (x ∷ xs) rest h = rw (ne_eqb x 10 h.0, lines_of-terminated xs rest h.1) refl
+pub lines_of-with_line_feed : (line rest : List ℕ) → IsLine line → lines_of (with_line_feed line ++ rest) ≡ line ∷ lines_of rest
+lines_of-with_line_feed [] rest h = refl
+lines_of-with_line_feed (x ∷ xs) rest h = rw (ne_eqb x 10 h.0, lines_of-with_line_feed xs rest h.1) refl
 
 -- whole lines are the first lines
-pub lines_of-whole : (lines : List (List ℕ)) (rest : List ℕ) → AreLines lines → lines_of (flat_map terminated lines ++ rest) ≡ lines ++ lines_of rest
+pub lines_of-whole : (lines : List (List ℕ)) (rest : List ℕ) → AreLines lines → lines_of (flat_map with_line_feed lines ++ rest) ≡ lines ++ lines_of rest
 lines_of-whole [] rest h = refl
 lines_of-whole (line ∷ lines) rest h =
-    let parts : flat_map terminated (line ∷ lines) ++ rest ≡ terminated line ++ (flat_map terminated lines ++ rest) =
-    rw (flat_map-cons terminated line lines) (append_assoc (terminated line) (flat_map terminated lines) rest) in
-    ap lines_of parts ∙ lines_of-terminated line (flat_map terminated lines ++ rest) h.0 ∙ ap (λ (xs : List (List ℕ)). line ∷ xs) (lines_of-whole lines rest h.1)
+    let parts : flat_map with_line_feed (line ∷ lines) ++ rest ≡ with_line_feed line ++ (flat_map with_line_feed lines ++ rest) =
+    rw (flat_map-cons with_line_feed line lines) (append_assoc (with_line_feed line) (flat_map with_line_feed lines) rest) in
+    ap lines_of parts ∙ lines_of-with_line_feed line (flat_map with_line_feed lines ++ rest) h.0 ∙ ap (λ (xs : List (List ℕ)). line ∷ xs) (lines_of-whole lines rest h.1)
 
 -- what stands behind whole lines
 pub lines_of-front : (text rest begun : List ℕ) (lines : List (List ℕ)) → Cuts text lines begun → lines_of (text ++ rest) ≡ lines ++ lines_of (begun ++ rest)
 lines_of-front text rest begun lines cuts =
-    ap (λ (t : List ℕ). lines_of (t ++ rest)) cuts.whole ∙ ap lines_of (append_assoc (flat_map terminated lines) begun rest)
+    ap (λ (t : List ℕ). lines_of (t ++ rest)) cuts.whole ∙ ap lines_of (append_assoc (flat_map with_line_feed lines) begun rest)
     ∙ lines_of-whole lines (begun ++ rest) cuts.each
 
 -- an unfinished line is a line

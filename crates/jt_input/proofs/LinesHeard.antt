@@ -81,7 +81,7 @@ module _ {H : Type 0} (law : LinesOfFront) (outcome : H → ℕ → List (List �
   -- ---- one step
 
   -- octets that end no line
-  pub steps_more : (hearer : H) (old new : Held) (bad : Option ℕ) (octets text : List ℕ) → cutter.Takes old new octets [] → (IsBegun old → IsBegun new)
+  pub steps_more : (hearer : H) (old new : Held) (bad : Option ℕ) (octets text : List ℕ) → cutter.CutsOctets old new octets [] → (IsBegun old → IsBegun new)
       → room_of new + length octets ≤ room_of old → TakesOn outcome hearer hearer old new bad bad octets text text
   steps_more hearer old new bad octets text takes begun room = record {
     goes = goes_by hearer hearer old new bad bad octets [] text text (sym (append-nil text)) (λ first seen printed heard.
@@ -98,7 +98,7 @@ module _ {H : Type 0} (law : LinesOfFront) (outcome : H → ℕ → List (List �
   }
 
   -- octets that end a line, which was heard
-  pub steps_heard : (old new : H) (held held_now : Held) (bad : Option ℕ) (octets line text text_now : List ℕ) (number : ℕ) → cutter.Takes held held_now octets (line ∷ [])
+  pub steps_heard : (old new : H) (held held_now : Held) (bad : Option ℕ) (octets line text text_now : List ℕ) (number : ℕ) → cutter.CutsOctets held held_now octets (line ∷ [])
       → (IsBegun held → IsBegun held_now) → number ≡ held_now.number → HearsOn outcome old new number line text text_now
       → room_of held_now + length octets ≤ room_of held → TakesOn outcome old new held held_now bad bad octets text text_now
   steps_heard old new held held_now bad octets line text text_now number takes begun is hears room = record {
@@ -122,7 +122,7 @@ module _ {H : Type 0} (law : LinesOfFront) (outcome : H → ℕ → List (List �
 
   -- what comes of an input whose next line is this one
   next_line : (first old : H) (held held_now : Held) (bad : Option ℕ) (octets line seen printed rest : List ℕ) (taken number : ℕ) → HasHeard outcome first old held bad seen printed
-      → cutter.Takes held held_now (take taken octets) (line ∷ []) → number ≡ held_now.number
+      → cutter.CutsOctets held held_now (take taken octets) (line ∷ []) → number ≡ held_now.number
       → outcome first 1 (lines_of ((seen ++ octets) ++ rest)) ≡ printing printed (outcome old number (line ∷ lines_of (begun_of held_now ++ (drop taken octets ++ rest))))
   next_line first old held held_now bad octets line seen printed rest taken number heard takes is =
       let next : number ≡ held.number + 1 = is ∙ takes.number in
@@ -136,7 +136,7 @@ module _ {H : Type 0} (law : LinesOfFront) (outcome : H → ℕ → List (List �
 
   -- octets that end a line, which settled the answer
   pub steps_last : (old new : H) (held held_now : Held) (bad : Option ℕ) (octets line text text_now : List ℕ) (taken number : ℕ) (status : Status)
-      → cutter.Takes held held_now (take taken octets) (line ∷ []) → number ≡ held_now.number → HearsLast outcome old new number line text text_now status
+      → cutter.CutsOctets held held_now (take taken octets) (line ∷ []) → number ≡ held_now.number → HearsLast outcome old new number line text text_now status
       → TakesLast outcome old new held bad bad octets text text_now status
   steps_last old new held held_now bad octets line text text_now taken number status takes is hears =
       settles_by old new held bad bad octets hears.added text text_now status hears.text_is (λ first seen printed heard rest.
@@ -146,7 +146,7 @@ module _ {H : Type 0} (law : LinesOfFront) (outcome : H → ℕ → List (List �
 
   -- octets that end a line, which is bad
   pub steps_bad : (old mid new : H) (held held_now : Held) (bad bad_now : Option ℕ) (octets line text text_mid text_now : List ℕ) (taken number : ℕ)
-      → cutter.Takes held held_now (take taken octets) (line ∷ []) → number ≡ held_now.number → HearsBad outcome old mid number line text text_mid
+      → cutter.CutsOctets held held_now (take taken octets) (line ∷ []) → number ≡ held_now.number → HearsBad outcome old mid number line text text_mid
       → new ≡ mid → bad_now ≡ Some number → text_now ≡ text_mid ++ bad_line number → TakesLast outcome old new held bad bad_now octets text text_now Refused
   steps_bad old mid new held held_now bad bad_now octets line text text_mid text_now taken number takes is hears same that text_is =
       settles_by old new held bad bad_now octets (bad_line number) text text_now Refused (rw (← hears.text_is) text_is) (λ first seen printed heard rest.

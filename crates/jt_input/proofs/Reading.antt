@@ -4,23 +4,23 @@ use Rattle.std.proofs.Common.{◌≤◌, take, drop, arith, ◌≡◌, ◌++◌,
 use Rattle.std.specs.Io.KnownBytes.{Consumes, IsAtEnd}
 use Rattle.std.proofs.KnownBytes.{Consumes-trans}
 use Rattle.jt_input.specs.Text.{Cuts, lines_of, is_within}
-use Rattle.jt_input.specs.Cutter.{Held, Takes, begun_of, room_of, told, IsBeyond as IsBeyondHeld}
+use Rattle.jt_input.specs.Cutter.{Held, CutsOctets, begun_of, room_of, cut_lines, IsBeyond as IsBeyondHeld}
 use Rattle.jt_input.specs.declared.line_cutter.Cut.{Cut}
 use Rattle.jt_input.specs.declared.line_cutter.Cut.TheVariants as cut
 use Rattle.jt_input.specs.LineReading.{Reading, HasTold, IsBeyond}
-use Rattle.jt_input.specs.LineReading.{Tells}
+use Rattle.jt_input.specs.LineReading.{TellsLine}
 use Rattle.jt_input.specs.declared.line_reader.NextLine.{NextLine}
 use Rattle.jt_input.specs.declared.line_reader.NextLine.TheVariants as next
 use Rattle.jt_input.specs.Cutting.{CutsOn, Ends, ReadsOn}
 
 -- a cut
 pub after_cut : (answer : Cut) (old now : Reading) (text : List ℕ) (lines : List (List ℕ)) → CutsOn answer old now → HasTold old text lines
-    → HasTold now text (lines ++ told answer now.held)
+    → HasTold now text (lines ++ cut_lines answer now.held)
 after_cut answer old now text lines took h = record {
   front = h.front ++ took.octets;
   whole = h.whole ∙ ap (λ (t : List ℕ). h.front ++ t) took.split ∙ sym (append_assoc h.front took.octets now.ahead);
   cuts = took.takes.cuts h.front lines h.cuts;
-  number = took.takes.number ∙ ap (λ (n : ℕ). n + length (told answer now.held)) h.number ∙ sym (length-append lines (told answer now.held));
+  number = took.takes.number ∙ ap (λ (n : ℕ). n + length (cut_lines answer now.held)) h.number ∙ sym (length-append lines (cut_lines answer now.held));
 }
 
 -- a cut that completes nothing
@@ -59,7 +59,7 @@ none_left (x ∷ xs) h = absurd (omega arith)
 
 -- what a cutter took of what is ahead
 pub cuts_on : (answer : Cut) (old now : Held) (ahead ahead_now : List ℕ) (count : ℕ) → ahead_now ≡ drop count ahead → count ≤ length ahead
-    → Takes old now (take count ahead) (told answer now) → (answer ≡ cut.More → count ≡ length ahead) → room_of now + count ≤ room_of old
+    → CutsOctets old now (take count ahead) (cut_lines answer now) → (answer ≡ cut.More → count ≡ length ahead) → room_of now + count ≤ room_of old
     → (answer ≡ cut.Line → IsTrue (is_within now.number now.line)) → (answer ≡ cut.Bad → IsBeyondHeld old ahead)
     → CutsOn answer (record { held = old; ahead = ahead }) (record { held = now; ahead = ahead_now })
 cuts_on answer old now ahead ahead_now count is few takes more room line bad = record {
@@ -84,7 +84,7 @@ after_none old now text lines none none_now held h = record {
 
 -- what is told where the text ends
 pub at_end : (answer : NextLine) (now : Reading) (text : List ℕ) (left : Option (List ℕ)) (lines : List (List ℕ)) → HasTold now text lines → now.ahead ≡ []
-    → Ends answer now → IsAtEnd left → Tells answer now text left lines
+    → Ends answer now → IsAtEnd left → TellsLine answer now text left lines
 at_end next.Line now text left lines h none ends end = absurd ends
 at_end next.Last now text left lines h none ends end =
     (ap lines_of (all_cut now text lines none h) ∙ ends.0 h.front lines h.cuts, subst (λ (n : ℕ). IsTrue (is_within (n + 1) now.held.line)) h.number ends.1, end)
@@ -95,8 +95,8 @@ at_end next.Failed now text left lines h none ends end = absurd ends
 -- a piece that was read
 pub reads_on : (entry old mid now : Reading) (left left_mid left_now : Option (List ℕ)) → ReadsOn entry old left left_mid → CutsOn cut.More old mid → now.held ≡ mid.held
     → Consumes left_mid left_now now.ahead → ReadsOn entry now left left_now
-reads_on entry old mid now left left_mid left_now on took held consumed = λ text lines told.
-    let h = on text lines told in
+reads_on entry old mid now left left_mid left_now on took held consumed = λ text lines cut_lines.
+    let h = on text lines cut_lines in
     let more = after_more old mid (text ++ h.0) lines took h.2 in (
       h.0 ++ now.ahead,
       Consumes-trans left left_mid left_now h.0 now.ahead h.1 consumed,

@@ -4,7 +4,7 @@ use Rattle.std.proofs.KnownBytes.{Appends-nil}
 use Rattle.jt_outside.specs.Sink.{AppendsPrefix}
 use Rattle.jt_input.specs.Reply.{Reply}
 use Rattle.jt_input.specs.Running.{Writes, WritesOn, WritesRest, WritesPart, Advances, Finishes}
-use Rattle.jt_input.specs.Telling.{GoesOn, Settles, Takes, Ends}
+use Rattle.jt_input.specs.Telling.{GoesOn, Settles, TakesPiece, Ends}
 use Rattle.jt_input.specs.declared.status.Status.{Status}
 
 module _ {A : Type 0} (answer : A → List ℕ → Reply) (Stood Stands : A → List ℕ → List ℕ → Type 0) (HasTold : A → List ℕ → Type 0) where
@@ -56,7 +56,7 @@ module _ {A : Type 0} (answer : A → List ℕ → Reply) (Stood Stands : A → 
   }
 
   -- a piece was taken, and what is printed of it was written or the sink failed
-  pub advanced : (piece text : List ℕ) (written now : Option (List ℕ)) (settled result : Option Status) → Takes settled answer Stood Stands HasTold piece [] text
+  pub advanced : (piece text : List ℕ) (written now : Option (List ℕ)) (settled result : Option Status) → TakesPiece settled answer Stood Stands HasTold piece [] text
       → Writes written now text settled result → Advances result answer Stood Stands HasTold piece written now
   advanced piece text written now None result takes (inl whole) =
       let on : WritesOn answer Stood Stands piece written now =

@@ -30,6 +30,10 @@ IsFault StoreFault = ⊥
 IsFault NetFault = ⊥
 IsFault Unsent = ⊥
 
+-- memory was wanted for a text, or a write failed
+abbrev pub CutsShort : Status → Type 0
+CutsShort s = (s ≡ Memory) ⊎ (s ≡ WriteFault)
+
 -- the statuses that an input may be answered before its end
 abbrev pub EndsEarly : Status → Type 0
 EndsEarly Refused = Unit {0}
@@ -44,8 +48,8 @@ EndsEarly Memory = ⊥
 
 -- A run of this status took the sink from what was written before to what is written now, where it tells: by the whole
 -- of the reply's text, at the reply's status, or by a prefix of it, where the run had a fault.
-abbrev pub Answers : Status → Reply → Option (List ℕ) → Option (List ℕ) → Type 0
-Answers status reply old now = ((status ≡ reply.status) × Appends old now reply.text) ⊎ (IsFault status × AppendsPrefix old now reply.text)
+abbrev pub AnswersReply : Status → Reply → Option (List ℕ) → Option (List ℕ) → Type 0
+AnswersReply status reply old now = ((status ≡ reply.status) × Appends old now reply.text) ⊎ (IsFault status × AppendsPrefix old now reply.text)
 
 -- no octet that could follow these changes the answer, or none follows
 abbrev pub IsSettled : (List ℕ → Reply) → Option (List ℕ) → List ℕ → Type 0
@@ -56,7 +60,7 @@ IsSettled answer left taken = IsAtEnd left ⊎ ((rest : List ℕ) → answer (ta
 pub record Runs (answer : List ℕ → Reply) (left left_now old now : Option (List ℕ)) (status : Status) : Type 0 where
   pub taken : List ℕ
   pub consumed : Consumes left left_now taken
-  pub answers : Answers status (answer taken) old now
+  pub answers : AnswersReply status (answer taken) old now
   pub settled : IsFault status ⊎ IsSettled answer left_now taken
 
 -- this holds of the octets that were taken, and of them and all that could follow them, or none follows

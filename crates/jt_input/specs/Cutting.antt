@@ -4,7 +4,7 @@ use Rattle.std.specs.Io.KnownBytes.{Consumes, Keeps, IsAtEnd}
 use Rattle.jt_outside.specs.declared.source.Got.{Got}
 use Rattle.jt_outside.specs.declared.source.Got.TheVariants.{Bytes, End, Failed}
 use Rattle.jt_input.specs.Text.{is_within, lines_of, Cuts}
-use Rattle.jt_input.specs.Cutter.{Takes, IsBeyond, begun_of, room_of, told}
+use Rattle.jt_input.specs.Cutter.{CutsOctets, IsBeyond, begun_of, room_of, cut_lines}
 use Rattle.jt_input.specs.declared.line_cutter.Cut.{Cut}
 use Rattle.jt_input.specs.declared.line_cutter.Cut.TheVariants as cut
 use Rattle.jt_input.specs.declared.line_reader.NextLine.{NextLine}
@@ -15,7 +15,7 @@ use Rattle.jt_input.specs.LineReading.{Reading, HasTold}
 pub record CutsOn (answer : Cut) (old now : Reading) : Type 0 where
   pub octets : List ℕ
   pub split : old.ahead ≡ octets ++ now.ahead
-  pub takes : Takes old.held now.held octets (told answer now.held)
+  pub takes : CutsOctets old.held now.held octets (cut_lines answer now.held)
   pub more : answer ≡ cut.More → now.ahead ≡ []
   pub room : room_of now.held + length octets ≤ room_of old.held
   pub line : answer ≡ cut.Line → IsTrue (is_within now.held.number now.held.line)

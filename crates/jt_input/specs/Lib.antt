@@ -7,5 +7,6 @@ pub mod Answer
 pub mod Telling
 pub mod Running
 pub mod Lines
+pub mod EarlyEnds
 pub mod LineSteps
 pub mod Spelling

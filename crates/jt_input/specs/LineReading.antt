@@ -25,15 +25,15 @@ IsBeyond text lines = (rest : List ℕ) → (line : List ℕ) × (more : List (L
 
 -- What a call answers, where the text read is now this: a line, which is within the limits; the last line, which lacks its line
 -- feed; that no line is left; that the next one, of this number, is beyond the limits; or that a read failed.
-abbrev pub Tells : NextLine → Reading → List ℕ → Option (List ℕ) → List (List ℕ) → Type 0
-Tells next.Line now text left lines = HasTold now text (lines ++ now.held.line ∷ []) × IsTrue (is_within (length lines + 1) now.held.line)
-Tells next.Last now text left lines = (lines_of text ≡ lines ++ now.held.line ∷ []) × IsTrue (is_within (length lines + 1) now.held.line) × IsAtEnd left
-Tells next.End now text left lines = (lines_of text ≡ lines) × IsAtEnd left
-Tells (next.Bad number) now text left lines = (number ≡ length lines + 1) × IsBeyond text lines
-Tells next.Failed now text left lines = HasTold now text lines
+abbrev pub TellsLine : NextLine → Reading → List ℕ → Option (List ℕ) → List (List ℕ) → Type 0
+TellsLine next.Line now text left lines = HasTold now text (lines ++ now.held.line ∷ []) × IsTrue (is_within (length lines + 1) now.held.line)
+TellsLine next.Last now text left lines = (lines_of text ≡ lines ++ now.held.line ∷ []) × IsTrue (is_within (length lines + 1) now.held.line) × IsAtEnd left
+TellsLine next.End now text left lines = (lines_of text ≡ lines) × IsAtEnd left
+TellsLine (next.Bad number) now text left lines = (number ≡ length lines + 1) × IsBeyond text lines
+TellsLine next.Failed now text left lines = HasTold now text lines
 
 -- a call reads on, and answers
 pub record Goes (answer : NextLine) (now : Reading) (left left_now : Option (List ℕ)) (text : List ℕ) (lines : List (List ℕ)) : Type 0 where
   pub more : List ℕ
   pub consumed : Consumes left left_now more
-  pub tells : Tells answer now (text ++ more) left_now lines
+  pub tells : TellsLine answer now (text ++ more) left_now lines

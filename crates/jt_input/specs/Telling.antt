@@ -24,10 +24,10 @@ pub record Settles {A : Type 0} (answer : A → List ℕ → Reply) (Stood : A �
   pub told : (asked : A) (seen printed : List ℕ) → Stood asked seen printed → (rest : List ℕ) → HasTold asked ((seen ++ piece) ++ rest)
 
 -- what was done with a piece: the input stays open, or it is settled with this status
-abbrev pub Takes : {A : Type 0} → Option Status → (A → List ℕ → Reply) → (A → List ℕ → List ℕ → Type 0) → (A → List ℕ → List ℕ → Type 0) → (A → List ℕ → Type 0)
+abbrev pub TakesPiece : {A : Type 0} → Option Status → (A → List ℕ → Reply) → (A → List ℕ → List ℕ → Type 0) → (A → List ℕ → List ℕ → Type 0) → (A → List ℕ → Type 0)
     → List ℕ → List ℕ → List ℕ → Type 0
-Takes None answer Stood Stands HasTold piece text text_now = GoesOn answer Stood Stands piece text text_now
-Takes (Some status) answer Stood Stands HasTold piece text text_now = Settles answer Stood HasTold piece text text_now status
+TakesPiece None answer Stood Stands HasTold piece text text_now = GoesOn answer Stood Stands piece text text_now
+TakesPiece (Some status) answer Stood Stands HasTold piece text text_now = Settles answer Stood HasTold piece text text_now status
 
 -- the input ended here, and all of its answer is printed
 pub record Ends {A : Type 0} (answer : A → List ℕ → Reply) (Stood : A → List ℕ → List ℕ → Type 0) (HasTold : A → List ℕ → Type 0) (text text_now : List ℕ) (status : Status) : Type 0 where

@@ -6,7 +6,8 @@ ghost use Rattle.jt_input.specs.Spelling.{Reads};
 
 // Whether digits have no sign and no leading zero before them.
 fn is_plain(digits: &[u8]) -> bool
-    ensures { IsTrue result ↔ ((slice_index digits.now 0 ≢ 43) × (slice_index digits.now 0 ≡ 48 → length digits.now ≡ 1)) }
+    ensures { IsTrue result ↔ ((slice_index digits.now 0 ≢ 43)
+        × (slice_index digits.now 0 ≡ 48 → length digits.now ≡ 1)) }
 {
     match digits.first() {
         Some(b'+') => false,

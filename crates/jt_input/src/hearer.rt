@@ -40,14 +40,17 @@ pub trait Hearer {
     ) -> Result<Heard, Memory>
         requires can { can_hear self.old }
         requires within { IsTrue (is_within number line.now) }
-        ensures hears { IfOk result (λ heard. Hears heard outcome self.old self.new number line.now (string_bytes text.old) (string_bytes text.new)) }
+        ensures hears { IfOk result (λ heard. Hears heard outcome self.old self.new number line.now
+            (string_bytes text.old) (string_bytes text.new)) }
         ensures can { IfOk result (λ _. can_hear self.new) }
-        ensures early { IfOk result (λ heard. (status : Status) → heard ≡ Heard.Settled status → EndsEarly status) };
+        ensures early { IfOk result (λ heard.
+            (status : Status) → heard ≡ Heard.Settled status → EndsEarly status) };
 
     /// Puts what is printed at the end of an input without a bad line, and answers its status. Memory where memory was refused.
     fn close(&mut self, alloc: Global, text: &mut String) -> Result<Status, Memory>
         requires can { can_hear self.old }
-        ensures closes { IfOk result (λ status. Closes outcome self.old self.new (string_bytes text.old) (string_bytes text.new) status) }
+        ensures closes { IfOk result (λ status. Closes outcome self.old self.new
+            (string_bytes text.old) (string_bytes text.new) status) }
         ensures can { IfOk result (λ _. can_hear self.new) }
         ensures status { IfOk result (λ status. (status ≡ Status.Done) ⊎ EndsEarly status) };
 

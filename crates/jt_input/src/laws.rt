@@ -8,5 +8,6 @@ pub fn law_lines()
     ensures front { (text rest begun : List ℕ) (lines : List (List ℕ)) → Cuts text lines begun →
         lines_of (text ++ rest) ≡ lines ++ lines_of (begun ++ rest) }
     // An unfinished line is a line where it has an octet.
-    ensures unfinished { (begun : List ℕ) → IsLine begun → 0 < length begun → lines_of begun ≡ begun ∷ [] }
+    ensures unfinished { (begun : List ℕ) → IsLine begun → 0 < length begun →
+        lines_of begun ≡ begun ∷ [] }
 {}

@@ -3,6 +3,7 @@
 #![tactic(auto)]
 
 mod decimals;
+mod early_end;
 mod hearer;
 mod laws;
 mod line_cutter;
@@ -13,6 +14,7 @@ mod status;
 mod teller;
 
 pub use decimals::number;
+pub use early_end::{EarlyEnd, answer_early_end, write_reply};
 pub use hearer::{Heard, Hearer};
 pub use laws::law_lines;
 pub use line_cutter::{Cut, LineCutter};

@@ -2,7 +2,7 @@
 
 ghost use Rattle.std.specs.Prelude.{◌≡◌, ◌≤◌, ◌<◌, ◌+◌, ◌++◌, [], ◌∷◌, List, ℕ, length, take, true, false, IsTrue, IfSome, ◌==◌, position, option_to_list, option_copied};
 ghost use Rattle.jt_input.specs.Text.{Cuts, lines_of, is_within};
-ghost use Rattle.jt_input.specs.Cutter.{Takes, IsBegun, IsBeyond, begun_of, room_of, told};
+ghost use Rattle.jt_input.specs.Cutter.{CutsOctets, IsBegun, IsBeyond, begun_of, room_of, cut_lines};
 
 use arrayvec::ArrayVec;
 use std::marker::Model;
@@ -47,13 +47,14 @@ pub struct LineCutter {
 impl Model for LineCutter {
     ghost use Rattle.std.specs.Prelude.{◌≡◌, ◌≤◌, ◌<◌, false, length};
     ghost use Rattle.jt_input.specs.Cutter.{Held};
+    ghost use Rattle.jt_input.specs.declared.line_cutter.TheConstants.{LINES_LIMIT};
 
     ghost Value = { Held };
 
     ghost view = { λ cutter. record { line = cutter.line.items; whole = cutter.is_whole; number = cutter.number } };
 
     ghost invariant = { λ cutter.
-        (cutter.number ≤ 10000000) × (cutter.is_whole ≡ false → 0 < length cutter.line.items → cutter.number < 10000000) };
+        (cutter.number ≤ LINES_LIMIT) × (cutter.is_whole ≡ false → 0 < length cutter.line.items → cutter.number < LINES_LIMIT) };
 }
 
 impl LineCutter {
@@ -84,11 +85,12 @@ impl LineCutter {
 
     // Keeps further octets of the line. False where they are too many, and then nothing is kept.
     fn keep(&mut self, part: &[u8]) -> bool
-        requires number { self.old.number < 10000000 }
+        requires number { self.old.number < LINES_LIMIT }
         requires whole { self.old.whole ≡ false }
-        ensures kept { result ≡ true → self.new ≡ record self.old { line = self.old.line ++ part.now } }
-        ensures within { result ≡ true → length self.new.line ≤ 4096 }
-        ensures too_many { result ≡ false → 4096 < length self.old.line + length part.now }
+        ensures kept { result ≡ true →
+            self.new ≡ record self.old { line = self.old.line ++ part.now } }
+        ensures within { result ≡ true → length self.new.line ≤ LINE_LIMIT }
+        ensures too_many { result ≡ false → LINE_LIMIT < length self.old.line + length part.now }
         ensures same { result ≡ false → self.new ≡ self.old }
     {
         self.line.try_extend_from_slice(part).is_ok()
@@ -98,10 +100,12 @@ impl LineCutter {
     /// were taken and end none, or `Bad` where the next line is beyond the limits; then none was taken.
     pub fn take(&mut self, piece: &[u8]) -> (usize, Cut)
         ensures taken { result.0 ≤ length piece.now }
-        ensures takes { Takes self.old self.new (take result.0 piece.now) (told result.1 self.new) }
+        ensures takes { CutsOctets self.old self.new (take result.0 piece.now)
+            (cut_lines result.1 self.new) }
         ensures more { result.1 ≡ Cut.More → result.0 ≡ length piece.now }
         ensures room { room_of self.new + result.0 ≤ room_of self.old }
-        ensures line { result.1 ≡ Cut.Line → (0 < result.0) × IsTrue (is_within self.new.number self.new.line) }
+        ensures line { result.1 ≡ Cut.Line →
+            (0 < result.0) × IsTrue (is_within self.new.number self.new.line) }
         ensures bad { result.1 ≡ Cut.Bad → (result.0 ≡ 0) × IsBeyond self.old piece.now }
         // What is kept of a line that is not ended is within the limits so far.
         ensures begun { IsBegun self.old → IsBegun self.new }
@@ -143,7 +147,7 @@ impl LineCutter {
     /// How many lines were told. So it is the number of the last of them.
     pub fn number(&self) -> u64
         ensures number { result ≡ self.now.number }
-        ensures within { result ≤ 10000000 }
+        ensures within { result ≤ LINES_LIMIT }
     {
         self.number
     }
@@ -151,7 +155,8 @@ impl LineCutter {
     /// The line that lacks its line feed, where the text ends here.
     pub fn last(&self) -> Option<&[u8]>
         // The lines of the text are those that were told and this one.
-        ensures lines { (text : List ℕ) (lines : List (List ℕ)) → Cuts text lines (begun_of self.now) →
+        ensures lines { (text : List ℕ) (lines : List (List ℕ)) →
+            Cuts text lines (begun_of self.now) →
             lines_of text ≡ lines ++ option_to_list (option_copied result) }
         ensures within { IfSome result (λ line. IsTrue (is_within (self.now.number + 1) line.now)) }
         ensures line { IfSome result (λ line. line.now ≡ self.now.line) }

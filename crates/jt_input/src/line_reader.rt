@@ -9,6 +9,7 @@ ghost use Rattle.jt_input.specs.declared.line_reader.NextLine.TheVariants.{Faile
 
 use crate::{Cut, LineCutter};
 use jt_outside::{Got, Source};
+use jt_value::limits::READ_LIMIT;
 use std::marker::Model;
 
 /// What a call for the next line answers.
@@ -27,9 +28,6 @@ pub enum NextLine {
     Failed,
 }
 
-// How many octets are read at once.
-const PIECE: usize = 4096;
-
 // The octets from one place to another.
 fn part(octets: &[u8], from: usize, to: usize) -> &[u8]
     requires order { from ≤ to }
@@ -44,7 +42,7 @@ fn part(octets: &[u8], from: usize, to: usize) -> &[u8]
 #[derive(Drop)]
 pub struct LineReader {
     cutter: LineCutter,
-    piece: [u8; PIECE],
+    piece: [u8; READ_LIMIT],
     // Where the octets that were read and not cut yet begin in the piece, and where they end.
     from: usize,
     to: usize,
@@ -53,12 +51,13 @@ pub struct LineReader {
 impl Model for LineReader {
     ghost use Rattle.std.specs.Prelude.{◌≤◌, take, drop};
     ghost use Rattle.jt_input.specs.LineReading.{Reading};
+    ghost use Rattle.jt_value.specs.declared.limits.TheConstants.{READ_LIMIT};
 
     ghost Value = { Reading };
 
     ghost view = { λ reader. record { held = reader.cutter; ahead = drop reader.from (take reader.to reader.piece) } };
 
-    ghost invariant = { λ reader. (reader.from ≤ reader.to) × (reader.to ≤ 4096) };
+    ghost invariant = { λ reader. (reader.from ≤ reader.to) × (reader.to ≤ READ_LIMIT) };
 }
 
 impl LineReader {
@@ -68,7 +67,7 @@ impl LineReader {
     {
         LineReader {
             cutter: LineCutter::new(),
-            piece: [0; PIECE],
+            piece: [0; READ_LIMIT],
             from: 0,
             to: 0,
         }

@@ -3,7 +3,7 @@
 ghost use Rattle.std.specs.Prelude.{◌≡◌, ◌⊎◌, ◌<◌, ◌≤◌, ◌+◌, ◌++◌, ◌^◌, ℕ, List, [], Some, None, Option, length, string_bytes, IfOk, IfSome, OnOk};
 ghost use Rattle.jt_input.specs.Cutter.{room_of};
 ghost use Rattle.jt_input.specs.Answer.{EndsEarly};
-ghost use Rattle.jt_input.specs.Telling.{Takes, Ends};
+ghost use Rattle.jt_input.specs.Telling.{TakesPiece, Ends};
 ghost use Rattle.jt_input.specs.Lines.{answer_of, bad_line, HasHeard, HasClosed};
 ghost use Rattle.jt_input.specs.LineSteps.{Steps};
 
@@ -67,7 +67,8 @@ impl<H: Hearer> LineTeller<H> {
     fn refuse(&mut self, number: u64, text: &mut String) -> Result<(), Memory>
         ensures hearer { self.new.hearer ≡ self.old.hearer }
         ensures bad { OnOk result (self.new.bad ≡ Some number) }
-        ensures text { OnOk result (string_bytes text.new ≡ string_bytes text.old ++ bad_line number) }
+        ensures text { OnOk result
+            (string_bytes text.new ≡ string_bytes text.old ++ bad_line number) }
     {
         push_bad_line(text, number)?;
         self.bad = Some(number);
@@ -77,11 +78,13 @@ impl<H: Hearer> LineTeller<H> {
     // Takes the octets up to the end of a line, and hears that line.
     fn step(&mut self, alloc: Global, octets: &[u8], text: &mut String) -> Result<Step, Memory>
         requires can { H.can_hear self.old.hearer }
-        ensures steps { IfOk result (λ step. Steps H.outcome step self.old.hearer self.new.hearer self.old.cutter self.new.cutter self.old.bad self.new.bad
-            octets.now (string_bytes text.old) (string_bytes text.new)) }
+        ensures steps { IfOk result (λ step.
+            Steps H.outcome step self.old.hearer self.new.hearer self.old.cutter self.new.cutter
+            self.old.bad self.new.bad octets.now (string_bytes text.old) (string_bytes text.new)) }
         ensures can { IfOk result (λ _. H.can_hear self.new.hearer) }
         ensures some { IfOk result (λ step. (taken : ℕ) → step ≡ Step.Heard taken → 0 < taken) }
-        ensures early { IfOk result (λ step. (status : Status) → step ≡ Step.Settled status → EndsEarly status) }
+        ensures early { IfOk result (λ step.
+            (status : Status) → step ≡ Step.Settled status → EndsEarly status) }
     {
         law_lines();
         let (taken, cut) = self.cutter.take(octets);

@@ -18,7 +18,8 @@ const PIECE: usize = 1 << 14;
 
 // Writes a text, and answers the status that was handed in, or WriteFault where the sink failed.
 fn write<K: Sink>(sink: &mut K, text: &String, status: Option<Status>) -> Option<Status>
-    ensures writes { Writes (K.written sink.old) (K.written sink.new) (string_bytes text.now) status result }
+    ensures writes { Writes (K.written sink.old) (K.written sink.new)
+        (string_bytes text.now) status result }
     ensures later { K.faults sink.old ≤ K.faults sink.new }
     ensures write_fault { result ≢ status → Rose (K.faults sink.old) (K.faults sink.new) }
 {
@@ -39,12 +40,15 @@ fn advance<T: Teller, K: Sink>(
 ) -> Option<Status>
     requires can { T.can_take teller.old }
     requires few { length piece.now ≤ 2 ^ 14 }
-    ensures advances { Advances result T.answer (T.stands teller.old) (T.stands teller.new) (T.has_told teller.new) piece.now (K.written sink.old) (K.written sink.new) }
+    ensures advances { Advances result T.answer (T.stands teller.old) (T.stands teller.new)
+        (T.has_told teller.new) piece.now (K.written sink.old) (K.written sink.new) }
     ensures can { result ≡ None → T.can_take teller.new }
     ensures room { result ≡ None → T.room teller.new + length piece.now ≤ T.room teller.old }
     ensures later { K.faults sink.old ≤ K.faults sink.new }
-    ensures write_fault { result ≡ Some Status.WriteFault → Rose (K.faults sink.old) (K.faults sink.new) }
-    ensures early { IfSome result (λ status. (status ≢ Status.Done) × (status ≢ Status.ReadFault) × (status ≢ Status.Usage)) }
+    ensures write_fault { result ≡ Some Status.WriteFault →
+        Rose (K.faults sink.old) (K.faults sink.new) }
+    ensures early { IfSome result (λ status.
+        (status ≢ Status.Done) × (status ≢ Status.ReadFault) × (status ≢ Status.Usage)) }
 {
     text.clear();
     match teller.take(alloc, piece, text) {
@@ -61,9 +65,11 @@ fn finish<T: Teller, K: Sink>(
     text: &mut String,
 ) -> Status
     requires can { T.can_take teller.old }
-    ensures finishes { Finishes result T.answer (T.stands teller.old) (T.has_told teller.new) (K.written sink.old) (K.written sink.new) }
+    ensures finishes { Finishes result T.answer (T.stands teller.old) (T.has_told teller.new)
+        (K.written sink.old) (K.written sink.new) }
     ensures later { K.faults sink.old ≤ K.faults sink.new }
-    ensures write_fault { result ≡ Status.WriteFault → Rose (K.faults sink.old) (K.faults sink.new) }
+    ensures write_fault { result ≡ Status.WriteFault →
+        Rose (K.faults sink.old) (K.faults sink.new) }
     ensures ended { (result ≢ Status.ReadFault) × (result ≢ Status.Usage) }
 {
     text.clear();
@@ -91,24 +97,29 @@ pub fn run_teller<T: Teller, S: Source, K: Sink>(
     // Whatever the teller was asked, it began with nothing taken. The octets that were taken, what was written of the answer
     // to them, and that it is the answer to the whole source, whatever else the source has.
     ensures runs { (asked : T.Asked) → T.stands teller.old asked [] [] →
-        RunsTelling (T.answer asked) (T.has_told teller.new asked) (S.left source.old) (S.left source.new)
-        (K.written sink.old) (K.written sink.new) result }
+        RunsTelling (T.answer asked) (T.has_told teller.new asked)
+        (S.left source.old) (S.left source.new) (K.written sink.old) (K.written sink.new) result }
     // So, where the source tells its octets, and no fault came:
     ensures whole { (asked : T.Asked) → T.stands teller.old asked [] [] →
-        IfSome (S.left source.old) (AnswersWhole (T.answer asked) (T.has_told teller.new asked) result (K.written sink.old) (K.written sink.new)) }
+        IfSome (S.left source.old) (AnswersWhole (T.answer asked) (T.has_told teller.new asked)
+        result (K.written sink.old) (K.written sink.new)) }
     // The source is read no further than the piece of at most 2^14 octets that settles the answer.
     ensures no_further { (asked : T.Asked) → T.stands teller.old asked [] [] →
-        ReadsNoFurther (SomeStands T.stands asked) (2 ^ 14) (S.left source.old) (S.left source.new) }
+        ReadsNoFurther (SomeStands T.stands asked) (2 ^ 14)
+        (S.left source.old) (S.left source.new) }
     // What is printed of a piece is written before the next is read, so it is there also where that read fails.
-    ensures prints_taken { (asked : T.Asked) → T.stands teller.old asked [] [] → result ≡ Status.ReadFault →
-        PrintsTaken (SomeStands T.stands asked) (S.left source.old) (S.left source.new) (K.written sink.old) (K.written sink.new) }
+    ensures prints_taken { (asked : T.Asked) → T.stands teller.old asked [] [] →
+        result ≡ Status.ReadFault → PrintsTaken (SomeStands T.stands asked)
+        (S.left source.old) (S.left source.new) (K.written sink.old) (K.written sink.new) }
     // A write that failed ends the run.
-    ensures stops_at_write { (asked : T.Asked) → T.stands teller.old asked [] [] → result ≡ Status.WriteFault →
-        StopsAtWrite (T.answer asked) (SomeStands T.stands asked) (2 ^ 14) (S.left source.old) (S.left source.new)
-        (K.written sink.old) (K.written sink.new) }
+    ensures stops_at_write { (asked : T.Asked) → T.stands teller.old asked [] [] →
+        result ≡ Status.WriteFault → StopsAtWrite (T.answer asked) (SomeStands T.stands asked)
+        (2 ^ 14) (S.left source.old) (S.left source.new) (K.written sink.old) (K.written sink.new) }
     ensures to_the_end { result ≡ Status.Done → IsAtEnd (S.left source.new) }
-    ensures read_fault { result ≡ Status.ReadFault → Rose (S.faults source.old) (S.faults source.new) }
-    ensures write_fault { result ≡ Status.WriteFault → Rose (K.faults sink.old) (K.faults sink.new) }
+    ensures read_fault { result ≡ Status.ReadFault →
+        Rose (S.faults source.old) (S.faults source.new) }
+    ensures write_fault { result ≡ Status.WriteFault →
+        Rose (K.faults sink.old) (K.faults sink.new) }
     ensures not_usage { result ≢ Status.Usage }
 {
     let mut buf = [0; PIECE];

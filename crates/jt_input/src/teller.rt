@@ -3,7 +3,7 @@
 ghost use Rattle.std.specs.Prelude.{◌≡◌, ◌≢◌, ◌⊎◌, ◌<◌, ◌≤◌, ◌+◌, ◌^◌, ℕ, List, None, length, string_bytes, IfOk, IfSome};
 ghost use Rattle.jt_input.specs.Answer.{EndsEarly};
 ghost use Rattle.jt_input.specs.Reply.{Reply};
-ghost use Rattle.jt_input.specs.Telling.{Takes, Ends};
+ghost use Rattle.jt_input.specs.Telling.{TakesPiece, Ends};
 ghost use Rattle.jt_input.specs.declared.status.Status.{Status};
 
 use crate::status::Status;
@@ -40,14 +40,18 @@ pub trait Teller {
     ) -> Result<Option<Status>, Memory>
         requires can { can_take self.old }
         requires few { length piece.now ≤ 2 ^ 14 }
-        ensures takes { IfOk result (λ settled. Takes settled answer (stands self.old) (stands self.new) (has_told self.new) piece.now (string_bytes text.old) (string_bytes text.new)) }
+        ensures takes { IfOk result (λ settled.
+            TakesPiece settled answer (stands self.old) (stands self.new) (has_told self.new)
+            piece.now (string_bytes text.old) (string_bytes text.new)) }
         ensures can { IfOk result (λ settled. settled ≡ None → can_take self.new) }
-        ensures room { IfOk result (λ settled. settled ≡ None → room self.new + length piece.now ≤ room self.old) }
+        ensures room { IfOk result (λ settled.
+            settled ≡ None → room self.new + length piece.now ≤ room self.old) }
         ensures early { IfOk result (λ settled. IfSome settled EndsEarly) };
 
     /// Puts what is printed of an input that ends here, and answers its status. Memory where memory was refused.
     fn end(&mut self, alloc: Global, text: &mut String) -> Result<Status, Memory>
         requires can { can_take self.old }
-        ensures ends { IfOk result (λ status. Ends answer (stands self.old) (has_told self.new) (string_bytes text.old) (string_bytes text.new) status) }
+        ensures ends { IfOk result (λ status. Ends answer (stands self.old) (has_told self.new)
+            (string_bytes text.old) (string_bytes text.new) status) }
         ensures status { IfOk result (λ status. (status ≡ Status.Done) ⊎ EndsEarly status) };
 }

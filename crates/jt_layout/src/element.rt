@@ -25,7 +25,8 @@ pub trait Element: Drop {
 
     /// Reads the value that comes next.
     fn read(alloc: Global, reader: &mut Reader<'_>) -> Result<Self, CodecError>
-        ensures value { Gives (λ element. (element, reader.new.place)) result (layout.read reader.old.octets reader.old.place) }
+        ensures value { Gives (λ element. (element, reader.new.place)) result
+            (layout.read reader.old.octets reader.old.place) }
         ensures octets { reader.new.octets ≡ reader.old.octets }
         ensures onward { OnOk result (reader.old.place < reader.new.place) };
 
@@ -99,7 +100,8 @@ pub fn all_fit<T: Element>(list: &[T]) -> bool
 impl<'a> Reader<'a> {
     /// The next so many elements.
     pub fn list<T: Element>(&mut self, alloc: Global, count: usize) -> Result<Seq<T>, CodecError>
-        ensures value { Gives (λ list. (list, self.new.place)) result ((times count T.layout).read self.old.octets self.old.place) }
+        ensures value { Gives (λ list. (list, self.new.place)) result
+            ((times count T.layout).read self.old.octets self.old.place) }
         ensures octets { self.new.octets ≡ self.old.octets }
     {
         let mut list = Seq::new(alloc);
@@ -113,7 +115,8 @@ impl<'a> Reader<'a> {
 
     /// Passes over the next so many elements, and keeps none.
     pub fn pass<T: Element>(&mut self, alloc: Global, count: usize) -> Result<(), CodecError>
-        ensures value { Passes self.new.place result ((times count T.layout).read self.old.octets self.old.place) }
+        ensures value { Passes self.new.place result
+            ((times count T.layout).read self.old.octets self.old.place) }
         ensures octets { self.new.octets ≡ self.old.octets }
     {
         for _ in 0..count {
@@ -124,7 +127,8 @@ impl<'a> Reader<'a> {
 
     /// All elements up to the end.
     pub fn all<T: Element>(&mut self, alloc: Global) -> Result<Seq<T>, CodecError>
-        ensures value { Gives (λ list. list) result ((to_the_end T.layout).read self.old.octets self.old.place) }
+        ensures value { Gives (λ list. list) result
+            ((to_the_end T.layout).read self.old.octets self.old.place) }
         ensures octets { self.new.octets ≡ self.old.octets }
         ensures end { OnOk result (length self.old.octets ≤ self.new.place) }
     {

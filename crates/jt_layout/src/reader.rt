@@ -63,7 +63,8 @@ impl<'a> Reader<'a> {
     /// The next so many octets, or Truncated.
     #[tactic(auto, unfolding(crate::specs::Layout::octets_of))]
     pub fn slice(&mut self, count: usize) -> Result<&'a [u8], Refusal>
-        ensures value { Finds (λ field. (field.now, self.new.place)) result ((octets_of count).read self.old.octets self.old.place) }
+        ensures value { Finds (λ field. (field.now, self.new.place)) result
+            ((octets_of count).read self.old.octets self.old.place) }
         ensures count { IfOk result (λ field. length field.now ≡ count) }
         ensures ok { IsOk result ↔ (self.old.place + count ≤ length self.old.octets) }
         ensures refusal { IfErr result (λ refusal. refusal ≡ truncated self.old.place) }
@@ -82,7 +83,8 @@ impl<'a> Reader<'a> {
     /// The next octet, or Truncated.
     #[tactic(auto, unfolding(crate::specs::Layout::number, crate::specs::Layout::octets_of))]
     pub fn byte(&mut self) -> Result<u8, Refusal>
-        ensures value { Finds (λ number. (number, self.new.place)) result (byte.read self.old.octets self.old.place) }
+        ensures value { Finds (λ number. (number, self.new.place)) result
+            (byte.read self.old.octets self.old.place) }
         ensures octets { self.new.octets ≡ self.old.octets }
         ensures place { OnOk result (self.new.place ≡ self.old.place + 1) }
         ensures err { OnErr result (self.new ≡ self.old) }
@@ -94,7 +96,8 @@ impl<'a> Reader<'a> {
     /// The next two octets as a number, or Truncated.
     #[tactic(auto, unfolding(crate::specs::Layout::number, crate::specs::Layout::octets_of))]
     pub fn word(&mut self) -> Result<u16, Refusal>
-        ensures value { Finds (λ number. (number, self.new.place)) result (word.read self.old.octets self.old.place) }
+        ensures value { Finds (λ number. (number, self.new.place)) result
+            (word.read self.old.octets self.old.place) }
         ensures octets { self.new.octets ≡ self.old.octets }
         ensures place { OnOk result (self.new.place ≡ self.old.place + 2) }
         ensures err { OnErr result (self.new ≡ self.old) }
@@ -106,7 +109,8 @@ impl<'a> Reader<'a> {
     /// The next four octets as a number, or Truncated.
     #[tactic(auto, unfolding(crate::specs::Layout::number, crate::specs::Layout::octets_of))]
     pub fn dword(&mut self) -> Result<u32, Refusal>
-        ensures value { Finds (λ number. (number, self.new.place)) result (dword.read self.old.octets self.old.place) }
+        ensures value { Finds (λ number. (number, self.new.place)) result
+            (dword.read self.old.octets self.old.place) }
         ensures octets { self.new.octets ≡ self.old.octets }
         ensures place { OnOk result (self.new.place ≡ self.old.place + 4) }
         ensures err { OnErr result (self.new ≡ self.old) }
@@ -117,7 +121,8 @@ impl<'a> Reader<'a> {
 
     /// A copy of the next so many octets, or Truncated.
     pub fn octets(&mut self, alloc: Global, count: usize) -> Result<Octets, CodecError>
-        ensures value { Gives (λ field. (field, self.new.place)) result ((octets_of count).read self.old.octets self.old.place) }
+        ensures value { Gives (λ field. (field, self.new.place)) result
+            ((octets_of count).read self.old.octets self.old.place) }
         ensures octets { self.new.octets ≡ self.old.octets }
         ensures place { OnOk result (self.new.place ≡ self.old.place + count) }
     {
@@ -139,7 +144,10 @@ impl<'a> Reader<'a> {
 
     /// A reader of the next so many octets alone, which are passed over here, or Truncated.
     pub fn within(&mut self, count: usize) -> Result<Reader<'a>, Refusal>
-        ensures inner { IfOk result (λ inner. inner ≡ record { octets = take (self.old.place + count) self.old.octets; place = self.old.place }) }
+        ensures inner { IfOk result (λ inner. inner ≡ record {
+          octets = take (self.old.place + count) self.old.octets;
+          place = self.old.place;
+        }) }
         ensures ok { IsOk result ↔ (self.old.place + count ≤ length self.old.octets) }
         ensures refusal { IfErr result (λ refusal. refusal ≡ truncated self.old.place) }
         ensures octets { self.new.octets ≡ self.old.octets }

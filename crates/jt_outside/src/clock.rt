@@ -1,6 +1,6 @@
 //! Clocks.
 
-ghost use Rattle.jt_outside.specs.Time.{Time, Tells};
+ghost use Rattle.jt_outside.specs.Time.{Time, TellsTime};
 
 /// A clock, which never goes back.
 pub trait Clock {
@@ -9,5 +9,5 @@ pub trait Clock {
 
     /// The present moment in milliseconds.
     fn now(&mut self) -> u64
-        ensures { Tells (time self.old) (time self.new) result };
+        ensures { TellsTime (time self.old) (time self.new) result };
 }

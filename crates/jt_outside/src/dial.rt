@@ -28,6 +28,8 @@ pub trait Dial {
     /// Takes a used link back. It takes no memory.
     fn back(&mut self, link: Self::Link)
         requires { IfSome (pool self.old).lent (λ lent. 0 < lent) }
-        ensures back { pool self.new ≡ taken_back (wire_of Self.Link.inbound Self.Link.written Self.Link.faults link) (pool self.old) }
+        ensures back { pool self.new
+            ≡ taken_back (wire_of Self.Link.inbound Self.Link.written Self.Link.faults link)
+            (pool self.old) }
         ensures count { faults self.new ≡ faults self.old };
 }

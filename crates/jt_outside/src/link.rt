@@ -24,6 +24,7 @@ pub trait Link: Sink {
     fn read(&mut self, buf: &mut [u8]) -> LinkGot
         requires { 0 < length buf.old }
         ensures octets { Reads (Self.inbound self.old) (Self.inbound self.new) result buf.new }
-        ensures cause { ReadHasCause (Self.faults self.old) (Self.faults self.new) (Self.inbound self.old) (Self.inbound self.new) result }
+        ensures cause { ReadHasCause (Self.faults self.old) (Self.faults self.new)
+            (Self.inbound self.old) (Self.inbound self.new) result }
         ensures written { Self.written self.new ≡ Self.written self.old };
 }

@@ -38,13 +38,16 @@ pub trait Listen {
 
     /// The next link that comes.
     fn accept(&mut self) -> Accepted<Self::Link>
-        ensures link { Accepts (wire_of Self.Link.inbound Self.Link.written Self.Link.faults) (pool self.old) (pool self.new) result }
+        ensures link { Accepts (wire_of Self.Link.inbound Self.Link.written Self.Link.faults)
+            (pool self.old) (pool self.new) result }
         ensures count { Counts (faults self.old) (faults self.new) }
         ensures cause { result ≡ Failed → Rose (faults self.old) (faults self.new) };
 
     /// Takes a used link back. It takes no memory.
     fn back(&mut self, link: Self::Link)
         requires { IfSome (pool self.old).lent (λ lent. 0 < lent) }
-        ensures back { pool self.new ≡ taken_back (wire_of Self.Link.inbound Self.Link.written Self.Link.faults link) (pool self.old) }
+        ensures back { pool self.new
+            ≡ taken_back (wire_of Self.Link.inbound Self.Link.written Self.Link.faults link)
+            (pool self.old) }
         ensures count { faults self.new ≡ faults self.old };
 }

@@ -1,7 +1,7 @@
 //! A clock in memory, for tests.
 
 ghost use Rattle.std.specs.Prelude.{◌≡◌, Some};
-ghost use Rattle.jt_outside.specs.Time.{Tells};
+ghost use Rattle.jt_outside.specs.Time.{TellsTime};
 ghost use Rattle.jt_outside.specs.ScriptClock.{RiseFrom};
 
 use crate::clock::Clock;
@@ -47,7 +47,7 @@ impl Clock for ScriptClock {
     ghost time = { λ clock. clock };
 
     fn now(&mut self) -> u64
-        ensures { Tells self.old self.new result }
+        ensures { TellsTime self.old self.new result }
     {
         let left = self.moments.len() - self.at;
         if left == 0 {

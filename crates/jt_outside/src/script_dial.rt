@@ -45,7 +45,12 @@ impl ScriptDial {
         failing: Seq<u64>,
     ) -> Result<ScriptDial, Memory>
         requires { AreUntouched links }
-        ensures { IfOk result (λ dial. dial ≡ record { links = record { coming = links; back = []; lent = 0 }; failing = failing; calls = 0; faults = 0 }) }
+        ensures { IfOk result (λ dial. dial ≡ record {
+          links = record { coming = links; back = []; lent = 0 };
+          failing = failing;
+          calls = 0;
+          faults = 0;
+        }) }
     {
         Ok(ScriptDial {
             links: ScriptPool::new(alloc, links)?,
@@ -71,7 +76,8 @@ impl Dial for ScriptDial {
     ghost faults = { λ dial. dial.faults };
 
     fn dial(&mut self, _host: &str, _port: u16) -> Option<ScriptLink>
-        ensures link { GivesLink (pool_of self.old.links) (pool_of self.new.links) (option_map wire result) }
+        ensures link { GivesLink (pool_of self.old.links) (pool_of self.new.links)
+            (option_map wire result) }
         ensures count { Counts self.old.faults self.new.faults }
         ensures cause { IsNone result → Rose self.old.faults self.new.faults }
         ensures in_order { DialsInOrder self.old self.new result }

@@ -63,14 +63,34 @@ impl ScriptLink {
         room: u64,
         failing: Seq<u64>,
     ) -> Result<ScriptLink, Memory>
-        ensures { IfOk result (λ link. link ≡ record { gives = giving.Octets octets; taken = []; quiets = 0; run = 0; written = []; room = room; failing = failing; calls = 0; faults = 0 }) }
+        ensures { IfOk result (λ link. link ≡ record {
+          gives = giving.Octets octets;
+          taken = [];
+          quiets = 0;
+          run = 0;
+          written = [];
+          room = room;
+          failing = failing;
+          calls = 0;
+          faults = 0;
+        }) }
     {
         ScriptLink::of(alloc, Kind::Octets, octets, room, failing)
     }
 
     /// A link that gives this octet for ever, and takes `room` octets in all, whose memory it takes now; Memory where it gets none.
     pub fn endless(alloc: Global, octet: u8, room: u64) -> Result<ScriptLink, Memory>
-        ensures { IfOk result (λ link. link ≡ record { gives = giving.Endless octet; taken = []; quiets = 0; run = 0; written = []; room = room; failing = []; calls = 0; faults = 0 }) }
+        ensures { IfOk result (λ link. link ≡ record {
+          gives = giving.Endless octet;
+          taken = [];
+          quiets = 0;
+          run = 0;
+          written = [];
+          room = room;
+          failing = [];
+          calls = 0;
+          faults = 0;
+        }) }
     {
         let kind = Kind::Endless(octet);
         ScriptLink::of(alloc, kind, Seq::new(alloc), room, Seq::new(alloc))
@@ -78,7 +98,17 @@ impl ScriptLink {
 
     /// A link that is quiet at each read, and takes `room` octets in all, whose memory it takes now; Memory where it gets none.
     pub fn quiet(alloc: Global, room: u64) -> Result<ScriptLink, Memory>
-        ensures { IfOk result (λ link. link ≡ record { gives = giving.Nothing; taken = []; quiets = 0; run = 0; written = []; room = room; failing = []; calls = 0; faults = 0 }) }
+        ensures { IfOk result (λ link. link ≡ record {
+          gives = giving.Nothing;
+          taken = [];
+          quiets = 0;
+          run = 0;
+          written = [];
+          room = room;
+          failing = [];
+          calls = 0;
+          faults = 0;
+        }) }
     {
         ScriptLink::of(alloc, Kind::Quiet, Seq::new(alloc), room, Seq::new(alloc))
     }
@@ -91,7 +121,17 @@ impl ScriptLink {
         room: u64,
         failing: Seq<u64>,
     ) -> Result<ScriptLink, Memory>
-        ensures { IfOk result (λ link. link ≡ record { gives = first_giving kind 0 octets; taken = given_by kind 0 octets; quiets = 0; run = 0; written = []; room = room; failing = failing; calls = 0; faults = 0 }) }
+        ensures { IfOk result (λ link. link ≡ record {
+          gives = first_giving kind 0 octets;
+          taken = given_by kind 0 octets;
+          quiets = 0;
+          run = 0;
+          written = [];
+          room = room;
+          failing = failing;
+          calls = 0;
+          faults = 0;
+        }) }
     {
         let room = room as usize;
         Ok(ScriptLink {
@@ -148,7 +188,8 @@ impl Sink for ScriptLink {
 
     fn write(&mut self, buf: &[u8]) -> Put
         requires { 0 < length buf.now }
-        ensures octets { TakesOctets (Some self.old.written) (Some self.new.written) result buf.now }
+        ensures octets { TakesOctets (Some self.old.written) (Some self.new.written)
+            result buf.now }
         ensures cause { WriteHasCause self.old.faults self.new.faults result }
         ensures inbound { inbound_of self.new ≡ inbound_of self.old }
         ensures in_order { WritesInOrder self.old self.new result buf.now }
@@ -171,7 +212,8 @@ impl Link for ScriptLink {
     fn read(&mut self, buf: &mut [u8]) -> LinkGot
         requires { 0 < length buf.old }
         ensures octets { Reads (inbound_of self.old) (inbound_of self.new) result buf.new }
-        ensures cause { ReadHasCause self.old.faults self.new.faults (inbound_of self.old) (inbound_of self.new) result }
+        ensures cause { ReadHasCause self.old.faults self.new.faults
+            (inbound_of self.old) (inbound_of self.new) result }
         ensures written { Some self.new.written ≡ Some self.old.written }
         ensures in_order { ReadsInOrder self.old self.new result buf.new }
     {

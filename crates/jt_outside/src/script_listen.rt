@@ -46,7 +46,12 @@ impl ScriptListen {
         failing: Seq<u64>,
     ) -> Result<ScriptListen, Memory>
         requires { AreUntouched links }
-        ensures { IfOk result (λ listen. listen ≡ record { links = record { coming = links; back = []; lent = 0 }; failing = failing; calls = 0; faults = 0 }) }
+        ensures { IfOk result (λ listen. listen ≡ record {
+          links = record { coming = links; back = []; lent = 0 };
+          failing = failing;
+          calls = 0;
+          faults = 0;
+        }) }
     {
         Ok(ScriptListen {
             links: ScriptPool::new(alloc, links)?,

@@ -1,7 +1,7 @@
 //! The system's clock.
 
 ghost use Rattle.std.specs.Prelude.{◌≡◌, None};
-ghost use Rattle.jt_outside.specs.Time.{Tells};
+ghost use Rattle.jt_outside.specs.Time.{TellsTime};
 
 use crate::Clock;
 use std::marker::Model;
@@ -37,7 +37,7 @@ impl<R: time::Clock> Clock for StdClock<R> {
     ghost time = { λ clock. clock };
 
     fn now(&mut self) -> u64
-        ensures { Tells self.old self.new result }
+        ensures { TellsTime self.old self.new result }
     {
         if let Ok(since) = self.rt.monotonic() {
             let moment = u64::try_from(since.as_millis()).unwrap_or(u64::MAX);

@@ -73,7 +73,8 @@ impl Link for TcpLink {
     fn read(&mut self, buf: &mut [u8]) -> LinkGot
         requires { 0 < length buf.old }
         ensures octets { Reads (inbound_of self.old) (inbound_of self.new) result buf.new }
-        ensures cause { ReadHasCause self.old.faults self.new.faults (inbound_of self.old) (inbound_of self.new) result }
+        ensures cause { ReadHasCause self.old.faults self.new.faults
+            (inbound_of self.old) (inbound_of self.new) result }
         ensures exact { self.new ≡ after_read self.old result }
     {
         match self.stream.read(buf) {

@@ -10,13 +10,11 @@ ghost use Rattle.jt_params.specs.Tables.{HasOctets, HaveOctets, IsOneTable, Sets
 ghost use Rattle.jt_params.specs.Refused.{IsTooMany};
 
 use crate::param::{Param, ParamValue};
+use jt_value::limits::OCTET_COUNT_LIMIT;
 use jt_value::{Memory, Seq};
 use std::alloc::{AllocError, AllocFailed, Global};
 use std::collections::BTreeMap;
 use std::marker::Model;
-
-/// The most parameters that a table has (this project's own limit: a count octet counts them).
-const MOST: usize = 255;
 
 /// Parameters, each under its id, at most 255.
 #[derive(Drop)]
@@ -32,6 +30,7 @@ impl Model for ParamTable {
     ghost use Rattle.std.specs.Coded.{coded_ℕ};
     ghost use Rattle.std.specs.FinMap.{code};
     ghost use Rattle.jt_params.specs.contracts.param.ParamValue as value;
+    ghost use Rattle.jt_value.specs.declared.limits.TheConstants.{OCTET_COUNT_LIMIT};
 
     ghost Value = { Table };
 
@@ -39,7 +38,7 @@ impl Model for ParamTable {
 
     ghost view = { λ table. from_entries table.values.entries };
 
-    ghost invariant = { λ table. btree_map_len table.values ≤ 255 };
+    ghost invariant = { λ table. btree_map_len table.values ≤ OCTET_COUNT_LIMIT };
 }
 
 /// Why a table did not take parameters.
@@ -85,7 +84,8 @@ impl<T: Drop> From<AllocFailed<T>> for ParamError {
 fn set_in(values: &mut BTreeMap<u32, ParamValue>, params: &[Param]) -> Result<(), Memory>
     ensures values { OnOk result ((id : ℕ) → tree.get nat_cmp values.new id
         ≡ option_or (last_value params.now id) (tree.get nat_cmp values.old id)) }
-    ensures size { OnOk result (tree.btree_map_len values.new ≤ tree.btree_map_len values.old + length params.now) }
+    ensures size { OnOk result
+        (tree.btree_map_len values.new ≤ tree.btree_map_len values.old + length params.now) }
 {
     for param in params {
         values.insert(param.id, param.value.clone()?)?;
@@ -97,7 +97,8 @@ fn set_in(values: &mut BTreeMap<u32, ParamValue>, params: &[Param]) -> Result<()
 fn listed_in(alloc: Global, values: &BTreeMap<u32, ParamValue>) -> Result<Seq<Param>, Memory>
     ensures params { IfOk result (λ params. params ≡ params_of values.now.entries) }
     ensures ordered { tree.IsOrdered nat_cmp values.now }
-    ensures found { IfOk result (λ _. All (λ pair. tree.get nat_cmp values.now pair.0 ≡ Some pair.1) values.now.entries) }
+    ensures found { IfOk result (λ _.
+        All (λ pair. tree.get nat_cmp values.now pair.0 ≡ Some pair.1) values.now.entries) }
 {
     let mut params = Vec::with_capacity(alloc, values.len())?;
     for (id, value) in values {
@@ -126,7 +127,7 @@ impl ParamTable {
     pub fn set_all(&mut self, params: &Seq<Param>) -> Result<(), ParamError>
         requires { length params.now < 2 ^ 16 }
         ensures ok { OnOk result (Sets params.now self.old self.new) }
-        ensures few { OnOk result (map.len self.new ≤ 255) }
+        ensures few { OnOk result (map.len self.new ≤ OCTET_COUNT_LIMIT) }
         ensures too_many { IfErr result (IsTooMany params.now self.old) }
         ensures err { OnErr result (self.new ≡ self.old) }
         ensures octets { HaveOctets params.now → HasOctets self.old → HasOctets self.new }
@@ -134,7 +135,7 @@ impl ParamTable {
         let mut values = self.values.clone()?;
         set_in(&mut values, params.as_slice())?;
         let count = values.len();
-        if count > MOST {
+        if count > OCTET_COUNT_LIMIT {
             return Err(ParamError::TooMany(count as u32));
         }
         self.values = values;
@@ -144,7 +145,7 @@ impl ParamTable {
     /// All parameters in order of their ids.
     pub fn list(&self, alloc: Global) -> Result<Seq<Param>, Memory>
         ensures params { IfOk result (λ params. params ≡ listed self.now) }
-        ensures few { IfOk result (λ params. length params ≤ 255) }
+        ensures few { IfOk result (λ params. length params ≤ OCTET_COUNT_LIMIT) }
         ensures octets { HasOctets self.now → IfOk result HaveOctets }
     {
         listed_in(alloc, &self.values)

@@ -3,7 +3,7 @@ use Rattle.std.proofs.lemmas.List.{append-nil, reverse-append}
 use Rattle.std.proofs.lemmas.Slice.Eq.{bytes_eq-Decides}
 use native.Mathlib.Omega.{arith}
 use Rattle.jt_value.specs.Sameness.{same_key}
-use Rattle.jt_store.specs.Tables.{Tables, Told, registered_set}
+use Rattle.jt_store.specs.Tables.{Tables, WhereKnown, registered_set}
 use Rattle.jt_store.specs.declared.row.Registered.{Registered}
 use Rattle.jt_store.specs.declared.row.Row.{Row}
 use Rattle.jt_platform.specs.declared.request.Request.{Request}
@@ -65,7 +65,7 @@ at_entry start now after first limit limit_then h l q r at tables limits =
     }
 
 -- registered so already
-pub set_again : (old : Option Tables) (key : List ℕ) (r : Registered) → Told old (λ t. t.registered key ≡ Some r) → registered_set key (Some r) old ≡ old
+pub set_again : (old : Option Tables) (key : List ℕ) (r : Registered) → WhereKnown old (λ t. t.registered key ≡ Some r) → registered_set key (Some r) old ≡ old
 set_again None key r told = refl
 set_again (Some t) key r told = λ i. Some (record { registered = λ q. same q (same_key key q) refl i; rows = t.rows })
   where

@@ -3,7 +3,7 @@ use Rattle.std.proofs.Common.{◌≡◌, inr, ◌<◌, length, ℕ, List, Option
 use native.Mathlib.Omega.{arith}
 use Rattle.jt_value.specs.Serials.{IsPlace, IsCandidate, GreatestUpTo, Anew}
 use Rattle.jt_value.specs.declared.placing.Place.TheVariants as places
-use Rattle.jt_store.specs.Tables.{Tables, Told, IsRow, last_of}
+use Rattle.jt_store.specs.Tables.{Tables, WhereKnown, IsRow, last_of}
 use Rattle.jt_store.specs.declared.row.Row.{Row}
 use Rattle.jt_platform.specs.declared.request.Reply.{Reply}
 use Rattle.jt_platform.specs.declared.request.Reply.TheVariants as say
@@ -27,23 +27,23 @@ verdict_anew rows None at serial id anew body is place there = elim place [ ]
 verdict_anew rows (Some last) at serial id anew body is place there =
     rw (← is) (place.0, none_there rows last serial id body at place.1 there, place.2)
 
-told_anew : (old : Option Tables) (key : List ℕ) (last at : Option ℕ) (serial id anew : ℕ) (body : List ℕ) → Told old (λ t. last ≡ last_of (t.rows key)) → Told old (λ t. IsThere (t.rows key) at id body None)
-    → IsPlace last serial (places.Back at anew) → Told old (λ t. VerdictOn (t.rows key) serial id body (Anew anew))
+told_anew : (old : Option Tables) (key : List ℕ) (last at : Option ℕ) (serial id anew : ℕ) (body : List ℕ) → WhereKnown old (λ t. last ≡ last_of (t.rows key)) → WhereKnown old (λ t. IsThere (t.rows key) at id body None)
+    → IsPlace last serial (places.Back at anew) → WhereKnown old (λ t. VerdictOn (t.rows key) serial id body (Anew anew))
 told_anew None key last at serial id anew body is there place = tt
 told_anew (Some t) key last at serial id anew body is there place = verdict_anew (t.rows key) last at serial id anew body is place there
 
-both : (old : Option Tables) (P Q : Tables → Type 0) → Told old P → Told old Q → Told old (λ t. P t × Q t)
+both : (old : Option Tables) (P Q : Tables → Type 0) → WhereKnown old P → WhereKnown old Q → WhereKnown old (λ t. P t × Q t)
 both None P Q p q = tt
 both (Some t) P Q p q = (p, q)
 
 more_there : (t : Tables) (key : List ℕ) (serial id anew : ℕ) (body : List ℕ) → VerdictOn (t.rows key) serial id body (Anew anew) → IsMore (t.rows key) serial id body
 more_there t key serial id anew body verdict = (anew, inr verdict)
 
-told_more : (old : Option Tables) (key : List ℕ) (serial id anew : ℕ) (body : List ℕ) → Told old (λ t. VerdictOn (t.rows key) serial id body (Anew anew)) → Told old (λ t. IsMore (t.rows key) serial id body)
+told_more : (old : Option Tables) (key : List ℕ) (serial id anew : ℕ) (body : List ℕ) → WhereKnown old (λ t. VerdictOn (t.rows key) serial id body (Anew anew)) → WhereKnown old (λ t. IsMore (t.rows key) serial id body)
 told_more None key serial id anew body verdict = tt
 told_more (Some t) key serial id anew body verdict = more_there t key serial id anew body verdict
 
-by_reply : (old now : Option Tables) (limit : ℕ) (key : List ℕ) (serial id anew : ℕ) (body : List ℕ) (r : Reply) → Told old (λ t. VerdictOn (t.rows key) serial id body (Anew anew))
+by_reply : (old now : Option Tables) (limit : ℕ) (key : List ℕ) (serial id anew : ℕ) (body : List ℕ) (r : Reply) → WhereKnown old (λ t. VerdictOn (t.rows key) serial id body (Anew anew))
     → StoreDone old now limit key (record { number = anew; id = id; body = body }) true r → UnitDone old now limit key serial id body r
 by_reply old now limit key serial id anew body (say.Renumbered n) verdict done =
     rw (done.0) (both old (λ t. VerdictOn (t.rows key) serial id body (Anew anew)) (λ t. length (t.rows key) < limit) verdict done.2, done.1)
@@ -61,14 +61,14 @@ by_reply old now limit key serial id anew body (say.Fenced _) verdict done = eli
 
 -- a unit for which no row stands where it would be repeated is renumbered, or the list is full
 pub anew_done : (old mid same now : Option Tables) (limit limit_there : ℕ) (key : List ℕ) (serial id anew : ℕ) (body lent copy : List ℕ) (last at found : Option ℕ) (r : Reply)
-    → mid ≡ old → Told old (λ t. last ≡ last_of (t.rows key)) → same ≡ mid → Told mid (λ t. IsThere (t.rows key) at id lent found) → found ≡ None → lent ≡ body → limit_there ≡ limit → copy ≡ body
+    → mid ≡ old → WhereKnown old (λ t. last ≡ last_of (t.rows key)) → same ≡ mid → WhereKnown mid (λ t. IsThere (t.rows key) at id lent found) → found ≡ None → lent ≡ body → limit_there ≡ limit → copy ≡ body
     → IsPlace last serial (places.Back at anew) → StoreDone same now limit_there key (record { number = anew; id = id; body = copy }) true r → UnitDone old now limit key serial id body r
 anew_done old mid same now limit limit_there key serial id anew body lent copy last at found r kept is stays there none lends limits copied place done =
     by_reply old now limit key serial id anew body r
     (told_anew old key last at serial id anew body is
-    (subst (λ o. Told o (λ t. IsThere (t.rows key) at id body None)) kept
-    (subst (λ b. Told mid (λ t. IsThere (t.rows key) at id b None)) lends
-    (subst (λ f. Told mid (λ t. IsThere (t.rows key) at id lent f)) none there))) place)
+    (subst (λ o. WhereKnown o (λ t. IsThere (t.rows key) at id body None)) kept
+    (subst (λ b. WhereKnown mid (λ t. IsThere (t.rows key) at id b None)) lends
+    (subst (λ f. WhereKnown mid (λ t. IsThere (t.rows key) at id lent f)) none there))) place)
     (subst (λ o. StoreDone o now limit key (record { number = anew; id = id; body = body }) true r) (stays ∙ kept)
     (subst (λ n. StoreDone same now n key (record { number = anew; id = id; body = body }) true r) limits
     (subst (λ b. StoreDone same now limit_there key (record { number = anew; id = id; body = b }) true r) copied done)))

@@ -3,7 +3,7 @@ use Rattle.std.specs.Prelude.{◌≡◌, ◌≢◌, ◌⊎◌, ◌<◌, ℕ, Lis
 use Rattle.jt_value.specs.Sameness.{key_of}
 use Rattle.jt_value.specs.Serials.{Verdict, New, Repeat, Anew, IsVerdict}
 use Rattle.jt_value.specs.declared.phone.Phone.{Phone}
-use Rattle.jt_store.specs.Tables.{Tables, Told, IsRow, last_of, plates, terminals, HasName}
+use Rattle.jt_store.specs.Tables.{Tables, WhereKnown, IsRow, last_of, plates, terminals, HasName}
 use Rattle.jt_store.specs.declared.row.Registered.{Registered}
 use Rattle.jt_store.specs.declared.row.Row.{Row}
 use Rattle.jt_platform.specs.declared.request.Fleet.{Fleet}
@@ -13,7 +13,7 @@ use Rattle.jt_platform.specs.declared.request.Reply.{Reply}
 use Rattle.jt_platform.specs.declared.request.Reply.TheVariants as say
 use Rattle.jt_platform.specs.declared.request.Entry.{Entry}
 use Rattle.jt_platform.specs.Codes.{code_for}
-use Rattle.jt_platform.specs.History.{live, closed, holder, trimmed, registration, tables_after}
+use Rattle.jt_platform.specs.History.{live, closed, holder, trim_zeros, registration, tables_after}
 
 -- what a hub began with: what its keeper told, the keeper's limit, the fleet and the secret
 pub record Opening : Type 0 where
@@ -31,7 +31,7 @@ has_plate (x ∷ more) plate = bytes_eq x plate || has_plate more plate
 -- whether one of the ids, without the zeros at its end, is this one
 abbrev pub has_terminal : List (List ℕ) → List ℕ → Bool
 has_terminal [] terminal = false
-has_terminal (x ∷ more) terminal = bytes_eq (trimmed x) terminal || has_terminal more terminal
+has_terminal (x ∷ more) terminal = bytes_eq (trim_zeros x) terminal || has_terminal more terminal
 
 -- another phone is registered with the name, a plate or a terminal id
 abbrev pub IsAnothers : (Registered → List ℕ) → Tables → List ℕ → List ℕ → Type 0
@@ -54,8 +54,8 @@ abbrev pub IsDenied : Fleet → Option Tables → List ℕ → Registered → �
 IsDenied fleet now key r n =
     ((n ≡ 2) × (has_plate fleet.plates r.plate ≡ false))
     ⊎ ((n ≡ 4) × (has_plate fleet.plates r.plate ≡ true) × (has_terminal fleet.terminals r.terminal ≡ false))
-    ⊎ ((n ≡ 1) × IsOfFleet fleet r × Told now (λ t. IsAnothers plates t key r.plate))
-    ⊎ ((n ≡ 3) × IsOfFleet fleet r × Told now (λ t. (IsAnothers plates t key r.plate → ⊥) × IsAnothers terminals t key r.terminal))
+    ⊎ ((n ≡ 1) × IsOfFleet fleet r × WhereKnown now (λ t. IsAnothers plates t key r.plate))
+    ⊎ ((n ≡ 3) × IsOfFleet fleet r × WhereKnown now (λ t. (IsAnothers plates t key r.plate → ⊥) × IsAnothers terminals t key r.terminal))
 
 -- no other phone has the plate or the terminal id
 abbrev pub IsFree : Tables → List ℕ → Registered → Type 0
@@ -64,16 +64,16 @@ IsFree t key r = (IsAnothers plates t key r.plate → ⊥) × (IsAnothers termin
 -- Registered with the code if the phone is registered so already; else denied, or registered with the code
 abbrev pub RegisterReply : Fleet → Option Tables → List ℕ → Registered → List ℕ → Reply → Type 0
 RegisterReply fleet now key r code (say.Registered c) =
-    (c ≡ code) × (Told now (λ t. IsSo t key r) ⊎ (IsOfFleet fleet r × Told now (λ t. IsNotSo t key r × IsFree t key r)))
-RegisterReply fleet now key r code (say.Denied n) = Told now (λ t. IsNotSo t key r) × IsDenied fleet now key r n
+    (c ≡ code) × (WhereKnown now (λ t. IsSo t key r) ⊎ (IsOfFleet fleet r × WhereKnown now (λ t. IsNotSo t key r × IsFree t key r)))
+RegisterReply fleet now key r code (say.Denied n) = WhereKnown now (λ t. IsNotSo t key r) × IsDenied fleet now key r n
 RegisterReply fleet now key r code reply = ⊥
 
 -- ---- authentications
 
 -- accepted if the phone is registered and the code is its own
 abbrev pub AuthReply : List ℕ → Option Tables → Phone → List ℕ → Reply → Type 0
-AuthReply secret now phone code say.Accepted = (code ≡ code_for secret phone) × Told now (λ t. IsSome (t.registered (key_of phone)))
-AuthReply secret now phone code (say.Denied n) = (n ≡ 1) × (Told now (λ t. t.registered (key_of phone) ≡ None) ⊎ (code ≢ code_for secret phone))
+AuthReply secret now phone code say.Accepted = (code ≡ code_for secret phone) × WhereKnown now (λ t. IsSome (t.registered (key_of phone)))
+AuthReply secret now phone code (say.Denied n) = (n ≡ 1) × (WhereKnown now (λ t. t.registered (key_of phone) ≡ None) ⊎ (code ≢ code_for secret phone))
 AuthReply secret now phone code reply = ⊥
 
 -- ---- units
@@ -89,10 +89,10 @@ IsMore rows serial id body = (n : ℕ) × (VerdictOn rows serial id body (New n)
 -- Replies to a unit of the holder's live session. ListFull stands in place of Stored and Renumbered, exactly where the phone has
 -- as many rows as the limit.
 abbrev pub StoreReply : ℕ → Option Tables → List ℕ → ℕ → ℕ → List ℕ → Reply → Type 0
-StoreReply limit now key serial id body (say.Stored n) = Told now (λ t. VerdictOn (t.rows key) serial id body (New n) × (length (t.rows key) < limit))
-StoreReply limit now key serial id body (say.Repeat n) = Told now (λ t. VerdictOn (t.rows key) serial id body (Repeat n))
-StoreReply limit now key serial id body (say.Renumbered n) = Told now (λ t. VerdictOn (t.rows key) serial id body (Anew n) × (length (t.rows key) < limit))
-StoreReply limit now key serial id body (say.ListFull l) = (l ≡ limit) × Told now (λ t. (length (t.rows key) ≡ limit) × IsMore (t.rows key) serial id body)
+StoreReply limit now key serial id body (say.Stored n) = WhereKnown now (λ t. VerdictOn (t.rows key) serial id body (New n) × (length (t.rows key) < limit))
+StoreReply limit now key serial id body (say.Repeat n) = WhereKnown now (λ t. VerdictOn (t.rows key) serial id body (Repeat n))
+StoreReply limit now key serial id body (say.Renumbered n) = WhereKnown now (λ t. VerdictOn (t.rows key) serial id body (Anew n) × (length (t.rows key) < limit))
+StoreReply limit now key serial id body (say.ListFull l) = (l ≡ limit) × WhereKnown now (λ t. (length (t.rows key) ≡ limit) × IsMore (t.rows key) serial id body)
 StoreReply limit now key serial id body reply = ⊥
 
 -- ---- the session's right
@@ -112,7 +112,7 @@ GuardedReply key h session reply Otherwise =
     ((live key h session ≡ false) × (reply ≡ say.NotLive))
     ⊎ ((live key h session ≡ true) × (FencedReply session (holder key h) reply ⊎ (IsHolder session (holder key h) × Otherwise)))
 
--- ---- the table. `now` is what the history left of the keeper's tables. Where the keeper does not tell them, `Told` leaves the
+-- ---- the table. `now` is what the history left of the keeper's tables. Where the keeper does not tell them, `WhereKnown` leaves the
 -- conditions on them out, and no others.
 
 abbrev pub OpenReply : Opening → Option Tables → List Entry → ℕ → Request → Reply → Type 0

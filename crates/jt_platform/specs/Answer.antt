@@ -1,5 +1,6 @@
 -- The reply to a request as a function. `law_answers` says that each reply that is allowed is this one.
 use Rattle.std.specs.Prelude.{◌<◌, ◌↔◌, ◌+◌, ◌-◌, ℕ, List, [], ◌∷◌, length, Bool, false, ◌==◌, ◌&&◌, ◌||◌, IsTrue, if◌then◌else◌, Option, None, Some, nat_lt, bytes_eq}
+use Rattle.jt_value.specs.declared.limits.TheConstants.{SERIAL_WINDOW}
 use Rattle.jt_value.specs.Sameness.{key_of}
 use Rattle.jt_value.specs.Serials.{Verdict, New, Repeat, Anew, next_with}
 use Rattle.jt_store.specs.Tables.{Tables, last_of, plates, terminals}
@@ -29,7 +30,7 @@ far_verdict last serial next has = if nat_lt next 65536 then Anew (next_with (la
 -- what a unit is to the rows so far, where `has n` says whether a row of number n has its id and body
 abbrev pub verdict_of : Option ℕ → ℕ → (ℕ → Bool) → Verdict
 verdict_of None serial has = New serial
-verdict_of (Some last) serial has = if nat_lt (last + 32767) (next_with last serial) then far_verdict last serial (next_with last serial) has else New (next_with last serial)
+verdict_of (Some last) serial has = if nat_lt (last + SERIAL_WINDOW) (next_with last serial) then far_verdict last serial (next_with last serial) has else New (next_with last serial)
 
 abbrev pub if_room : ℕ → ℕ → Reply → Reply
 if_room limit count reply = if count == limit then say.ListFull limit else reply

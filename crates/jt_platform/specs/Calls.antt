@@ -4,7 +4,7 @@ use Rattle.jt_value.specs.declared.phone.Phone.{Phone}
 use Rattle.jt_value.specs.Sameness.{key_of}
 use Rattle.jt_store.specs.declared.row.Row.{Row}
 use Rattle.jt_store.specs.declared.row.Registered.{Registered}
-use Rattle.jt_store.specs.Tables.{Tables, Told, IsRow, HasName, row_added, registered_set}
+use Rattle.jt_store.specs.Tables.{Tables, WhereKnown, IsRow, HasName, row_added, registered_set}
 use Rattle.jt_store.specs.declared.error.StoreError.{StoreError}
 use Rattle.jt_store.specs.declared.error.StoreError.TheVariants as store
 use Rattle.jt_platform.specs.declared.request.Fleet.{Fleet}
@@ -24,9 +24,9 @@ reply_to store.Memory = say.Memory
 
 -- a new row is stored, or the tables stay
 abbrev pub StoreDone : Option Tables → Option Tables → ℕ → List ℕ → Row → Bool → Reply → Type 0
-StoreDone old now limit key row false (say.Stored n) = (n ≡ row.number) × (now ≡ row_added key row old) × Told old (λ t. length (t.rows key) < limit)
-StoreDone old now limit key row true (say.Renumbered n) = (n ≡ row.number) × (now ≡ row_added key row old) × Told old (λ t. length (t.rows key) < limit)
-StoreDone old now limit key row anew (say.ListFull l) = (now ≡ old) × (l ≡ limit) × Told old (λ t. length (t.rows key) ≡ limit)
+StoreDone old now limit key row false (say.Stored n) = (n ≡ row.number) × (now ≡ row_added key row old) × WhereKnown old (λ t. length (t.rows key) < limit)
+StoreDone old now limit key row true (say.Renumbered n) = (n ≡ row.number) × (now ≡ row_added key row old) × WhereKnown old (λ t. length (t.rows key) < limit)
+StoreDone old now limit key row anew (say.ListFull l) = (now ≡ old) × (l ≡ limit) × WhereKnown old (λ t. length (t.rows key) ≡ limit)
 StoreDone old now limit key row anew say.StoreFault = now ≡ old
 StoreDone old now limit key row anew say.Memory = now ≡ old
 StoreDone old now limit key row anew reply = ⊥

@@ -64,13 +64,13 @@ abbrev pub end_trimmed : ℕ → List ℕ → List ℕ
 end_trimmed octet [] = if octet == 0 then [] else octet ∷ []
 end_trimmed octet (x ∷ more) = octet ∷ x ∷ more
 
-abbrev pub trimmed : List ℕ → List ℕ
-trimmed [] = []
-trimmed (octet ∷ more) = end_trimmed octet (trimmed more)
+abbrev pub trim_zeros : List ℕ → List ℕ
+trim_zeros [] = []
+trim_zeros (octet ∷ more) = end_trimmed octet (trim_zeros more)
 
 -- what a phone is registered with: the terminal id without its zeros at the end
 abbrev pub registration : Register → Registered
-registration register = record { plate = register.plate; terminal = trimmed register.terminal }
+registration register = record { plate = register.plate; terminal = trim_zeros register.terminal }
 
 -- the registration of a phone after one more entry
 abbrev pub registered_by : List ℕ → Request → Reply → Option Registered → Option Registered

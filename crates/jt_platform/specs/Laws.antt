@@ -1,6 +1,7 @@
 -- Laws of histories, newest entry first, and of the replies that they allow (this project's own). To be believed; `law_histories`,
 -- `law_units` and `law_answers` prove them.
 use Rattle.std.specs.Prelude.{◌≡◌, ◌≢◌, ◌<◌, ◌≤◌, ◌+◌, ℕ, List, [], ◌∷◌, length, Bool, true, false, Some, IsSome}
+use Rattle.jt_value.specs.declared.limits.TheConstants.{UNIT_WINDOW}
 use Rattle.jt_value.specs.Sameness.{key_of}
 use Rattle.jt_value.specs.Serials.{serial_of}
 use Rattle.jt_value.specs.declared.phone.Phone.{Phone}
@@ -73,11 +74,11 @@ pub record UnitsTell : Type 0 where
       → Allowed o h session (ask.Unit phone serial id body) reply → reply ≡ say.Stored serial
   -- a number at most 32,766 above the last row's is stored
   pub new : (o : Opening) (h : List Entry) (session : ℕ) (phone : Phone) (t : Tables) (last n id : ℕ) (body : List ℕ) (reply : Reply)
-      → Holds o h session phone t → length (t.rows (key_of phone)) ≢ o.limit → last_of (t.rows (key_of phone)) ≡ Some last → last < n → n ≤ last + 32766
+      → Holds o h session phone t → length (t.rows (key_of phone)) ≢ o.limit → last_of (t.rows (key_of phone)) ≡ Some last → last < n → n ≤ last + UNIT_WINDOW
       → Allowed o h session (ask.Unit phone (serial_of n) id body) reply → reply ≡ say.Stored n
   -- a row at most 32,765 below the last one is repeated by a unit with its id and body, whatever the limit
   pub again : (o : Opening) (h : List Entry) (session : ℕ) (phone : Phone) (t : Tables) (last n id : ℕ) (body : List ℕ) (reply : Reply)
-      → Holds o h session phone t → last_of (t.rows (key_of phone)) ≡ Some last → n ≤ last → last ≤ n + 32765 → IsRow (t.rows (key_of phone)) (row_of n id body)
+      → Holds o h session phone t → last_of (t.rows (key_of phone)) ≡ Some last → n ≤ last → last ≤ n + (UNIT_WINDOW - 1) → IsRow (t.rows (key_of phone)) (row_of n id body)
       → Allowed o h session (ask.Unit phone (serial_of n) id body) reply → reply ≡ say.Repeat n
 
 -- ---- the reply as a function

@@ -6,7 +6,7 @@ ghost use Rattle.jt_platform.specs.History.{registration};
 ghost use Rattle.jt_platform.specs.Calls.{IsCoded};
 ghost use Rattle.jt_platform.specs.declared.request.Request.TheVariants.{Close};
 
-use crate::request::{Reply, Request};
+use crate::request::{Entry, Reply, Request};
 use crate::trimming::without_zeros;
 use jt_register::Register;
 use jt_store::Registered;
@@ -104,5 +104,42 @@ pub(crate) fn copy_reply(reply: &Reply, code: Octets) -> Reply
         Reply::ListFull(limit) => Reply::ListFull(*limit),
         Reply::StoreFault => Reply::StoreFault,
         Reply::Memory => Reply::Memory,
+    }
+}
+
+// The same reply again, with memory for the code that it may have.
+fn reply_again(alloc: Global, reply: &Reply) -> Result<Reply, Memory>
+    ensures { IfOk result (λ copy. copy ≡ reply.now) }
+{
+    match reply {
+        Reply::Registered(code) => {
+            let code = code.copy(alloc)?;
+            Ok(Reply::Registered(code))
+        }
+        Reply::Denied(reason) => Ok(Reply::Denied(*reason)),
+        Reply::Accepted => Ok(Reply::Accepted),
+        Reply::Stored(number) => Ok(Reply::Stored(*number)),
+        Reply::Repeat(number) => Ok(Reply::Repeat(*number)),
+        Reply::Renumbered(number) => Ok(Reply::Renumbered(*number)),
+        Reply::NotLive => Ok(Reply::NotLive),
+        Reply::Fenced(other) => Ok(Reply::Fenced(*other)),
+        Reply::ListFull(limit) => Ok(Reply::ListFull(*limit)),
+        Reply::StoreFault => Ok(Reply::StoreFault),
+        Reply::Memory => Ok(Reply::Memory),
+    }
+}
+
+impl Entry {
+    /// The same entry again, which takes memory for what it holds. Memory comes where that is refused.
+    pub fn copy(&self, alloc: Global) -> Result<Entry, Memory>
+        ensures { IfOk result (λ copy. copy ≡ self.now) }
+    {
+        let request = copy_request(alloc, &self.request)?;
+        let reply = reply_again(alloc, &self.reply)?;
+        Ok(Entry {
+            session: self.session,
+            request,
+            reply,
+        })
     }
 }

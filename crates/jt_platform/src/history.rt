@@ -43,7 +43,8 @@ fn says(entry: &Entry, phone: &Phone) -> Option<bool>
 }
 
 fn said(other: &Phone, phone: &Phone, live: bool) -> Option<bool>
-    ensures { result ≡ (if same_key (key_of other.now) (key_of phone.now) then Some live else None) }
+    ensures { result
+        ≡ (if same_key (key_of other.now) (key_of phone.now) then Some live else None) }
 {
     if other.same(phone) { Some(live) } else { None }
 }
@@ -60,7 +61,9 @@ pub fn is_live(history: &[Entry], phone: &Phone, session: u32) -> bool
 }
 
 fn alive_by(entry: &Entry, phone: &Phone, session: u32, before: bool) -> bool
-    ensures { result ≡ (if entry.now.session == session then or_else (says_live (key_of phone.now) entry.now.request entry.now.reply) before else before) }
+    ensures { result ≡ (if entry.now.session == session
+        then or_else (says_live (key_of phone.now) entry.now.request entry.now.reply) before
+        else before) }
 {
     if entry.session != session {
         return before;
@@ -105,7 +108,8 @@ pub fn holder(history: &[Entry], phone: &Phone) -> Option<u32>
 }
 
 fn held_by(history: &[Entry], entry: &Entry, phone: &Phone, before: Option<u32>) -> Option<u32>
-    ensures { result ≡ (if takes_by (key_of phone.now) entry.now (newest history.now) then Some entry.now.session else before) }
+    ensures { result ≡ (if takes_by (key_of phone.now) entry.now (newest history.now)
+        then Some entry.now.session else before) }
 {
     if takes(history, entry, phone) {
         Some(entry.session)

@@ -22,6 +22,7 @@ use jt_store::Keeper;
 use jt_value::{Memory, Octets, Phone, Seq};
 use std::alloc::Global;
 use std::marker::Model;
+use std::mem::replace;
 use std::snapshot::Snapshot;
 
 // NotLive or Fenced, where the session is not live for the phone or not its holder.
@@ -47,10 +48,12 @@ fn guard(log: &Log, phone: &Phone, session: u32) -> Option<Reply>
 // The answer to a unit of the holder's live session.
 fn unit_in<P: Keeper>(alloc: Global, keeper: &mut P, request: &mut Request) -> Reply
     requires { IsUnit request.old }
-    ensures done { UnitIn (P.tables keeper.old) (P.tables keeper.new) (P.limit keeper.old) request.old result }
+    ensures done { UnitIn (P.tables keeper.old) (P.tables keeper.new) (P.limit keeper.old)
+        request.old result }
     ensures same { request.new ≡ request.old }
     ensures limit { P.limit keeper.new ≡ P.limit keeper.old }
-    ensures reason { HasReason (P.faults keeper.old) (P.faults keeper.new) (P.may_fail keeper.old) (P.may_fail keeper.new) result }
+    ensures reason { HasReason (P.faults keeper.old) (P.faults keeper.new)
+        (P.may_fail keeper.old) (P.may_fail keeper.new) result }
 {
     match request {
         Request::Unit {
@@ -77,11 +80,14 @@ fn answer_open<P: Keeper>(
     requires open { closed (newest log.now.entries) session ≡ false }
     requires copy { copy.old ≡ request.now }
     ensures copy { copy.new ≡ copy.old }
-    ensures reply { is_trouble result ≡ false → AnyReply (opening_of (P.tables keeper.old) (P.limit keeper.old) fleet.now secret.now) (P.tables keeper.old) (newest log.now.entries) session request.now result }
+    ensures reply { is_trouble result ≡ false →
+        AnyReply (opening_of (P.tables keeper.old) (P.limit keeper.old) fleet.now secret.now)
+        (P.tables keeper.old) (newest log.now.entries) session request.now result }
     ensures tables { P.tables keeper.new ≡ tables_by request.now result (P.tables keeper.old) }
     ensures limit { P.limit keeper.new ≡ P.limit keeper.old }
     ensures coded { IsCoded (code_said secret.now request.now) result }
-    ensures reason { HasReason (P.faults keeper.old) (P.faults keeper.new) (P.may_fail keeper.old) (P.may_fail keeper.new) result }
+    ensures reason { HasReason (P.faults keeper.old) (P.faults keeper.new)
+        (P.may_fail keeper.old) (P.may_fail keeper.new) result }
     ensures close { request.now ≡ Close → result ≡ Accepted }
 {
     match request {
@@ -124,11 +130,14 @@ fn answer<P: Keeper>(
 ) -> Reply
     requires copy { copy.old ≡ request.now }
     ensures copy { copy.new ≡ copy.old }
-    ensures reply { is_trouble result ≡ false → AnyReply (opening_of (P.tables keeper.old) (P.limit keeper.old) fleet.now secret.now) (P.tables keeper.old) (newest log.now.entries) session request.now result }
+    ensures reply { is_trouble result ≡ false →
+        AnyReply (opening_of (P.tables keeper.old) (P.limit keeper.old) fleet.now secret.now)
+        (P.tables keeper.old) (newest log.now.entries) session request.now result }
     ensures tables { P.tables keeper.new ≡ tables_by request.now result (P.tables keeper.old) }
     ensures limit { P.limit keeper.new ≡ P.limit keeper.old }
     ensures coded { IsCoded (code_said secret.now request.now) result }
-    ensures reason { HasReason (P.faults keeper.old) (P.faults keeper.new) (P.may_fail keeper.old) (P.may_fail keeper.new) result }
+    ensures reason { HasReason (P.faults keeper.old) (P.faults keeper.new)
+        (P.may_fail keeper.old) (P.may_fail keeper.new) result }
     ensures close { request.now ≡ Close → result ≡ Accepted }
 {
     if let Request::Close = request {
@@ -236,7 +245,14 @@ impl<P: Keeper> Hub<P> {
         fleet: Fleet,
         secret: Octets,
     ) -> Result<Hub<P>, (P, Memory)>
-        ensures ok { IfOk result (λ hub. hub ≡ record { keeper = keeper; start = keeper; fleet = fleet; secret = secret; history = []; reserved = 0 }) }
+        ensures ok { IfOk result (λ hub. hub ≡ record {
+          keeper = keeper;
+          start = keeper;
+          fleet = fleet;
+          secret = secret;
+          history = [];
+          reserved = 0;
+        }) }
         ensures err { IfErr result (λ refused. refused.0 ≡ keeper) }
     {
         let Ok(roll) = Roll::of(alloc, &fleet) else {
@@ -258,8 +274,10 @@ impl<P: Keeper> Hub<P> {
     /// The entries, oldest first. Each reply is one that the entries before it allow, and the keeper is where they leave it.
     pub fn history(&self) -> &[Entry]
         ensures entries { result.now ≡ self.now.history }
-        ensures keeper { IsAt (P.tables self.now.start) (P.tables self.now.keeper) (P.limit self.now.start) (P.limit self.now.keeper) self.now.history }
-        ensures legal { Legal (opening_of (P.tables self.now.start) (P.limit self.now.start) self.now.fleet self.now.secret) (newest self.now.history) }
+        ensures keeper { IsAt (P.tables self.now.start) (P.tables self.now.keeper)
+            (P.limit self.now.start) (P.limit self.now.keeper) self.now.history }
+        ensures legal { Legal (opening_of (P.tables self.now.start) (P.limit self.now.start)
+            self.now.fleet self.now.secret) (newest self.now.history) }
     {
         self.log.entries()
     }
@@ -267,7 +285,8 @@ impl<P: Keeper> Hub<P> {
     /// Takes the memory for a Close of each session from 1 to `upto`, so that the first Close of such a session takes none.
     /// After Memory all is as before.
     pub fn reserve(&mut self, upto: u32) -> Result<(), Memory>
-        ensures ok { OnOk result (self.new ≡ record self.old { reserved = max self.old.reserved upto }) }
+        ensures ok { OnOk result
+            (self.new ≡ record self.old { reserved = max self.old.reserved upto }) }
         ensures err { OnErr result (self.new ≡ self.old) }
     {
         if upto <= self.reserved {
@@ -287,12 +306,19 @@ impl<P: Keeper> Hub<P> {
     /// StoreFault comes only where the keeper's count of faults rose in the call. The first Close of a session within the
     /// reserved number takes no memory and is Accepted.
     pub fn act(&mut self, session: u32, request: &Request) -> Reply
-        ensures allowed { is_trouble result ≡ false → Allowed (opening_of (P.tables self.old.start) (P.limit self.old.start) self.old.fleet self.old.secret) (newest self.old.history) session request.now result }
-        ensures history { self.new.history ≡ history_by session request.now result self.old.history }
-        ensures opening { (self.new.start ≡ self.old.start) × (self.new.fleet ≡ self.old.fleet) × (self.new.secret ≡ self.old.secret) × (self.new.reserved ≡ self.old.reserved) }
-        ensures keeper { IsAt (P.tables self.new.start) (P.tables self.new.keeper) (P.limit self.new.start) (P.limit self.new.keeper) self.new.history }
-        ensures close { request.now ≡ Close → IsOwed self.old.history self.old.reserved session → result ≡ Accepted }
-        ensures reason { HasReason (P.faults self.old.keeper) (P.faults self.new.keeper) (P.may_fail self.old.keeper) (P.may_fail self.new.keeper) result }
+        ensures allowed { is_trouble result ≡ false →
+            Allowed (opening_of (P.tables self.old.start) (P.limit self.old.start) self.old.fleet
+            self.old.secret) (newest self.old.history) session request.now result }
+        ensures history { self.new.history
+            ≡ history_by session request.now result self.old.history }
+        ensures opening { (self.new.start ≡ self.old.start) × (self.new.fleet ≡ self.old.fleet)
+            × (self.new.secret ≡ self.old.secret) × (self.new.reserved ≡ self.old.reserved) }
+        ensures keeper { IsAt (P.tables self.new.start) (P.tables self.new.keeper)
+            (P.limit self.new.start) (P.limit self.new.keeper) self.new.history }
+        ensures close { request.now ≡ Close → IsOwed self.old.history self.old.reserved session →
+            result ≡ Accepted }
+        ensures reason { HasReason (P.faults self.old.keeper) (P.faults self.new.keeper)
+            (P.may_fail self.old.keeper) (P.may_fail self.new.keeper) result }
     {
         let _ = &self.log;
         let is_owed = is_owed_close(&self.log, self.reserved, session, request);
@@ -330,11 +356,35 @@ impl<P: Keeper> Hub<P> {
         reply
     }
 
+    /// Begins anew in place, with no memory taken: an empty history over the registrations and rows that the keeper has now, with
+    /// the same fleet and secret. The history that was is handed back.
+    pub fn restart(&mut self) -> Seq<Entry>
+        ensures history { result ≡ self.old.history }
+        ensures hub { self.new ≡ record {
+          keeper = self.old.keeper;
+          start = self.old.keeper;
+          fleet = self.old.fleet;
+          secret = self.old.secret;
+          history = [];
+          reserved = 0;
+        } }
+        ensures keeper { IsAt (P.tables self.old.start) (P.tables self.old.keeper)
+            (P.limit self.old.start) (P.limit self.old.keeper) self.old.history }
+    {
+        let log = replace(&mut self.log, Log::new(self.alloc));
+        self.start = Snapshot::of(&self.keeper);
+        self.reserved = 0;
+        self.owed = 0;
+        log.into_seq()
+    }
+
     /// The keeper, which is where the history leaves it, and the history, with no memory taken.
     pub fn into_parts(self) -> (P, Seq<Entry>)
         ensures parts { (result.0 ≡ self.keeper) × (result.1 ≡ self.history) }
-        ensures keeper { IsAt (P.tables self.start) (P.tables result.0) (P.limit self.start) (P.limit result.0) result.1 }
-        ensures legal { Legal (opening_of (P.tables self.start) (P.limit self.start) self.fleet self.secret) (newest self.history) }
+        ensures keeper { IsAt (P.tables self.start) (P.tables result.0) (P.limit self.start)
+            (P.limit result.0) result.1 }
+        ensures legal { Legal (opening_of (P.tables self.start) (P.limit self.start) self.fleet
+            self.secret) (newest self.history) }
     {
         let Hub {
             alloc: _,

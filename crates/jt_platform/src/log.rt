@@ -113,7 +113,8 @@ impl Log {
     pub(crate) fn push(&mut self, entry: Entry)
         requires room { 0 < self.old.spare }
         requires ready { IsReady self.old.index entry.session entry.request }
-        requires unclosed { is_let_in entry.request entry.reply ≡ true → closed (newest self.old.entries) entry.session ≡ false }
+        requires unclosed { is_let_in entry.request entry.reply ≡ true →
+            closed (newest self.old.entries) entry.session ≡ false }
         ensures entries { self.new.entries ≡ self.old.entries ++ entry ∷ [] }
         ensures spare { self.new.spare ≡ self.old.spare - 1 }
         ensures kept { KeepsPlaces self.old.index self.new.index }

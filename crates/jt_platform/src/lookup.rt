@@ -40,7 +40,8 @@ impl<K: Ord + Drop, V: Drop> Lookup<K, V> {
     }
 
     pub(crate) fn set(&mut self, key: K, value: V) -> Result<(), Memory>
-        ensures ok { OnOk result ((q : K) → lookup (is_at (K.cmp q)) self.new ≡ (if is_at (K.cmp key) q then Some value else lookup (is_at (K.cmp q)) self.old)) }
+        ensures ok { OnOk result ((q : K) → lookup (is_at (K.cmp q)) self.new
+            ≡ (if is_at (K.cmp key) q then Some value else lookup (is_at (K.cmp q)) self.old)) }
         ensures err { OnErr result (self.new ≡ self.old) }
         ensures known { IsSome (lookup (is_at (K.cmp key)) self.old) → IsOk result }
     {
@@ -51,8 +52,10 @@ impl<K: Ord + Drop, V: Drop> Lookup<K, V> {
     // Makes a place for the key, with this value, where it has none.
     pub(crate) fn place(&mut self, key: K, value: V) -> Result<(), Memory>
         ensures made { OnOk result (IsSome (lookup (is_at (K.cmp key)) self.new)) }
-        ensures kept { (q : K) → IsSome (lookup (is_at (K.cmp q)) self.old) → IsSome (lookup (is_at (K.cmp q)) self.new) }
-        ensures same { (q : K) → unwrap_or (lookup (is_at (K.cmp q)) self.new) value ≡ unwrap_or (lookup (is_at (K.cmp q)) self.old) value }
+        ensures kept { (q : K) → IsSome (lookup (is_at (K.cmp q)) self.old) →
+            IsSome (lookup (is_at (K.cmp q)) self.new) }
+        ensures same { (q : K) → unwrap_or (lookup (is_at (K.cmp q)) self.new) value
+            ≡ unwrap_or (lookup (is_at (K.cmp q)) self.old) value }
     {
         if self.values.contains_key(&key) {
             return Ok(());

@@ -35,7 +35,8 @@ fn is_plate_taken<P: Keeper>(
     phone: &Phone,
     plate: &[u8],
 ) -> Result<bool, StoreError>
-    ensures answer { Reads (P.tables keeper.old) (P.tables keeper.new) (λ t taken. IsTaken plates t (key_of phone.now) plate.now taken) result }
+    ensures answer { Reads (P.tables keeper.old) (P.tables keeper.new)
+        (λ t taken. IsTaken plates t (key_of phone.now) plate.now taken) result }
     ensures limit { P.limit keeper.new ≡ P.limit keeper.old }
     ensures cause { HasCause (P.faults keeper.old) (P.faults keeper.new) result }
     ensures steady { IsSteady (P.may_fail keeper.old) (P.may_fail keeper.new) result }
@@ -54,7 +55,8 @@ fn is_terminal_taken<P: Keeper>(
     phone: &Phone,
     terminal: &[u8],
 ) -> Result<bool, StoreError>
-    ensures answer { Reads (P.tables keeper.old) (P.tables keeper.new) (λ t taken. IsTaken terminals t (key_of phone.now) terminal.now taken) result }
+    ensures answer { Reads (P.tables keeper.old) (P.tables keeper.new)
+        (λ t taken. IsTaken terminals t (key_of phone.now) terminal.now taken) result }
     ensures limit { P.limit keeper.new ≡ P.limit keeper.old }
     ensures cause { HasCause (P.faults keeper.old) (P.faults keeper.new) result }
     ensures steady { IsSteady (P.may_fail keeper.old) (P.may_fail keeper.new) result }
@@ -76,9 +78,11 @@ fn register_made<P: Keeper>(
     code: Octets,
 ) -> Reply
     requires { IsTrimmed wanted.now.terminal }
-    ensures done { RegisterDone (P.tables keeper.old) (P.tables keeper.new) fleet.now (key_of phone.now) wanted.now code result }
+    ensures done { RegisterDone (P.tables keeper.old) (P.tables keeper.new) fleet.now
+        (key_of phone.now) wanted.now code result }
     ensures limit { P.limit keeper.new ≡ P.limit keeper.old }
-    ensures reason { HasReason (P.faults keeper.old) (P.faults keeper.new) (P.may_fail keeper.old) (P.may_fail keeper.new) result }
+    ensures reason { HasReason (P.faults keeper.old) (P.faults keeper.new)
+        (P.may_fail keeper.old) (P.may_fail keeper.new) result }
 {
     let found = match keeper.registered(alloc, phone) {
         Ok(found) => found,
@@ -118,9 +122,11 @@ pub(crate) fn register<P: Keeper>(
     phone: &Phone,
     register: &Register,
 ) -> Reply
-    ensures done { RegisterDone (P.tables keeper.old) (P.tables keeper.new) fleet.now (key_of phone.now) (registration register.now) (code_for secret.now phone.now) result }
+    ensures done { RegisterDone (P.tables keeper.old) (P.tables keeper.new) fleet.now
+        (key_of phone.now) (registration register.now) (code_for secret.now phone.now) result }
     ensures limit { P.limit keeper.new ≡ P.limit keeper.old }
-    ensures reason { HasReason (P.faults keeper.old) (P.faults keeper.new) (P.may_fail keeper.old) (P.may_fail keeper.new) result }
+    ensures reason { HasReason (P.faults keeper.old) (P.faults keeper.new)
+        (P.may_fail keeper.old) (P.may_fail keeper.new) result }
 {
     let Ok(code) = code_octets(alloc, secret, phone) else {
         return Reply::Memory;
@@ -145,9 +151,11 @@ pub(crate) fn auth<P: Keeper>(
     phone: &Phone,
     code: &Octets,
 ) -> Reply
-    ensures done { AuthDone (P.tables keeper.old) (P.tables keeper.new) secret.now phone.now code.now result }
+    ensures done { AuthDone (P.tables keeper.old) (P.tables keeper.new) secret.now phone.now
+        code.now result }
     ensures limit { P.limit keeper.new ≡ P.limit keeper.old }
-    ensures reason { HasReason (P.faults keeper.old) (P.faults keeper.new) (P.may_fail keeper.old) (P.may_fail keeper.new) result }
+    ensures reason { HasReason (P.faults keeper.old) (P.faults keeper.new)
+        (P.may_fail keeper.old) (P.may_fail keeper.new) result }
 {
     match keeper.registered(alloc, phone) {
         Ok(Some(_)) => {
@@ -164,9 +172,11 @@ pub(crate) fn auth<P: Keeper>(
 
 // The answer to a deregistration by the holder's live session.
 pub(crate) fn deregister<P: Keeper>(alloc: Global, keeper: &mut P, phone: &Phone) -> Reply
-    ensures done { DeregisterDone (P.tables keeper.old) (P.tables keeper.new) (key_of phone.now) result }
+    ensures done { DeregisterDone (P.tables keeper.old) (P.tables keeper.new)
+        (key_of phone.now) result }
     ensures limit { P.limit keeper.new ≡ P.limit keeper.old }
-    ensures reason { HasReason (P.faults keeper.old) (P.faults keeper.new) (P.may_fail keeper.old) (P.may_fail keeper.new) result }
+    ensures reason { HasReason (P.faults keeper.old) (P.faults keeper.new)
+        (P.may_fail keeper.old) (P.may_fail keeper.new) result }
 {
     match keeper.unregister(alloc, phone) {
         Ok(()) => Reply::Accepted,

@@ -42,7 +42,8 @@ impl Names {
     }
 
     fn add(&mut self, alloc: Global, name: &[u8]) -> Result<(), Memory>
-        ensures { OnOk result ((q : List ℕ) → has_this_plate self.new q ≡ (bytes_eq name.now q || has_this_plate self.old q)) }
+        ensures { OnOk result ((q : List ℕ) →
+            has_this_plate self.new q ≡ (bytes_eq name.now q || has_this_plate self.old q)) }
     {
         let name = Vec::from_slice(alloc, name)?;
         self.names.insert(name)?;
@@ -52,7 +53,8 @@ impl Names {
 
 // The names as they are.
 fn plates_of(alloc: Global, plates: &Seq<Octets>) -> Result<Names, Memory>
-    ensures { IfOk result (λ names. (q : List ℕ) → has_this_plate names q ≡ has_this_plate plates.now q) }
+    ensures { IfOk result (λ names.
+        (q : List ℕ) → has_this_plate names q ≡ has_this_plate plates.now q) }
 {
     let mut names = Names::new(alloc);
     for one in plates.as_slice() {
@@ -63,7 +65,8 @@ fn plates_of(alloc: Global, plates: &Seq<Octets>) -> Result<Names, Memory>
 
 // The names without the zeros at their end.
 fn terminals_of(alloc: Global, terminals: &Seq<Octets>) -> Result<Names, Memory>
-    ensures { IfOk result (λ names. (q : List ℕ) → has_this_plate names q ≡ has_this_terminal terminals.now q) }
+    ensures { IfOk result (λ names.
+        (q : List ℕ) → has_this_plate names q ≡ has_this_terminal terminals.now q) }
 {
     let mut names = Names::new(alloc);
     for one in terminals.as_slice() {

@@ -2,11 +2,11 @@
 
 ghost use Rattle.std.specs.Prelude.{◌≡◌};
 ghost use Rattle.jt_store.specs.Tables.{IsTrimmed};
-ghost use Rattle.jt_platform.specs.History.{trimmed};
+ghost use Rattle.jt_platform.specs.History.{trim_zeros};
 
 // The octets without the zeros at their end.
 pub(crate) fn without_zeros(octets: &[u8]) -> &[u8]
-    ensures trimmed { result.now ≡ trimmed octets.now }
+    ensures trimmed { result.now ≡ trim_zeros octets.now }
     ensures end { IsTrimmed result.now }
 {
     let mut end = octets.len();

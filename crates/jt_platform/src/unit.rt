@@ -2,7 +2,7 @@
 
 ghost use Rattle.std.specs.Prelude.{◌≡◌, ◌↔◌, IsTrue};
 ghost use Rattle.jt_value.specs.Sameness.{key_of};
-ghost use Rattle.jt_store.specs.Tables.{Told, MayAppend, Reads, HasCause, IsSteady, last_of};
+ghost use Rattle.jt_store.specs.Tables.{WhereKnown, MayAppend, Reads, HasCause, IsSteady, last_of};
 ghost use Rattle.jt_platform.specs.Calls.{reply_to, StoreDone, UnitDone, IsThere};
 ghost use Rattle.jt_platform.specs.Hub.{HasReason};
 
@@ -29,10 +29,13 @@ fn is_same_row(row: &Row, id: u16, body: &[u8]) -> bool
 }
 
 fn append<P: Keeper>(alloc: Global, keeper: &mut P, phone: &Phone, row: &Row, anew: bool) -> Reply
-    requires may { Told (P.tables keeper.old) (λ t. MayAppend (last_of (t.rows (key_of phone.now))) row.now.number) }
-    ensures done { StoreDone (P.tables keeper.old) (P.tables keeper.new) (P.limit keeper.old) (key_of phone.now) row.now anew result }
+    requires may { WhereKnown (P.tables keeper.old) (λ t.
+        MayAppend (last_of (t.rows (key_of phone.now))) row.now.number) }
+    ensures done { StoreDone (P.tables keeper.old) (P.tables keeper.new) (P.limit keeper.old)
+        (key_of phone.now) row.now anew result }
     ensures limit { P.limit keeper.new ≡ P.limit keeper.old }
-    ensures reason { HasReason (P.faults keeper.old) (P.faults keeper.new) (P.may_fail keeper.old) (P.may_fail keeper.new) result }
+    ensures reason { HasReason (P.faults keeper.old) (P.faults keeper.new)
+        (P.may_fail keeper.old) (P.may_fail keeper.new) result }
 {
     match keeper.append(alloc, phone, row) {
         Ok(()) => if anew {
@@ -54,11 +57,14 @@ fn store<P: Keeper>(
     body: &mut Octets,
     anew: bool,
 ) -> Reply
-    requires may { Told (P.tables keeper.old) (λ t. MayAppend (last_of (t.rows (key_of phone.now))) number) }
-    ensures done { StoreDone (P.tables keeper.old) (P.tables keeper.new) (P.limit keeper.old) (key_of phone.now) (record { number = number; id = id; body = body.old }) anew result }
+    requires may { WhereKnown (P.tables keeper.old) (λ t.
+        MayAppend (last_of (t.rows (key_of phone.now))) number) }
+    ensures done { StoreDone (P.tables keeper.old) (P.tables keeper.new) (P.limit keeper.old)
+        (key_of phone.now) (record { number = number; id = id; body = body.old }) anew result }
     ensures body { body.new ≡ body.old }
     ensures limit { P.limit keeper.new ≡ P.limit keeper.old }
-    ensures reason { HasReason (P.faults keeper.old) (P.faults keeper.new) (P.may_fail keeper.old) (P.may_fail keeper.new) result }
+    ensures reason { HasReason (P.faults keeper.old) (P.faults keeper.new)
+        (P.may_fail keeper.old) (P.may_fail keeper.new) result }
 {
     let row = Row {
         number,
@@ -84,7 +90,8 @@ fn repeated<P: Keeper>(
     id: u16,
     body: &[u8],
 ) -> Result<Option<u64>, StoreError>
-    ensures answer { Reads (P.tables keeper.old) (P.tables keeper.new) (λ t there. IsThere (t.rows (key_of phone.now)) at id body.now there) result }
+    ensures answer { Reads (P.tables keeper.old) (P.tables keeper.new)
+        (λ t there. IsThere (t.rows (key_of phone.now)) at id body.now there) result }
     ensures limit { P.limit keeper.new ≡ P.limit keeper.old }
     ensures cause { HasCause (P.faults keeper.old) (P.faults keeper.new) result }
     ensures steady { IsSteady (P.may_fail keeper.old) (P.may_fail keeper.new) result }
@@ -111,10 +118,12 @@ pub(crate) fn unit<P: Keeper>(
     id: u16,
     body: &mut Octets,
 ) -> Reply
-    ensures done { UnitDone (P.tables keeper.old) (P.tables keeper.new) (P.limit keeper.old) (key_of phone.now) serial id body.old result }
+    ensures done { UnitDone (P.tables keeper.old) (P.tables keeper.new) (P.limit keeper.old)
+        (key_of phone.now) serial id body.old result }
     ensures body { body.new ≡ body.old }
     ensures limit { P.limit keeper.new ≡ P.limit keeper.old }
-    ensures reason { HasReason (P.faults keeper.old) (P.faults keeper.new) (P.may_fail keeper.old) (P.may_fail keeper.new) result }
+    ensures reason { HasReason (P.faults keeper.old) (P.faults keeper.new)
+        (P.may_fail keeper.old) (P.may_fail keeper.new) result }
 {
     let last = match keeper.last(alloc, phone) {
         Ok(last) => last,

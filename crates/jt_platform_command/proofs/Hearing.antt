@@ -12,7 +12,7 @@ use Rattle.jt_platform_command.specs.FleetText.{Named, FleetIn, BadLine, nothing
 use Rattle.jt_platform_command.specs.declared.fleet_reader.FleetRead.{FleetRead}
 use Rattle.jt_platform_command.specs.declared.fleet_reader.FleetRead.TheVariants as told
 use Rattle.jt_platform_command.specs.Naming.{IsNamed, GoesOn, Ends}
-use Rattle.jt_platform_command.specs.Reading.{ReadsFleet, Answers}
+use Rattle.jt_platform_command.specs.Reading.{ReadsFleet, AnswersFleet}
 
 -- a line within the limits names what it says
 with_is : (named : Named) (number : ℕ) (line : List ℕ) → IsTrue (is_within number line) → named_with named number line ≡ named_by named.secret named.fleet (said_by line)
@@ -91,7 +91,7 @@ ends_beyond old now named number found left mid left_now h goes =
     ∙ bad_from named number h.lines b.0 h.stands (beyond_is named number b.0 (subst (λ (n : ℕ). is_within n b.0 ≡ false) (sym h.count) b.3)) b.1))
 
 -- the text ends
-at_the_end : (answer : FleetRead) (text : List ℕ) (left : Option (List ℕ)) (named : FleetIn) → fleet_in text ≡ named → IsAtEnd left → Ends answer named → Answers answer text left
+at_the_end : (answer : FleetRead) (text : List ℕ) (left : Option (List ℕ)) (named : FleetIn) → fleet_in text ≡ named → IsAtEnd left → Ends answer named → AnswersFleet answer text left
 at_the_end (told.Fleet secret fleet) text left named is end ends = (is ∙ ends, end)
 at_the_end (told.Bad number) text left named is end ends = (is ∙ ends, inl end)
 at_the_end told.Failed text left named is end ends = absurd ends

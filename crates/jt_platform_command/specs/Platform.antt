@@ -5,7 +5,8 @@ use Rattle.std.specs.List.{flat_map}
 use Rattle.jt_platform.specs.declared.request.Entry.{Entry}
 use Rattle.jt_platform.specs.declared.request.Reply.{Reply as Replied}
 use Rattle.jt_platform.specs.declared.request.Reply.TheVariants as say
-use Rattle.jt_input.specs.Lines.{bad_line}
+use Rattle.jt_input.specs.EarlyEnds.{early_reply}
+use Rattle.jt_input.specs.declared.early_end.EarlyEnd.TheVariants as early
 use Rattle.jt_input.specs.Reply.{Reply}
 use Rattle.jt_input.specs.declared.status.Status.TheVariants as status
 use Rattle.jt_server.specs.declared.served.ServeEnd.{ServeEnd}
@@ -95,16 +96,16 @@ first_limit (report ∷ reports) = or_limit (limit_in report.end) (first_limit r
 
 abbrev pub full_reply : Option ℕ → Reply
 full_reply None = record { text = []; status = status.Done }
-full_reply (Some limit) = record { text = codes "list full at " ++ decimal limit ++ codes "\n"; status = status.StoreFault }
+full_reply (Some limit) = early_reply (early.ListFull limit)
 
 abbrev pub store_reply : Bool → Option ℕ → Reply
-store_reply true limit = record { text = codes "store fault\n"; status = status.StoreFault }
+store_reply true limit = early_reply early.StoreFault
 store_reply false limit = full_reply limit
 
 -- The last line, if there is one: a listener's fault comes before a store's, and that before a full list. Where memory was wanted
 -- for a further session there is none.
 abbrev pub last_reply : ServeEnd → List Report → Reply
-last_reply served.ListenFault reports = record { text = codes "listen fault\n"; status = status.NetFault }
+last_reply served.ListenFault reports = early_reply early.ListenFault
 last_reply served.All reports = store_reply (some_end is_store_fault reports) (first_limit reports)
 last_reply served.Over reports = store_reply (some_end is_store_fault reports) (first_limit reports)
 last_reply served.Memory reports = record { text = []; status = status.Memory }
@@ -118,9 +119,9 @@ pub data Came : Type 0 where
 
 -- a session that ended for memory decides the status, whatever the last line is
 unfoldable pub platform_text : Came → Reply
-platform_text (BadLine number) = record { text = bad_line number; status = status.Refused }
+platform_text (BadLine number) = early_reply (early.BadLine number)
 platform_text Unserved = record { text = []; status = status.Memory }
-platform_text NoListener = record { text = codes "listen fault\n"; status = status.NetFault }
+platform_text NoListener = early_reply early.ListenFault
 platform_text (Served end reports history) = record {
   text = flat_map session_line reports ++ (entries_line history ++ (last_reply end reports).text);
   status = if some_end is_memory reports then status.Memory else (last_reply end reports).status;

@@ -11,14 +11,14 @@ IsSettled left taken = IsAtEnd left ⊎ ((rest : List ℕ) → fleet_in (taken +
 
 -- The answer is what the text that was taken names: a fleet, with all of the text taken, or its first bad line. A failed read
 -- and want of memory say nothing of the text.
-abbrev pub Answers : FleetRead → List ℕ → Option (List ℕ) → Type 0
-Answers (told.Fleet secret fleet) taken left = (fleet_in taken ≡ FleetOf secret fleet) × IsAtEnd left
-Answers (told.Bad number) taken left = (fleet_in taken ≡ BadLine number) × IsSettled left taken
-Answers told.Failed taken left = Unit {0}
-Answers told.Memory taken left = Unit {0}
+abbrev pub AnswersFleet : FleetRead → List ℕ → Option (List ℕ) → Type 0
+AnswersFleet (told.Fleet secret fleet) taken left = (fleet_in taken ≡ FleetOf secret fleet) × IsAtEnd left
+AnswersFleet (told.Bad number) taken left = (fleet_in taken ≡ BadLine number) × IsSettled left taken
+AnswersFleet told.Failed taken left = Unit {0}
+AnswersFleet told.Memory taken left = Unit {0}
 
 -- octets of the source were taken, and the answer is that of these
 pub record ReadsFleet (answer : FleetRead) (left left_now : Option (List ℕ)) : Type 0 where
   pub taken : List ℕ
   pub consumed : Consumes left left_now taken
-  pub answers : Answers answer taken left_now
+  pub answers : AnswersFleet answer taken left_now

@@ -11,7 +11,7 @@ use Rattle.jt_platform.specs.History.{newest}
 use Rattle.jt_platform.specs.Hub.{opening_of}
 use Rattle.jt_platform.specs.declared.request.Entry.{Entry}
 use Rattle.jt_platform.specs.declared.request.Fleet.{Fleet}
-use Rattle.jt_input.specs.Answer.{Answers}
+use Rattle.jt_input.specs.Answer.{AnswersReply}
 use Rattle.jt_input.specs.declared.status.Status.{Status}
 use Rattle.jt_input.specs.declared.status.Status.TheVariants as status
 use Rattle.jt_server.specs.Served.{AreServed, EndsAs, store_faults}
@@ -95,5 +95,5 @@ pub record RunsPlatform (O : Type 0) (sessions : ℕ) (left left_now : Option (L
   pub taken : List ℕ
   pub consumed : Consumes left left_now taken
   pub does : Does O came sessions taken left_now old now reports history
-  pub answers : Answers status (platform_text came) written written_now
+  pub answers : AnswersReply status (platform_text came) written written_now
   pub ends : EndsSo came status

@@ -10,9 +10,9 @@ ghost use Rattle.jt_platform.specs.Hub.{opening_of};
 ghost use Rattle.jt_platform_command.specs.Running.{RunsPlatform, scene_of};
 ghost use Rattle.jt_platform_command.specs.Opening.{Opens};
 
-use crate::telling::{tell_bad_line, tell_no_listener, tell_served};
+use crate::telling::tell_served;
 use crate::{FleetRead, read_fleet};
-use jt_input::Status;
+use jt_input::{EarlyEnd, Status, answer_early_end};
 use jt_outside::{Listen, Sink, Source};
 use jt_platform::{Entry, Fleet, Hub};
 use jt_server::{Served, serve};
@@ -58,15 +58,23 @@ where
     L::Link: Send,
     requires history { hub.history ≡ [] }
     requires sessions { 1 ≤ sessions }
-    ensures opens { Opens (Option (HubOpening P)) (opening_of (P.tables hub.start) (P.limit hub.start) hub.fleet hub.secret) sessions
-        (scene_of (L.pool listen.old) (L.faults listen.old) (P.tables hub.start) (P.limit hub.start) (P.faults hub.keeper))
-        (scene_of (L.pool listen.new) (L.faults listen.new) (P.tables result.keeper) (P.limit result.keeper) (P.faults result.keeper))
+    ensures opens { Opens (Option (HubOpening P))
+        (opening_of (P.tables hub.start) (P.limit hub.start) hub.fleet hub.secret) sessions
+        (scene_of (L.pool listen.old) (L.faults listen.old) (P.tables hub.start) (P.limit hub.start)
+        (P.faults hub.keeper))
+        (scene_of (L.pool listen.new) (L.faults listen.new) (P.tables result.keeper)
+        (P.limit result.keeper) (P.faults result.keeper))
         (K.written sink.old) (K.written sink.new) result.reports result.history result.status }
-    ensures keeper { (P.tables result.keeper ≡ tables_after (P.tables hub.start) (newest result.history)) × (P.limit result.keeper ≡ P.limit hub.start) }
-    ensures write_fault { result.status ≡ Status.WriteFault → Rose (K.faults sink.old) (K.faults sink.new) }
+    ensures keeper { (P.tables result.keeper
+        ≡ tables_after (P.tables hub.start) (newest result.history))
+        × (P.limit result.keeper ≡ P.limit hub.start) }
+    ensures write_fault { result.status ≡ Status.WriteFault →
+        Rose (K.faults sink.old) (K.faults sink.new) }
     ensures no_read_fault { result.status ≢ Status.ReadFault }
-    ensures net_fault { result.status ≡ Status.NetFault → Rose (L.faults listen.old) (L.faults listen.new) }
-    ensures store_fault { result.status ≡ Status.StoreFault → Rose (P.faults hub.keeper) (P.faults result.keeper) ⊎ (first_limit result.reports ≢ None) }
+    ensures net_fault { result.status ≡ Status.NetFault →
+        Rose (L.faults listen.old) (L.faults listen.new) }
+    ensures store_fault { result.status ≡ Status.StoreFault →
+        Rose (P.faults hub.keeper) (P.faults result.keeper) ⊎ (first_limit result.reports ≢ None) }
     ensures not_usage { result.status ≢ Status.Usage }
 {
     let Served { reports, hub, end } = serve(rt, alloc, listen, hub, sessions);
@@ -81,6 +89,7 @@ where
 }
 
 // Begins to listen, and serves links over a fleet.
+#[tactic(auto, unfolding(crate::specs::Platform::platform_text))]
 fn listen_over<R: Threads + Wait + Sync, K: Sink, L: Listen, P: Keeper + Send + Drop>(
     rt: &R,
     alloc: Global,
@@ -93,21 +102,29 @@ where
     L::Link: Send,
     requires history { hub.history ≡ [] }
     requires sessions { 1 ≤ words.sessions }
-    ensures opens { Opens (Option (HubOpening P)) (opening_of (P.tables hub.start) (P.limit hub.start) hub.fleet hub.secret) words.sessions
-        (scene_of (L.pool listen.old) (L.faults listen.old) (P.tables hub.start) (P.limit hub.start) (P.faults hub.keeper))
-        (scene_of (L.pool listen.new) (L.faults listen.new) (P.tables result.keeper) (P.limit result.keeper) (P.faults result.keeper))
+    ensures opens { Opens (Option (HubOpening P))
+        (opening_of (P.tables hub.start) (P.limit hub.start) hub.fleet hub.secret) words.sessions
+        (scene_of (L.pool listen.old) (L.faults listen.old) (P.tables hub.start) (P.limit hub.start)
+        (P.faults hub.keeper))
+        (scene_of (L.pool listen.new) (L.faults listen.new) (P.tables result.keeper)
+        (P.limit result.keeper) (P.faults result.keeper))
         (K.written sink.old) (K.written sink.new) result.reports result.history result.status }
-    ensures keeper { (P.tables result.keeper ≡ tables_after (P.tables hub.start) (newest result.history)) × (P.limit result.keeper ≡ P.limit hub.start) }
-    ensures write_fault { result.status ≡ Status.WriteFault → Rose (K.faults sink.old) (K.faults sink.new) }
+    ensures keeper { (P.tables result.keeper
+        ≡ tables_after (P.tables hub.start) (newest result.history))
+        × (P.limit result.keeper ≡ P.limit hub.start) }
+    ensures write_fault { result.status ≡ Status.WriteFault →
+        Rose (K.faults sink.old) (K.faults sink.new) }
     ensures no_read_fault { result.status ≢ Status.ReadFault }
-    ensures net_fault { result.status ≡ Status.NetFault → Rose (L.faults listen.old) (L.faults listen.new) }
-    ensures store_fault { result.status ≡ Status.StoreFault → Rose (P.faults hub.keeper) (P.faults result.keeper) ⊎ (first_limit result.reports ≢ None) }
+    ensures net_fault { result.status ≡ Status.NetFault →
+        Rose (L.faults listen.old) (L.faults listen.new) }
+    ensures store_fault { result.status ≡ Status.StoreFault →
+        Rose (P.faults hub.keeper) (P.faults result.keeper) ⊎ (first_limit result.reports ≢ None) }
     ensures not_usage { result.status ≢ Status.Usage }
 {
     if !listen.start(words.port) {
         let (keeper, history) = hub.into_parts();
         return PlatformRun {
-            status: tell_no_listener(sink),
+            status: answer_early_end(alloc, sink, EarlyEnd::ListenFault),
             keeper,
             reports: Seq::new(alloc),
             history,
@@ -120,6 +137,7 @@ where
 /// writes a line for each session, the line of the totals, and the last one, if there is one.
 ///
 /// A bad line of the source is told before anything is listened to. It may wait for peers, and its promises hold where it returns.
+#[tactic(auto, unfolding(crate::specs::Platform::platform_text))]
 pub fn platform<R: Threads + Wait + Sync, S: Source, K: Sink, L: Listen, P: Keeper + Send + Drop>(
     rt: &R,
     alloc: Global,
@@ -132,22 +150,31 @@ pub fn platform<R: Threads + Wait + Sync, S: Source, K: Sink, L: Listen, P: Keep
 where
     L::Link: Send,
     requires sessions { 1 ≤ words.sessions }
-    ensures runs { RunsPlatform (Option (HubOpening P)) words.sessions (S.left source.old) (S.left source.new)
-        (scene_of (L.pool listen.old) (L.faults listen.old) (P.tables keeper) (P.limit keeper) (P.faults keeper))
-        (scene_of (L.pool listen.new) (L.faults listen.new) (P.tables result.keeper) (P.limit result.keeper) (P.faults result.keeper))
+    ensures runs { RunsPlatform (Option (HubOpening P)) words.sessions
+        (S.left source.old) (S.left source.new)
+        (scene_of (L.pool listen.old) (L.faults listen.old) (P.tables keeper) (P.limit keeper)
+        (P.faults keeper))
+        (scene_of (L.pool listen.new) (L.faults listen.new) (P.tables result.keeper)
+        (P.limit result.keeper) (P.faults result.keeper))
         (K.written sink.old) (K.written sink.new) result.reports result.history result.status }
-    ensures keeper { (P.tables result.keeper ≡ tables_after (P.tables keeper) (newest result.history)) × (P.limit result.keeper ≡ P.limit keeper) }
-    ensures read_fault { result.status ≡ Status.ReadFault → Rose (S.faults source.old) (S.faults source.new) }
-    ensures write_fault { result.status ≡ Status.WriteFault → Rose (K.faults sink.old) (K.faults sink.new) }
-    ensures net_fault { result.status ≡ Status.NetFault → Rose (L.faults listen.old) (L.faults listen.new) }
-    ensures store_fault { result.status ≡ Status.StoreFault → Rose (P.faults keeper) (P.faults result.keeper) ⊎ (first_limit result.reports ≢ None) }
+    ensures keeper { (P.tables result.keeper
+        ≡ tables_after (P.tables keeper) (newest result.history))
+        × (P.limit result.keeper ≡ P.limit keeper) }
+    ensures read_fault { result.status ≡ Status.ReadFault →
+        Rose (S.faults source.old) (S.faults source.new) }
+    ensures write_fault { result.status ≡ Status.WriteFault →
+        Rose (K.faults sink.old) (K.faults sink.new) }
+    ensures net_fault { result.status ≡ Status.NetFault →
+        Rose (L.faults listen.old) (L.faults listen.new) }
+    ensures store_fault { result.status ≡ Status.StoreFault →
+        Rose (P.faults keeper) (P.faults result.keeper) ⊎ (first_limit result.reports ≢ None) }
     ensures to_the_end { result.status ≡ Status.Done → IsAtEnd (S.left source.new) }
     ensures not_usage { result.status ≢ Status.Usage }
 {
     let (secret, fleet) = match read_fleet(alloc, source) {
         FleetRead::Fleet(secret, fleet) => (secret, fleet),
         FleetRead::Bad(number) => {
-            let status = tell_bad_line(alloc, sink, number);
+            let status = answer_early_end(alloc, sink, EarlyEnd::BadLine(number));
             return without_links(alloc, status, keeper);
         }
         FleetRead::Failed => return without_links(alloc, Status::ReadFault, keeper),

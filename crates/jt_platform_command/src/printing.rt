@@ -6,7 +6,7 @@ ghost use Rattle.jt_input.specs.declared.status.Status.TheVariants.{Memory};
 ghost use Rattle.jt_platform_command.specs.Platform.{count_of, end_word, entries_line, is_renumbered, is_repeat, is_stored, session_counts, session_line, session_octets, totals_line};
 ghost use Rattle.jt_platform_command.specs.Platform.{first_limit, is_memory, is_store_fault, last_reply, limit_in, or_limit, some_end, store_reply};
 
-use jt_input::Status;
+use jt_input::{EarlyEnd, Status};
 use jt_platform::{Entry, Reply};
 use jt_server::ServeEnd;
 use jt_session::{End, Report};
@@ -30,7 +30,8 @@ fn push_end_word(text: &mut String, end: End) -> Result<(), AllocError>
 
 #[tactic(auto, unfolding(crate::specs::Platform::session_octets))]
 fn push_session_octets(text: &mut String, read: u64, written: u64) -> Result<(), AllocError>
-    ensures { OnOk result (string_bytes text.new ≡ string_bytes text.old ++ session_octets read written) }
+    ensures { OnOk result
+        (string_bytes text.new ≡ string_bytes text.old ++ session_octets read written) }
 {
     write!(text, " read={read} written={written}")
 }
@@ -42,7 +43,8 @@ fn push_session_counts(
     refused: u64,
     dropped: u64,
 ) -> Result<(), AllocError>
-    ensures { OnOk result (string_bytes text.new ≡ string_bytes text.old ++ session_counts frames refused dropped) }
+    ensures { OnOk result
+        (string_bytes text.new ≡ string_bytes text.old ++ session_counts frames refused dropped) }
 {
     write!(
         text,
@@ -52,7 +54,8 @@ fn push_session_counts(
 
 #[tactic(auto, using(std::proofs::Common::append_assoc), unfolding(crate::specs::Platform::session_line))]
 fn push_session_line(text: &mut String, report: &Report) -> Result<(), AllocError>
-    ensures { OnOk result (string_bytes text.new ≡ string_bytes text.old ++ session_line report.now) }
+    ensures { OnOk result
+        (string_bytes text.new ≡ string_bytes text.old ++ session_line report.now) }
 {
     let session = report.session;
     write!(text, "session {session} ")?;
@@ -63,7 +66,8 @@ fn push_session_line(text: &mut String, report: &Report) -> Result<(), AllocErro
 
 /// A line for each session: how it ended, and its counts.
 pub(crate) fn push_session_lines(text: &mut String, reports: &[Report]) -> Result<(), AllocError>
-    ensures { OnOk result (string_bytes text.new ≡ string_bytes text.old ++ flat_map session_line reports.now) }
+    ensures { OnOk result
+        (string_bytes text.new ≡ string_bytes text.old ++ flat_map session_line reports.now) }
 {
     for report in reports {
         push_session_line(text, report)?;
@@ -86,7 +90,8 @@ impl Totals {
         requires renumbered { self.renumbered < 2 ^ 63 }
         ensures stored { result.stored ≡ self.stored + (if is_stored reply.now then 1 else 0) }
         ensures repeat { result.repeat ≡ self.repeat + (if is_repeat reply.now then 1 else 0) }
-        ensures renumbered { result.renumbered ≡ self.renumbered + (if is_renumbered reply.now then 1 else 0) }
+        ensures renumbered { result.renumbered
+            ≡ self.renumbered + (if is_renumbered reply.now then 1 else 0) }
     {
         let mut totals = self;
         match reply {
@@ -124,7 +129,8 @@ impl Totals {
 
 #[tactic(auto, unfolding(crate::specs::Platform::totals_line))]
 fn push_totals(text: &mut String, entries: usize, totals: Totals) -> Result<(), AllocError>
-    ensures { OnOk result (string_bytes text.new ≡ string_bytes text.old ++ totals_line entries totals.stored totals.repeat totals.renumbered) }
+    ensures { OnOk result (string_bytes text.new ≡ string_bytes text.old
+        ++ totals_line entries totals.stored totals.repeat totals.renumbered) }
 {
     let Totals {
         stored,
@@ -139,7 +145,8 @@ fn push_totals(text: &mut String, entries: usize, totals: Totals) -> Result<(), 
 
 /// The line of the totals of a history.
 pub(crate) fn push_entries_line(text: &mut String, history: &[Entry]) -> Result<(), AllocError>
-    ensures { OnOk result (string_bytes text.new ≡ string_bytes text.old ++ entries_line history.now) }
+    ensures { OnOk result
+        (string_bytes text.new ≡ string_bytes text.old ++ entries_line history.now) }
 {
     push_totals(text, history.len(), Totals::of(history))
 }
@@ -191,13 +198,14 @@ fn push_store_line(
     store_fault: bool,
     limit: Option<u64>,
 ) -> Result<(), AllocError>
-    ensures { OnOk result (string_bytes text.new ≡ string_bytes text.old ++ (store_reply store_fault limit).text) }
+    ensures { OnOk result
+        (string_bytes text.new ≡ string_bytes text.old ++ (store_reply store_fault limit).text) }
 {
     if store_fault {
-        return text.push_str("store fault\n");
+        return EarlyEnd::StoreFault.push(text);
     }
     match limit {
-        Some(limit) => write!(text, "list full at {limit}\n"),
+        Some(limit) => EarlyEnd::ListFull(limit).push(text),
         None => Ok(()),
     }
 }
@@ -208,10 +216,11 @@ pub(crate) fn push_last_line(
     end: ServeEnd,
     reports: &[Report],
 ) -> Result<(), AllocError>
-    ensures { OnOk result (string_bytes text.new ≡ string_bytes text.old ++ (last_reply end reports.now).text) }
+    ensures { OnOk result
+        (string_bytes text.new ≡ string_bytes text.old ++ (last_reply end reports.now).text) }
 {
     match end {
-        ServeEnd::ListenFault => text.push_str("listen fault\n"),
+        ServeEnd::ListenFault => EarlyEnd::ListenFault.push(text),
         ServeEnd::Memory => Ok(()),
         ServeEnd::All | ServeEnd::Over => {
             let ends = Ends::of(reports);
@@ -234,7 +243,8 @@ fn store_status(store_fault: bool, limit: Option<u64>) -> Status
 
 /// The status of a run that served these sessions.
 pub(crate) fn served_status(end: ServeEnd, reports: &[Report]) -> Status
-    ensures { result ≡ (if some_end is_memory reports.now then Memory else (last_reply end reports.now).status) }
+    ensures { result
+        ≡ (if some_end is_memory reports.now then Memory else (last_reply end reports.now).status) }
 {
     let ends = Ends::of(reports);
     if ends.memory {

@@ -2,58 +2,18 @@
 
 ghost use Rattle.std.specs.Prelude.{◌≡◌, ◌≢◌, ◌⊎◌, ◌++◌, string_bytes, OnOk, if◌then◌else◌};
 ghost use Rattle.jt_value.specs.Counts.{Rose};
-ghost use Rattle.jt_input.specs.Answer.{Answers, IsFault};
+ghost use Rattle.jt_input.specs.Answer.{AnswersReply, IsFault};
 ghost use Rattle.jt_input.specs.declared.status.Status.TheVariants.{Memory};
-ghost use Rattle.jt_platform_command.specs.Platform.{BadLine, NoListener, Served, is_memory, last_reply, platform_text, some_end};
+ghost use Rattle.jt_platform_command.specs.Platform.{Served, is_memory, last_reply, platform_text, some_end};
 ghost use Rattle.jt_platform_command.specs.Running.{EndsOf};
 
 use crate::printing::{push_entries_line, push_last_line, push_session_lines, served_status};
-use jt_input::{Status, push_bad_line};
-use jt_outside::{Sink, write_all};
+use jt_input::{Status, write_reply};
+use jt_outside::Sink;
 use jt_platform::Entry;
 use jt_server::ServeEnd;
 use jt_session::Report;
 use std::alloc::{AllocError, Global};
-
-// Writes a text, all at once. Want of memory is told whatever becomes of the write.
-fn write_text<K: Sink>(sink: &mut K, text: &[u8], status: Status) -> Status
-    ensures answers { Answers result (record { text = text.now; status = status }) (K.written sink.old) (K.written sink.new) }
-    ensures status { (result ≡ status) ⊎ (result ≡ Status.WriteFault) }
-    ensures memory { status ≡ Status.Memory → result ≡ Status.Memory }
-    ensures write_fault { result ≡ Status.WriteFault → status ≢ Status.WriteFault → Rose (K.faults sink.old) (K.faults sink.new) }
-{
-    if write_all(sink, text) || status == Status::Memory {
-        status
-    } else {
-        Status::WriteFault
-    }
-}
-
-/// The line of the source of this number is bad.
-#[tactic(auto, unfolding(crate::specs::Platform::platform_text))]
-pub(crate) fn tell_bad_line<K: Sink>(alloc: Global, sink: &mut K, number: u64) -> Status
-    ensures answers { Answers result (platform_text (BadLine number)) (K.written sink.old) (K.written sink.new) }
-    ensures status { (result ≡ Status.Refused) ⊎ IsFault result }
-    ensures write_fault { result ≡ Status.WriteFault → Rose (K.faults sink.old) (K.faults sink.new) }
-    ensures no_read_fault { result ≢ Status.ReadFault }
-{
-    let mut text = String::new(alloc);
-    match push_bad_line(&mut text, number) {
-        Ok(()) => write_text(sink, text.as_bytes(), Status::Refused),
-        Err(_) => Status::Memory,
-    }
-}
-
-/// The listener cannot begin.
-#[tactic(auto, unfolding(crate::specs::Platform::platform_text))]
-pub(crate) fn tell_no_listener<K: Sink>(sink: &mut K) -> Status
-    ensures answers { Answers result (platform_text NoListener) (K.written sink.old) (K.written sink.new) }
-    ensures status { (result ≡ Status.NetFault) ⊎ IsFault result }
-    ensures write_fault { result ≡ Status.WriteFault → Rose (K.faults sink.old) (K.faults sink.new) }
-    ensures no_read_fault { result ≢ Status.ReadFault }
-{
-    write_text(sink, b"listen fault\n", Status::NetFault)
-}
 
 #[tactic(auto, using(std::proofs::Common::append_assoc), unfolding(crate::specs::Platform::platform_text))]
 fn push_served(
@@ -62,7 +22,8 @@ fn push_served(
     reports: &[Report],
     history: &[Entry],
 ) -> Result<(), AllocError>
-    ensures { OnOk result (string_bytes text.new ≡ string_bytes text.old ++ (platform_text (Served end reports.now history.now)).text) }
+    ensures { OnOk result (string_bytes text.new
+        ≡ string_bytes text.old ++ (platform_text (Served end reports.now history.now)).text) }
 {
     push_session_lines(text, reports)?;
     push_entries_line(text, history)?;
@@ -78,15 +39,19 @@ pub(crate) fn tell_served<K: Sink>(
     reports: &[Report],
     history: &[Entry],
 ) -> Status
-    ensures answers { Answers result (platform_text (Served end reports.now history.now)) (K.written sink.old) (K.written sink.new) }
-    ensures status { (result ≡ (if some_end is_memory reports.now then Memory else (last_reply end reports.now).status)) ⊎ IsFault result }
-    ensures write_fault { result ≡ Status.WriteFault → Rose (K.faults sink.old) (K.faults sink.new) }
+    ensures answers { AnswersReply result (platform_text (Served end reports.now history.now))
+        (K.written sink.old) (K.written sink.new) }
+    ensures status { (result
+        ≡ (if some_end is_memory reports.now then Memory else (last_reply end reports.now).status))
+        ⊎ IsFault result }
+    ensures write_fault { result ≡ Status.WriteFault →
+        Rose (K.faults sink.old) (K.faults sink.new) }
     ensures no_read_fault { result ≢ Status.ReadFault }
     ensures ends { EndsOf end result }
 {
     let mut text = String::new(alloc);
     match push_served(&mut text, end, reports, history) {
-        Ok(()) => write_text(sink, text.as_bytes(), served_status(end, reports)),
+        Ok(()) => write_reply(sink, text.as_bytes(), served_status(end, reports)),
         Err(_) => Status::Memory,
     }
 }

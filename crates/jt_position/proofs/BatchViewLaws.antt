@@ -9,7 +9,7 @@ use Rattle.jt_layout.proofs.Laws.{bind_ok, ok_is}
 use Rattle.jt_position.specs.declared.position.Position.{Position}
 use Rattle.jt_position.specs.declared.position_view.PositionView.{PositionView}
 use Rattle.jt_position.specs.Positions.{position}
-use Rattle.jt_position.specs.BatchViews.{viewed_position, reads_positions, positions_from}
+use Rattle.jt_position.specs.BatchViews.{position_in_view, reads_positions, positions_from}
 
 so_many : {A : Type 0} (f : Reading A) (n : ℕ) (s : List ℕ) (p : ℕ) (x : List A × ℕ) → read_times f n s p ≡ Ok x → length x.0 ≡ n
 unfolding read_times
@@ -55,10 +55,10 @@ not_refused n s p r e h = let n = rw (stops (sized word position).read n s p r e
 -- one position was taken
 pub stepped : (n : ℕ) (s : List ℕ) (p : ℕ) (t : List ℕ) (q : ℕ) (left : List Position) (r : Result PositionView Refusal) (o : Option PositionView) → t ≡ s → 0 < n
     → Finds (λ view. (record { fixed = view.fixed; items = view.items }, q)) r ((sized word position).read s p) → IsTrue (reads_positions n s p) → positions_from n s p ≡ left → o ≡ result_ok r
-    → IsTrue (reads_positions (n - 1) t q) × YieldsFirstBy viewed_position (λ left. left) left o (positions_from (n - 1) t q)
+    → IsTrue (reads_positions (n - 1) t q) × YieldsFirstBy position_in_view (λ left. left) left o (positions_from (n - 1) t q)
 stepped zero s p t q left r o same lt found h was is = absurd (omega arith)
 stepped (suc n) s p t q left (Ok view) o same lt found h was is =
-    let next = next_position n s p (viewed_position view) q found h in
+    let next = next_position n s p (position_in_view view) q found h in
     let one_less : suc n - 1 ≡ n = omega arith in
     rw (same, is, one_less) (next.0, sym was ∙ next.1)
 stepped (suc n) s p t q left (Err r) o same lt found h was is = absurd (not_refused n s p r found h)

@@ -21,7 +21,7 @@ use Rattle.jt_position.specs.declared.item_view.ItemView.{ItemView}
 use Rattle.jt_position.specs.Items.{typed, untyped}
 use Rattle.jt_position.specs.Positions.{plain_item, item, fixed, position, batch}
 use Rattle.jt_position.proofs.ItemLaws.{item_law, item_some}
-use Rattle.jt_position.specs.Views.{owned, reads_from, items_from}
+use Rattle.jt_position.specs.Views.{item_in_view, reads_from, items_from}
 
 byte_ends : (s : List ℕ) (p : ℕ) (x : ℕ × ℕ) → byte.read s p ≡ Ok x → x.1 ≡ p + 1
 unfolding number
@@ -66,9 +66,9 @@ pub not_refused : (s : List ℕ) (p : ℕ) (r : Refusal) → p < length s → it
 not_refused s p r lt e h = let n = rw (all_stops item.read s p r lt e) at h in absurd cc
 
 -- one item was taken
-pub stepped : (s : List ℕ) (p : ℕ) (t : List ℕ) (q : ℕ) (left : List Item) (r : Result ItemView Refusal) (o : Option ItemView) → t ≡ s → p < length s → Finds (λ view. (owned view, q)) r (item.read s p) → IsTrue (reads_from s p) → items_from s p ≡ left → o ≡ result_ok r → IsTrue (reads_from t q) × YieldsFirstBy owned (λ left. left) left o (items_from t q)
+pub stepped : (s : List ℕ) (p : ℕ) (t : List ℕ) (q : ℕ) (left : List Item) (r : Result ItemView Refusal) (o : Option ItemView) → t ≡ s → p < length s → Finds (λ view. (item_in_view view, q)) r (item.read s p) → IsTrue (reads_from s p) → items_from s p ≡ left → o ≡ result_ok r → IsTrue (reads_from t q) × YieldsFirstBy item_in_view (λ left. left) left o (items_from t q)
 stepped s p t q left (Ok view) o same lt found h was is =
-    let next = next_item s p (owned view) q lt found h in
+    let next = next_item s p (item_in_view view) q lt found h in
     rw (same, is) (next.0, sym was ∙ next.1)
 stepped s p t q left (Err r) o same lt found h was is = absurd (not_refused s p r lt found h)
 

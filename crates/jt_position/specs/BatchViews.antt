@@ -7,8 +7,8 @@ use Rattle.jt_position.specs.declared.position_view.PositionView.{PositionView}
 use Rattle.jt_position.specs.Positions.{position}
 
 -- the position that a view is of
-abbrev pub viewed_position : PositionView → Position
-viewed_position view = record { fixed = view.fixed; items = view.items }
+abbrev pub position_in_view : PositionView → Position
+position_in_view view = record { fixed = view.fixed; items = view.items }
 
 -- from p on there are so many positions, each behind its length
 abbrev pub reads_positions : ℕ → List ℕ → ℕ → Bool

@@ -13,20 +13,20 @@ use Rattle.jt_position.specs.declared.item_view.ItemView.{ItemView}
 use Rattle.jt_position.specs.declared.item_view.ItemView.TheVariants as view
 
 -- the item with an octet list of its own in place of the slice
-unfoldable pub owned : ItemView → Item
-owned (view.Mileage n) = item.Mileage n
-owned (view.Fuel n) = item.Fuel n
-owned (view.RecorderSpeed n) = item.RecorderSpeed n
-owned (view.EventId n) = item.EventId n
-owned (view.Overspeed kind region) = item.Overspeed kind region
-owned (view.RegionAlarm kind region direction) = item.RegionAlarm kind region direction
-owned (view.Travel segment seconds result) = item.Travel segment seconds result
-owned (view.Signals n) = item.Signals n
-owned (view.Io n) = item.Io n
-owned (view.Analogue n) = item.Analogue n
-owned (view.Signal n) = item.Signal n
-owned (view.Satellites n) = item.Satellites n
-owned (view.Raw id value) = item.Raw id value.now
+unfoldable pub item_in_view : ItemView → Item
+item_in_view (view.Mileage n) = item.Mileage n
+item_in_view (view.Fuel n) = item.Fuel n
+item_in_view (view.RecorderSpeed n) = item.RecorderSpeed n
+item_in_view (view.EventId n) = item.EventId n
+item_in_view (view.Overspeed kind region) = item.Overspeed kind region
+item_in_view (view.RegionAlarm kind region direction) = item.RegionAlarm kind region direction
+item_in_view (view.Travel segment seconds result) = item.Travel segment seconds result
+item_in_view (view.Signals n) = item.Signals n
+item_in_view (view.Io n) = item.Io n
+item_in_view (view.Analogue n) = item.Analogue n
+item_in_view (view.Signal n) = item.Signal n
+item_in_view (view.Satellites n) = item.Satellites n
+item_in_view (view.Raw id value) = item.Raw id value.now
 
 -- a raw item's value stands in the octets of its position behind the 28 of the fixed fields, the items before it, its id and its
 -- length

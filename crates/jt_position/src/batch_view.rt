@@ -64,11 +64,11 @@ impl<'a> Positions<'a> {
 
 impl<'a> Iterator for Positions<'a> {
     ghost use Rattle.std.specs.Iterator.{YieldsFirstBy, item_count};
-    ghost use Rattle.jt_position.specs.BatchViews.{viewed_position};
+    ghost use Rattle.jt_position.specs.BatchViews.{position_in_view};
 
     type Item = PositionView<'a>;
 
-    ghost next_gives = { YieldsFirstBy viewed_position (λ left. left) };
+    ghost next_gives = { YieldsFirstBy position_in_view (λ left. left) };
 
     ghost remaining = { item_count (λ left. left) };
 
@@ -90,7 +90,8 @@ pub struct BatchView<'a> {
 
 #[tactic(auto, unfolding(crate::specs::Positions::batch))]
 fn view_in(octets: &[u8]) -> Result<BatchView<'_>, Refusal>
-    ensures { Finds (λ view. record { kind = view.kind; fixes = view.fixes }) result (batch.read octets.now 0) }
+    ensures { Finds (λ view. record { kind = view.kind; fixes = view.fixes }) result
+        (batch.read octets.now 0) }
 {
     let mut reader = Reader::new(octets);
     let count = reader.word()?;

@@ -20,6 +20,7 @@ pub struct Fix {
 
 impl Model for Fix {
     ghost use Rattle.std.specs.Prelude.{ℕ, List, ◌≤◌, length, IsTrue};
+    ghost use Rattle.jt_value.specs.declared.limits.TheConstants.{BODY_LIMIT};
     ghost use Rattle.jt_value.specs.Octets.{AreOctets};
     ghost use Rattle.jt_position.specs.Views.{is_position};
 
@@ -27,7 +28,7 @@ impl Model for Fix {
 
     ghost view = { λ fix. fix.octets };
 
-    ghost invariant = { λ fix. (length fix.octets ≤ 1023) × AreOctets fix.octets × IsTrue (is_position fix.octets) };
+    ghost invariant = { λ fix. (length fix.octets ≤ BODY_LIMIT) × AreOctets fix.octets × IsTrue (is_position fix.octets) };
 }
 
 /// Why octets are no fix.

@@ -53,7 +53,8 @@ impl Fixed {
     #[inline(always)]
     #[tactic(auto, unfolding(crate::specs::Positions::fixed))]
     pub(crate) fn read(reader: &mut Reader<'_>) -> Result<Fixed, Refusal>
-        ensures value { Finds (λ read. (read, reader.new.place)) result (fixed.read reader.old.octets reader.old.place) }
+        ensures value { Finds (λ read. (read, reader.new.place)) result
+            (fixed.read reader.old.octets reader.old.place) }
         ensures octets { reader.new.octets ≡ reader.old.octets }
     {
         let alarm = reader.dword()?;

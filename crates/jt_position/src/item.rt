@@ -132,7 +132,7 @@ impl Item {
 }
 
 // Whether the table leaves this id and value raw.
-#[tactic(auto, using(crate::proofs::ItemLaws::raw_only), unfolding(crate::specs::Items::ItemFits, crate::specs::Views::owned))]
+#[tactic(auto, using(crate::proofs::ItemLaws::raw_only), unfolding(crate::specs::Items::ItemFits, crate::specs::Views::item_in_view))]
 fn raw_fits(id: u8, value: &[u8]) -> bool
     ensures { IsTrue result ↔ ItemFits (Raw id value.now) }
 {

@@ -63,13 +63,13 @@ fn dword_of(octets: &[u8]) -> u32
 
 impl<'a> ItemView<'a> {
     ghost use Rattle.jt_position.specs.Positions.{item};
-    ghost use Rattle.jt_position.specs.Views.{owned};
+    ghost use Rattle.jt_position.specs.Views.{item_in_view};
 
     // The item of an id and its value, by the table.
     #[inline(always)]
-    #[tactic(auto, unfolding(crate::specs::Items::typed, crate::specs::Views::owned))]
+    #[tactic(auto, unfolding(crate::specs::Items::typed, crate::specs::Views::item_in_view))]
     pub(crate) fn of(id: u8, value: &'a [u8]) -> ItemView<'a>
-        ensures { owned result ≡ typed (id, value.now) }
+        ensures { item_in_view result ≡ typed (id, value.now) }
     {
         match (id, value.len()) {
             (MILEAGE, 4) => ItemView::Mileage(dword_of(value)),
@@ -106,7 +106,8 @@ impl<'a> ItemView<'a> {
     #[inline(always)]
     #[tactic(auto, unfolding(crate::specs::Positions::item))]
     pub(crate) fn read(reader: &mut Reader<'a>) -> Result<ItemView<'a>, Refusal>
-        ensures value { Finds (λ view. (owned view, reader.new.place)) result (item.read reader.old.octets reader.old.place) }
+        ensures value { Finds (λ view. (item_in_view view, reader.new.place)) result
+            (item.read reader.old.octets reader.old.place) }
         ensures octets { reader.new.octets ≡ reader.old.octets }
         ensures onward { OnOk result (reader.old.place < reader.new.place) }
     {
@@ -117,9 +118,9 @@ impl<'a> ItemView<'a> {
     }
 
     // The same item with its own octets.
-    #[tactic(auto, unfolding(crate::specs::Views::owned))]
+    #[tactic(auto, unfolding(crate::specs::Views::item_in_view))]
     pub(crate) fn to_item(self, alloc: Global) -> Result<Item, Memory>
-        ensures { IfOk result (λ item. item ≡ owned self.entry) }
+        ensures { IfOk result (λ item. item ≡ item_in_view self.entry) }
     {
         Ok(match self {
             ItemView::Mileage(distance) => Item::Mileage(distance),

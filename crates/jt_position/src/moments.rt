@@ -21,8 +21,8 @@ fn decimal(octet: u8) -> Option<u8>
 fn date_time(year: u16, month: u8, day: u8, hour: u8, minute: u8, second: u8) -> Option<DateTime>
     requires date { (year < 2100) × (month < 100) × (day < 100) }
     requires clock { (hour < 100) × (minute < 100) × (second < 100) }
-    ensures exact { IsSome result
-        ↔ (IsDate (pos year) (pos month) (pos day) × IsTime (pos hour) (pos minute) (pos second) (pos 0)) }
+    ensures exact { IsSome result ↔ (IsDate (pos year) (pos month) (pos day)
+        × IsTime (pos hour) (pos minute) (pos second) (pos 0)) }
     ensures value { IfSome result
         (λ moment. IsYmd (pos year) (pos month) (pos day) moment.date
         × IsHms (pos hour) (pos minute) (pos second) (pos 0) moment.time) }

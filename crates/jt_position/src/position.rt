@@ -56,7 +56,8 @@ impl Position {
     /// Reads a position from where the reader stands up to its end, for bodies that end with one.
     #[tactic(auto, unfolding(crate::specs::Positions::position))]
     pub fn read_from(alloc: Global, reader: &mut Reader<'_>) -> Result<Position, CodecError>
-        ensures value { Gives (λ read. read) result (position.read reader.old.octets reader.old.place) }
+        ensures value { Gives (λ read. read) result
+            (position.read reader.old.octets reader.old.place) }
         ensures octets { reader.new.octets ≡ reader.old.octets }
         ensures end { OnOk result (length reader.old.octets ≤ reader.new.place) }
     {

@@ -49,7 +49,8 @@ impl<'a> Items<'a> {
     #[inline(always)]
     fn of(reader: &Reader<'a>) -> Result<Items<'a>, Refusal>
         requires { AreOctets reader.now.octets }
-        ensures { Finds (λ items. items) result ((to_the_end item).read reader.now.octets reader.now.place) }
+        ensures { Finds (λ items. items) result
+            ((to_the_end item).read reader.now.octets reader.now.place) }
     {
         let mut ahead = reader.ahead();
         while !ahead.is_at_end() {
@@ -63,11 +64,11 @@ impl<'a> Items<'a> {
 
 impl<'a> Iterator for Items<'a> {
     ghost use Rattle.std.specs.Iterator.{YieldsFirstBy, item_count};
-    ghost use Rattle.jt_position.specs.Views.{owned};
+    ghost use Rattle.jt_position.specs.Views.{item_in_view};
 
     type Item = ItemView<'a>;
 
-    ghost next_gives = { YieldsFirstBy owned (λ left. left) };
+    ghost next_gives = { YieldsFirstBy item_in_view (λ left. left) };
 
     ghost remaining = { item_count (λ left. left) };
 
@@ -94,7 +95,8 @@ impl<'a> PositionView<'a> {
     #[inline(always)]
     #[tactic(auto, unfolding(crate::specs::Positions::position))]
     pub fn size(&self) -> usize
-        ensures { result ≡ length (position.spell (record { fixed = self.now.fixed; items = self.now.items })) }
+        ensures { result
+            ≡ length (position.spell (record { fixed = self.now.fixed; items = self.now.items })) }
     {
         // It says that the fixed fields have 28.
         self.fixed.fits();
@@ -106,7 +108,8 @@ impl<'a> PositionView<'a> {
     #[tactic(auto, unfolding(crate::specs::Positions::position))]
     fn read_from(mut reader: Reader<'a>) -> Result<PositionView<'a>, Refusal>
         requires { AreOctets reader.octets }
-        ensures { Finds (λ view. record { fixed = view.fixed; items = view.items }) result (position.read reader.entry.octets reader.entry.place) }
+        ensures { Finds (λ view. record { fixed = view.fixed; items = view.items }) result
+            (position.read reader.entry.octets reader.entry.place) }
     {
         let fixed = Fixed::read(&mut reader)?;
         let items = Items::of(&reader)?;
@@ -117,8 +120,9 @@ impl<'a> PositionView<'a> {
     #[inline(always)]
     pub(crate) fn read_sized(reader: &mut Reader<'a>) -> Result<PositionView<'a>, Refusal>
         requires { AreOctets reader.old.octets }
-        ensures value { Finds (λ view. (record { fixed = view.fixed; items = view.items }, reader.new.place)) result
-            ((sized word position).read reader.old.octets reader.old.place) }
+        ensures value { Finds (λ view.
+            (record { fixed = view.fixed; items = view.items }, reader.new.place))
+            result ((sized word position).read reader.old.octets reader.old.place) }
         ensures octets { reader.new.octets ≡ reader.old.octets }
     {
         let count = reader.word()?;

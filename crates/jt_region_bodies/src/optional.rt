@@ -27,7 +27,8 @@ const TIME: usize = 6;
 // Start and end.
 #[tactic(auto, unfolding(crate::specs::Regions::period))]
 fn read_period(reader: &mut Reader<'_>) -> Result<[u8; 2 * TIME], Refusal>
-    ensures value { Finds (λ times. (times, reader.new.place)) result (period.read reader.old.octets reader.old.place) }
+    ensures value { Finds (λ times. (times, reader.new.place)) result
+        (period.read reader.old.octets reader.old.place) }
     ensures octets { reader.new.octets ≡ reader.old.octets }
     ensures onward { OnOk result (reader.old.place ≤ reader.new.place) }
 {
@@ -42,7 +43,8 @@ fn read_period(reader: &mut Reader<'_>) -> Result<[u8; 2 * TIME], Refusal>
 // The times, if there are any.
 #[tactic(auto, unfolding(jt_layout::specs::Layout::only_if))]
 pub fn read_times(reader: &mut Reader<'_>, attribute: u16) -> Result<Option<[u8; 12]>, Refusal>
-    ensures value { Finds (λ times. (times, reader.new.place)) result ((times_of attribute).read reader.old.octets reader.old.place) }
+    ensures value { Finds (λ times. (times, reader.new.place)) result
+        ((times_of attribute).read reader.old.octets reader.old.place) }
     ensures octets { reader.new.octets ≡ reader.old.octets }
     ensures onward { OnOk result (reader.old.place ≤ reader.new.place) }
 {
@@ -83,7 +85,8 @@ pub fn times_fit(attribute: u16, times: &Option<[u8; 12]>) -> bool
 // The limit, if there is one.
 #[tactic(auto, unfolding(jt_layout::specs::Layout::only_if, crate::specs::Regions::limit))]
 pub fn read_limit(reader: &mut Reader<'_>, attribute: u16) -> Result<Option<Limit>, Refusal>
-    ensures value { Finds (λ limit. (limit, reader.new.place)) result ((limit_of attribute).read reader.old.octets reader.old.place) }
+    ensures value { Finds (λ limit. (limit, reader.new.place)) result
+        ((limit_of attribute).read reader.old.octets reader.old.place) }
     ensures octets { reader.new.octets ≡ reader.old.octets }
     ensures onward { OnOk result (reader.old.place ≤ reader.new.place) }
 {
@@ -131,7 +134,8 @@ pub fn read_thresholds(
     reader: &mut Reader<'_>,
     attribute: u16,
 ) -> Result<Option<(u16, u16)>, Refusal>
-    ensures value { Finds (λ thresholds. (thresholds, reader.new.place)) result ((thresholds_of attribute).read reader.old.octets reader.old.place) }
+    ensures value { Finds (λ thresholds. (thresholds, reader.new.place)) result
+        ((thresholds_of attribute).read reader.old.octets reader.old.place) }
     ensures octets { reader.new.octets ≡ reader.old.octets }
     ensures onward { OnOk result (reader.old.place ≤ reader.new.place) }
 {
@@ -150,7 +154,8 @@ pub fn write_thresholds(
     thresholds: &Option<(u16, u16)>,
 ) -> Result<(), Memory>
     requires { (thresholds_of attribute).Fits thresholds.now }
-    ensures octets { OnOk result (writer.new ≡ writer.old ++ (thresholds_of attribute).spell thresholds.now) }
+    ensures octets { OnOk result
+        (writer.new ≡ writer.old ++ (thresholds_of attribute).spell thresholds.now) }
     ensures kept { StartsWith writer.new writer.old }
 {
     let _there = bit_0(attribute);

@@ -5,12 +5,13 @@ use Rattle.std.specs.Option.{option_or}
 use Rattle.std.specs.List.{list_any}
 use Rattle.std.specs.Ordering.{nat_cmp}
 use Rattle.std.specs.Set.{distinct_count}
+use Rattle.jt_regions.specs.declared.table.TheConstants.{REGION_LIMIT}
 use Rattle.jt_regions.specs.declared.error.RegionError.{RegionError}
 use Rattle.jt_regions.specs.declared.error.RegionError.TheVariants as errors
 
 -- the most regions of one kind
 abbrev pub region_limit : ℕ
-region_limit = 1024
+region_limit = REGION_LIMIT
 
 module _ {T : Type 0} where
   -- what is kept of the regions that there are: setting 0 replaces the kind, 1 and 2 add to it or replace by id

@@ -3,6 +3,8 @@
 ghost use Rattle.std.specs.Prelude.{◌≡◌, ◌≤◌, IfSome, IfOk, OnErr, option_copied};
 ghost use Rattle.jt_regions.specs.Kinds.{listed};
 ghost use Rattle.std.specs.FinMap as map;
+ghost use Rattle.jt_regions.specs.declared.table.TheConstants.{REGION_LIMIT};
+ghost use Rattle.jt_value.specs.declared.limits.TheConstants.{WORD_COUNT_LIMIT};
 ghost use Rattle.jt_regions.specs.Tables.{count_of, Applies, AtMost, Deleted, OthersStay};
 
 use crate::change::RegionChange;
@@ -36,7 +38,12 @@ impl Model for RegionTable {
 impl RegionTable {
     /// A table of no regions, which takes no memory.
     pub fn new(alloc: Global) -> RegionTable
-        ensures { result ≡ record { circles = map.empty; rectangles = map.empty; polygons = map.empty; routes = map.empty } }
+        ensures { result ≡ record {
+          circles = map.empty;
+          rectangles = map.empty;
+          polygons = map.empty;
+          routes = map.empty;
+        } }
     {
         RegionTable {
             circles: Table::new(alloc),
@@ -107,7 +114,7 @@ impl RegionTable {
     /// The number of regions of a kind, at most 1,024.
     pub fn count(&self, kind: RegionKind) -> u32
         ensures count { result ≡ count_of kind self.now }
-        ensures few { result ≤ 1024 }
+        ensures few { result ≤ REGION_LIMIT }
     {
         let count = match kind {
             RegionKind::Circle => self.circles.len(),
@@ -122,7 +129,7 @@ impl RegionTable {
     /// the setting is above 2; then NoRegion exactly where the setting is 2, with the first id of the list that the table
     /// lacks; then TooMany exactly where the kind would have more than 1,024 regions, with their number; or Memory.
     pub fn apply(&mut self, change: &RegionChange) -> Result<(), RegionError>
-        requires { AtMost 65535 change.now }
+        requires { AtMost WORD_COUNT_LIMIT change.now }
         ensures answer { Applies change.now self.old result self.new }
         ensures err { OnErr result (self.new ≡ self.old) }
     {

@@ -6,6 +6,7 @@ ghost use Rattle.std.specs.FinMap as map;
 ghost use Rattle.std.specs.Ordering.{nat_cmp};
 ghost use Rattle.std.specs.Option.{option_or};
 ghost use Rattle.std.specs.List.{list_any};
+ghost use Rattle.jt_value.specs.declared.limits.TheConstants.{WORD_COUNT_LIMIT};
 ghost use Rattle.jt_regions.specs.Kinds as kinds;
 ghost use Rattle.jt_regions.specs.Kinds.{last_with, first_missing, count_after, Sets, after_deletion, listed};
 ghost use Rattle.jt_regions.specs.Steps.{OwnIds, After};
@@ -18,7 +19,7 @@ use std::collections::BTreeMap;
 use std::marker::Model;
 
 /// The most regions of one kind.
-const LIMIT: usize = 1024;
+const REGION_LIMIT: usize = 1024;
 
 /// At most 1,024 regions, each under its id.
 #[derive(Drop)]
@@ -34,6 +35,7 @@ impl<T: Identified> Model for Table<T> {
     ghost use Rattle.std.specs.FinMap.{FinMap, code, from_entries};
     ghost use Rattle.std.specs.Ordering.{nat_cmp};
     ghost use Rattle.jt_regions.specs.Steps.{OwnIds};
+    ghost use Rattle.jt_regions.specs.declared.table.TheConstants.{REGION_LIMIT};
 
     ghost Value = { FinMap nat_cmp T };
 
@@ -41,7 +43,7 @@ impl<T: Identified> Model for Table<T> {
 
     ghost view = { λ table. from_entries table.regions.entries };
 
-    ghost invariant = { λ table. (btree_map_len table.regions ≤ 1024) × OwnIds T.id_of table.regions.entries };
+    ghost invariant = { λ table. (btree_map_len table.regions ≤ REGION_LIMIT) × OwnIds T.id_of table.regions.entries };
 }
 
 // The map with the last region of a list under each id, and otherwise with those that it had.
@@ -49,8 +51,10 @@ fn filled<T: Identified>(
     regions: BTreeMap<u32, T>,
     list: &[T],
 ) -> Result<BTreeMap<u32, T>, AllocError>
-    ensures regions { IfOk result (λ filled. (id : ℕ) → tree.get nat_cmp filled id ≡ option_or (last_with T.id_of list.now id) (tree.get nat_cmp regions id)) }
-    ensures len { IfOk result (λ filled. tree.btree_map_len filled ≤ tree.btree_map_len regions + length list.now) }
+    ensures regions { IfOk result (λ filled. (id : ℕ) → tree.get nat_cmp filled id
+        ≡ option_or (last_with T.id_of list.now id) (tree.get nat_cmp regions id)) }
+    ensures len { IfOk result (λ filled.
+        tree.btree_map_len filled ≤ tree.btree_map_len regions + length list.now) }
 {
     let mut filled = regions;
     for region in list {
@@ -65,7 +69,8 @@ fn kept<T: Identified>(
     regions: &BTreeMap<u32, T>,
     setting: u8,
 ) -> Result<BTreeMap<u32, T>, AllocError>
-    ensures regions { IfOk result (λ kept. (id : ℕ) → tree.get nat_cmp kept id ≡ map.get (kinds.kept setting (map.from_entries regions.now.entries)) id) }
+    ensures regions { IfOk result (λ kept. (id : ℕ) → tree.get nat_cmp kept id
+        ≡ map.get (kinds.kept setting (map.from_entries regions.now.entries)) id) }
     ensures len { IfOk result (λ kept. tree.btree_map_len kept ≤ tree.btree_map_len regions.now) }
 {
     if setting == 0 {
@@ -89,7 +94,8 @@ fn absent<T: Identified>(regions: &BTreeMap<u32, T>, list: &[T]) -> Option<u32>
 
 // The id that a setting has no region for.
 fn missing<T: Identified>(regions: &BTreeMap<u32, T>, setting: u8, list: &[T]) -> Option<u32>
-    ensures { result ≡ kinds.missing T.id_of setting list.now (map.from_entries regions.now.entries) }
+    ensures { result
+        ≡ kinds.missing T.id_of setting list.now (map.from_entries regions.now.entries) }
 {
     if setting == 2 {
         absent(regions, list)
@@ -100,7 +106,8 @@ fn missing<T: Identified>(regions: &BTreeMap<u32, T>, setting: u8, list: &[T]) -
 
 // How many regions there are with one more.
 fn count_with<T: Identified>(regions: &BTreeMap<u32, T>, region: &T) -> usize
-    ensures count { result ≡ count_after T.id_of 1 (region.now ∷ []) (map.from_entries regions.now.entries) }
+    ensures count { result
+        ≡ count_after T.id_of 1 (region.now ∷ []) (map.from_entries regions.now.entries) }
     ensures few { result ≤ tree.btree_map_len regions.now + 1 }
 {
     let more = if regions.contains_key(&region.id()) {
@@ -113,7 +120,8 @@ fn count_with<T: Identified>(regions: &BTreeMap<u32, T>, region: &T) -> usize
 
 // Takes out the regions of these ids.
 fn take_out<T: Identified>(regions: &mut BTreeMap<u32, T>, ids: &[u32])
-    ensures regions { (id : ℕ) → tree.get nat_cmp regions.new id ≡ (if list_any (nat_eq id) ids.now then None else tree.get nat_cmp regions.old id) }
+    ensures regions { (id : ℕ) → tree.get nat_cmp regions.new id
+        ≡ (if list_any (nat_eq id) ids.now then None else tree.get nat_cmp regions.old id) }
     ensures len { tree.btree_map_len regions.new ≤ tree.btree_map_len regions.old }
 {
     for id in ids {
@@ -128,10 +136,11 @@ fn after<T: Identified>(
     setting: u8,
     list: &[T],
 ) -> Result<BTreeMap<u32, T>, AllocError>
-    requires few { tree.btree_map_len regions.now ≤ 1024 }
+    requires few { tree.btree_map_len regions.now ≤ REGION_LIMIT }
     requires own { OwnIds T.id_of regions.now.entries }
-    requires list { length list.now ≤ 65535 }
-    ensures regions { IfOk result (λ next. After T.id_of setting list.now regions.now.entries next.entries) }
+    requires list { length list.now ≤ WORD_COUNT_LIMIT }
+    ensures regions { IfOk result (λ next.
+        After T.id_of setting list.now regions.now.entries next.entries) }
     ensures few { IfOk result (λ next. tree.btree_map_len next ≤ 66559) }
 {
     let kept = kept(alloc, regions, setting)?;
@@ -143,7 +152,8 @@ fn after<T: Identified>(
 // Puts a copy of a region over the map.
 fn put_over<T: Identified>(regions: &mut BTreeMap<u32, T>, region: &T) -> Result<(), AllocError>
     requires { OwnIds T.id_of regions.old.entries }
-    ensures ok { OnOk result (After T.id_of 1 (region.now ∷ []) regions.old.entries regions.new.entries) }
+    ensures ok { OnOk result
+        (After T.id_of 1 (region.now ∷ []) regions.old.entries regions.new.entries) }
     ensures err { OnErr result (tree.IsUnchanged regions.old regions.new) }
 {
     let region = region.clone()?;
@@ -204,7 +214,7 @@ impl<T: Identified> Table<T> {
     #[tactic(auto, using(jt_value::proofs::FiniteMaps::len_is))]
     pub fn len(&self) -> usize
         ensures len { result ≡ map.len self.now }
-        ensures few { result ≤ 1024 }
+        ensures few { result ≤ REGION_LIMIT }
     {
         self.regions.len()
     }
@@ -212,7 +222,7 @@ impl<T: Identified> Table<T> {
     /// Sets a list of regions: with setting 0 they are the regions, with 1 each is added or replaces the one of its id, with
     /// 2 each replaces it.
     pub fn set(&mut self, setting: u8, list: &[T]) -> Result<(), RegionError>
-        requires { length list.now ≤ 65535 }
+        requires { length list.now ≤ WORD_COUNT_LIMIT }
         ensures { Sets T.id_of setting list.now self.old result self.new }
     {
         if setting > 2 {
@@ -224,7 +234,7 @@ impl<T: Identified> Table<T> {
         }
         let next = after(self.alloc, &self.regions, setting, list)?;
         let count = next.len();
-        if count > LIMIT {
+        if count > REGION_LIMIT {
             return Err(RegionError::TooMany(count as u32));
         }
         self.regions = next;
@@ -236,7 +246,7 @@ impl<T: Identified> Table<T> {
         ensures { Sets T.id_of 1 (region.now ∷ []) self.old result self.new }
     {
         let count = count_with(&self.regions, region);
-        if count > LIMIT {
+        if count > REGION_LIMIT {
             return Err(RegionError::TooMany(count as u32));
         }
         put_over(&mut self.regions, region)?;

@@ -34,7 +34,8 @@ impl AuthTail {
 
     #[tactic(auto, unfolding(crate::specs::Registration::auth_tail))]
     fn read(reader: &mut Reader<'_>) -> Result<AuthTail, Refusal>
-        ensures value { Finds (λ tail. (tail, reader.new.place)) result (layouts.auth_tail.read reader.old.octets reader.old.place) }
+        ensures value { Finds (λ tail. (tail, reader.new.place)) result
+            (layouts.auth_tail.read reader.old.octets reader.old.place) }
         ensures octets { reader.new.octets ≡ reader.old.octets }
     {
         let mut imei = [0; IMEI_LEN];

@@ -31,7 +31,11 @@ const LENGTHS_2019: IdLengths = IdLengths {
 };
 
 fn lengths_in(edition: Edition) -> IdLengths
-    ensures { result ≡ record { maker = layouts.maker_len edition; model = layouts.model_len edition; terminal = layouts.terminal_len edition } }
+    ensures { result ≡ record {
+      maker = layouts.maker_len edition;
+      model = layouts.model_len edition;
+      terminal = layouts.terminal_len edition;
+    } }
 {
     match edition {
         Edition::E2013 => LENGTHS_2013,

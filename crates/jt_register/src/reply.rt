@@ -41,7 +41,8 @@ impl RegisterReply {
 
 // The code, if there is one.
 fn code_in(alloc: Global, reader: &mut Reader<'_>, answer: u8) -> Result<Octets, CodecError>
-    ensures { Gives (λ code. code) result ((rest_if (answer == 0)).read reader.old.octets reader.old.place) }
+    ensures { Gives (λ code. code) result
+        ((rest_if (answer == 0)).read reader.old.octets reader.old.place) }
 {
     if answer == 0 {
         return reader.rest(alloc);

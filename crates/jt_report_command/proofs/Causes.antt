@@ -1,8 +1,8 @@
 -- Why a run ends with a status.
 use Rattle.std.proofs.Common.{◌≡◌, ◌≢◌, ◌⊎◌, inl, inr, ℕ, Bool, true, false, List, [], ◌∷◌, Option, Some, None, length, IsTrue, refl, sym, ap, ◌∙◌}
 use Rattle.std.specs.Prelude.{◌↔◌, ◌&&◌}
-use Rattle.jt_store.specs.Tables.{Told}
-use Rattle.jt_store.specs.Vaults.{Held, settled}
+use Rattle.jt_store.specs.Tables.{WhereKnown}
+use Rattle.jt_store.specs.Vaults.{Held, accepted_count}
 use Rattle.jt_store.specs.declared.unit.Unit.{Unit as OneUnit}
 use Rattle.jt_terminal_rule.specs.declared.state.GiveUp.{GiveUp}
 use Rattle.jt_terminal_rule.specs.declared.state.State.{State}
@@ -16,7 +16,7 @@ use Rattle.jt_agent.specs.declared.reporting.Outcome.TheVariants as outcome
 use Rattle.jt_input.specs.declared.status.Status.{Status}
 use Rattle.jt_input.specs.declared.status.Status.TheVariants as status
 use Rattle.jt_report_command.specs.Report.{outcome_reply}
-use Rattle.jt_report_command.specs.Steps.{CutsShort}
+use Rattle.jt_input.specs.Answer.{CutsShort}
 
 -- ---- a status of attempts
 
@@ -135,18 +135,18 @@ some_left [] (fix ∷ waiting) e none = let left = none.1 in absurd (cc left)
 some_left (unit ∷ units) waiting e none = let left = none.0 in absurd (cc left)
 
 -- what the vault then says
-told_by : (held : Option Held) (P Q : Held → Type 0) → ((h : Held) → P h → Q h) → Told held P → Told held Q
+told_by : (held : Option Held) (P Q : Held → Type 0) → ((h : Held) → P h → Q h) → WhereKnown held P → WhereKnown held Q
 told_by None P Q go told = tt
 told_by (Some h) P Q go told = go h told
 
 pub all_accepted : (tries : ℕ) (o : Outcome) (old now : Between) (done : Bool) → goes_with o ≡ status.Done → Reports tries o old now → (IsTrue done ↔ IsDone now.state)
-    → Told now.held (λ held. IsTrue done ↔ (settled held ≡ length held.recorded)) → Told now.held (λ held. settled held ≡ length held.recorded)
+    → WhereKnown now.held (λ held. IsTrue done ↔ (accepted_count held ≡ length held.recorded)) → WhereKnown now.held (λ held. accepted_count held ≡ length held.recorded)
 all_accepted tries o old now done e reports iff told =
     let all = iff.1 (none_left now.state.units now.state.waiting (nothing_left tries o old now e reports)) in
     told_by now.held _ _ (λ held same. same.0 all) told
 
 pub some_unsent : (tries : ℕ) (o : Outcome) (old now : Between) (done : Bool) → goes_with o ≡ status.Unsent → Reports tries o old now → (IsTrue done ↔ IsDone now.state)
-    → Told now.held (λ held. IsTrue done ↔ (settled held ≡ length held.recorded)) → Told now.held (λ held. settled held ≢ length held.recorded)
+    → WhereKnown now.held (λ held. IsTrue done ↔ (accepted_count held ≡ length held.recorded)) → WhereKnown now.held (λ held. accepted_count held ≢ length held.recorded)
 some_unsent tries o old now done e reports iff told =
     let some = some_left now.state.units now.state.waiting (something_left tries o old now e reports) in
     told_by now.held _ _ (λ held same all. some (iff.0 (same.1 all))) told

@@ -4,7 +4,7 @@ use Rattle.hex.specs.Hex.{decode_sized}
 use Rattle.jt_value.specs.Phone.{field_len, first_bad, digits_of}
 use Rattle.jt_value.specs.declared.phone.Edition.{Edition}
 use Rattle.jt_value.specs.declared.phone.Phone.{Phone}
-use Rattle.jt_report_command.specs.ReportWords.{Told, Tells, Written as WrittenAs}
+use Rattle.jt_report_command.specs.ReportWords.{ReportValues, TellsWords, Written as WrittenAs}
 use Rattle.jt_report_command.specs.Telling.{TellsPlain}
 use Rattle.jt_report_command.specs.Values.{edition_in, phone_in, phone_of, some_of}
 use Rattle.jt_report_command.specs.declared.report_words.Plain.{Plain}
@@ -31,12 +31,12 @@ edition_same text edition digits phone named read =
     )
 
 -- what is told without memory
-abbrev pub plain_of : Told → Plain
+abbrev pub plain_of : ReportValues → Plain
 plain_of told = record { port = told.port; phone = told.phone; tries = told.tries }
 
-pub plain_from : (written : WrittenAs) (told : Told) → Tells written told → TellsPlain written (plain_of told)
+pub plain_from : (written : WrittenAs) (told : ReportValues) → TellsWords written told → TellsPlain written (plain_of told)
 plain_from written told t = record { port = t.port; edition = t.edition; phone = t.phone; tries = t.tries }
 
-pub same_told : (host : List ℕ) (plain : Plain) (plate terminal : List ℕ) (told : Told) → host ≡ told.host → plain ≡ plain_of told → plate ≡ told.plate → terminal ≡ told.terminal
-    → ◌≡◌ {A = Told} (record { host = host; port = plain.port; phone = plain.phone; plate = plate; terminal = terminal; tries = plain.tries }) told
+pub same_told : (host : List ℕ) (plain : Plain) (plate terminal : List ℕ) (told : ReportValues) → host ≡ told.host → plain ≡ plain_of told → plate ≡ told.plate → terminal ≡ told.terminal
+    → ◌≡◌ {A = ReportValues} (record { host = host; port = plain.port; phone = plain.phone; plate = plate; terminal = terminal; tries = plain.tries }) told
 same_told host plain plate terminal told h p q t = λ i. record { host = h i; port = (p i).port; phone = (p i).phone; plate = q i; terminal = t i; tries = (p i).tries }

@@ -11,12 +11,12 @@ use Rattle.jt_input.specs.LineReading.{Reading, HasTold, Goes}
 use Rattle.jt_input.specs.declared.line_reader.NextLine.TheVariants as next
 use Rattle.jt_store.specs.Vaults.{Held, Notes, changed}
 use Rattle.jt_terminal_rule.specs.declared.state.State.{State}
-use Rattle.jt_terminal_rule.specs.Rule.{noted}
+use Rattle.jt_terminal_rule.specs.Rule.{with_fix}
 use Rattle.jt_report_command.specs.declared.line.FixLine.{FixLine}
 use Rattle.jt_report_command.specs.declared.line.FixLine.TheVariants.{Fix}
 use Rattle.jt_report_command.specs.FixesText.{AreFirst, EndsAt, HaveFixes, IsBeyond, SaysAt, fixes_in, is_good}
 use Rattle.jt_report_command.specs.Noting.{Noting, held_with, noted_all, with_fixes}
-use Rattle.jt_report_command.specs.Reading.{Answers, NotesFixes}
+use Rattle.jt_report_command.specs.Reading.{AnswersFixes, NotesFixes}
 use Rattle.jt_report_command.specs.NotingSteps.{Beside, GoesOn, NotesLine}
 use Rattle.jt_report_command.specs.declared.noting.FixesError.{FixesError}
 use Rattle.jt_report_command.specs.declared.noting.FixesError.TheVariants.{BadLine, BeyondLimits, VaultFull, VaultFailed, ReadFailed, Memory}
@@ -25,7 +25,7 @@ use Rattle.jt_report_command.specs.declared.noting.FixesError.TheVariants.{BadLi
 
 state_behind : (s : State) (fixes more : List (List ℕ)) → noted_all (noted_all s fixes) more ≡ noted_all s (fixes ++ more)
 state_behind s [] more = refl
-state_behind s (fix ∷ fixes) more = state_behind (noted s fix) fixes more
+state_behind s (fix ∷ fixes) more = state_behind (with_fix s fix) fixes more
 
 held_behind : (held : Option Held) (fixes more : List (List ℕ)) → held_with (held_with held fixes) more ≡ held_with held (fixes ++ more)
 held_behind held [] more = refl
@@ -148,7 +148,7 @@ first_lines law old now number left mid left_now a b h goes = whatever (AreFirst
 
 -- the octets that were taken, with an answer to them
 ends : {T : Type 0} (answer : Result T FixesError) (limit : ℕ) (old : Reading) (number : ℕ) (left mid left_now : Option (List ℕ)) (a b c : Noting) (h : GoesOn old number left mid a b)
-    → (more : List ℕ) → Consumes mid left_now more → c ≡ b → Answers answer limit c.held h.fixes left_now (h.text ++ more) → NotesFixes answer limit left left_now a c
+    → (more : List ℕ) → Consumes mid left_now more → c ≡ b → AnswersFixes answer limit c.held h.fixes left_now (h.text ++ more) → NotesFixes answer limit left left_now a c
 ends answer limit old number left mid left_now a b c h more consumed same answers = record {
   taken = h.text ++ more;
   consumed = Consumes-trans left mid left_now h.text more h.consumed consumed;

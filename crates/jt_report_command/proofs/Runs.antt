@@ -5,8 +5,8 @@ use Rattle.jt_value.specs.Counts.{Rose}
 use Rattle.jt_outside.specs.Pool.{Pool}
 use Rattle.jt_outside.specs.Time.{Time}
 use Rattle.jt_input.specs.Text.{lines_of}
-use Rattle.jt_store.specs.Tables.{Told}
-use Rattle.jt_store.specs.Vaults.{Held, unsettled}
+use Rattle.jt_store.specs.Tables.{WhereKnown}
+use Rattle.jt_store.specs.Vaults.{Held, pending_count}
 use Rattle.jt_store.specs.declared.error.StoreError.{StoreError}
 use Rattle.jt_store.specs.declared.error.StoreError.TheVariants as store
 use Rattle.jt_terminal_rule.specs.declared.settings.Settings.{Settings}
@@ -18,12 +18,12 @@ use Rattle.jt_report_command.specs.Noting.{Noting, held_with, noting}
 use Rattle.jt_report_command.specs.Reading.{NotesFixes}
 use Rattle.jt_report_command.specs.declared.noting.FixesError.{FixesError}
 use Rattle.jt_report_command.specs.declared.noting.FixesError.TheVariants as error
-use Rattle.jt_input.specs.Answer.{Answers, HoldsOf}
+use Rattle.jt_input.specs.Answer.{AnswersReply, HoldsOf}
 use Rattle.jt_input.specs.declared.status.Status.{Status}
 use Rattle.jt_input.specs.declared.status.Status.TheVariants as status
 use Rattle.jt_report_command.specs.Came.{Came, BadLine, BeyondLimits, VaultFull, VaultFailed, Undialled, Reported, report_text}
 use Rattle.jt_report_command.specs.Running.{Scene, scene_of, NotesAlone, Does, EndsSo, RunsReport}
-use Rattle.jt_report_command.specs.Steps.{CutsShort, TellsAttempts, came_at, came_of, status_of_refusal}
+use Rattle.jt_report_command.specs.Steps.{TellsAttempts, came_at, came_of, status_of_refusal}
 
 -- ---- fixes that were not all recorded
 
@@ -158,7 +158,7 @@ pub runs_error : {T : Type 0} (e : FixesError) (Starts : State → Type 0) (trie
     (limit limit_now faults faults_now : ℕ) (time : Time) (pool : Pool) (dial : ℕ) (written written_now : Option (List ℕ)) (status : Status)
     → NotesFixes {T = T} (Err e) limit left left_now (noting state held) (noting state_now held_now)
     → (IsErrOf {T = T} {E = FixesError} (Err e) error.VaultFailed → Rose faults faults_now)
-    → Answers status (report_text (came_of e)) written written_now → EndsSo (came_of e) status
+    → AnswersReply status (report_text (came_of e)) written written_now → EndsSo (came_of e) status
     → RunsReport Starts tries left left_now (scene_of held limit faults time pool dial) (scene_of held_now limit_now faults_now time pool dial) written written_now status
 runs_error e Starts tries left left_now state state_now held held_now limit limit_now faults faults_now time pool dial written written_now status n failed answers ends = record {
   came = came_of e;
@@ -183,7 +183,7 @@ does_refused (store.Full most) Starts tries left held held_now limit limit_now f
 
 pub runs_refused : (e : StoreError) (Starts : State → Type 0) (tries : ℕ) (left : Option (List ℕ)) (held held_now : Option Held) (limit limit_now faults faults_now : ℕ) (time : Time) (pool : Pool) (dial : ℕ)
     (written written_now : Option (List ℕ)) (status : Status) → held_now ≡ held → (e ≡ store.Failed → Rose faults faults_now)
-    → Answers status (report_text (came_at e)) written written_now → EndsSo (came_at e) status
+    → AnswersReply status (report_text (came_at e)) written written_now → EndsSo (came_at e) status
     → RunsReport Starts tries left left (scene_of held limit faults time pool dial) (scene_of held_now limit_now faults_now time pool dial) written written_now status
 runs_refused e Starts tries left held held_now limit limit_now faults faults_now time pool dial written written_now status same failed answers ends = record {
   came = came_at e;
@@ -195,7 +195,7 @@ runs_refused e Starts tries left held held_now limit limit_now faults faults_now
 }
 
 -- memory was wanted before the vault was asked
-text_none : (written : Option (List ℕ)) → Answers status.Memory (report_text Undialled) written written
+text_none : (written : Option (List ℕ)) → AnswersReply status.Memory (report_text Undialled) written written
 unfolding report_text
 text_none written = inl (refl, Appends-nil written)
 
@@ -218,10 +218,10 @@ with_settings a b tries left left_now held old now written written_now ended sam
     subst (λ (x : Settings). RunsReport (IsStarted x held) tries left left_now old now written written_now ended) same r
 
 -- a fault of the store since a terminal started, or a full vault, is one since before it did
-pub store_since : (before mid now most_mid most : ℕ) (held : Option Held) → before ≤ mid → most_mid ≡ most → Rose mid now ⊎ Told held (λ h. unsettled h ≡ most_mid)
-    → Rose before now ⊎ Told held (λ h. unsettled h ≡ most)
+pub store_since : (before mid now most_mid most : ℕ) (held : Option Held) → before ≤ mid → most_mid ≡ most → Rose mid now ⊎ WhereKnown held (λ h. pending_count h ≡ most_mid)
+    → Rose before now ⊎ WhereKnown held (λ h. pending_count h ≡ most)
 store_since before mid now most_mid most held later same (inl rose) = inl (rose_then before mid now later rose)
-store_since before mid now most_mid most held later same (inr full) = inr (subst (λ (m : ℕ). Told held (λ h. unsettled h ≡ m)) same full)
+store_since before mid now most_mid most held later same (inr full) = inr (subst (λ (m : ℕ). WhereKnown held (λ h. pending_count h ≡ m)) same full)
 
 refused_is : (e : StoreError) (s : Status) → (s ≡ status_of_refusal e) ⊎ CutsShort s → (s ≡ status.StoreFault) ⊎ CutsShort s
 refused_is store.Failed s told = told

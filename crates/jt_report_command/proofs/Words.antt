@@ -9,7 +9,7 @@ use Rattle.jt_value.specs.declared.phone.Edition.{Edition}
 use Rattle.jt_value.specs.declared.phone.Edition.TheVariants.{E2013, E2019}
 use Rattle.jt_value.specs.declared.phone.Phone.{Phone}
 use Rattle.jt_register.specs.Registration.{terminal_len}
-use Rattle.jt_report_command.specs.ReportWords.{Told}
+use Rattle.jt_report_command.specs.ReportWords.{ReportValues}
 use Rattle.jt_report_command.specs.Values.{octets_in, phone_in, phone_of, plate_most, some_of, terminal_most}
 use Rattle.jt_report_command.specs.Settings.{AreSpoken}
 
@@ -63,12 +63,12 @@ same_most : (edition : Edition) → terminal_most edition ≡ terminal_len editi
 same_most E2013 = refl
 same_most E2019 = refl
 
-pub spoken_phone : (told : Told) → AreSpoken told → length told.phone.digits ≡ 10 → IsPhone told.phone
+pub spoken_phone : (told : ReportValues) → AreSpoken told → length told.phone.digits ≡ 10 → IsPhone told.phone
 spoken_phone told spoken ten = is_phone told.phone.edition spoken.1.written.phone told.phone spoken.1.tells.phone ten
 
-pub spoken_plate : (told : Told) → AreSpoken told → length told.plate ≤ 255
+pub spoken_plate : (told : ReportValues) → AreSpoken told → length told.plate ≤ 255
 spoken_plate told spoken = few plate_most spoken.1.written.plate told.plate spoken.1.tells.plate
 
-pub spoken_terminal : (told : Told) → AreSpoken told → length told.terminal ≤ terminal_len told.phone.edition
+pub spoken_terminal : (told : ReportValues) → AreSpoken told → length told.terminal ≤ terminal_len told.phone.edition
 spoken_terminal told spoken =
     subst (λ (most : ℕ). length told.terminal ≤ most) (same_most told.phone.edition) (few (terminal_most told.phone.edition) spoken.1.written.terminal told.terminal spoken.1.tells.terminal)

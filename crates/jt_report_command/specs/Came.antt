@@ -1,10 +1,10 @@
 -- What comes of `report`, what it prints of that, and its status: this project's own texts. To be believed.
-use Rattle.std.specs.Prelude.{ℕ, List, [], ◌++◌, codes}
-use Rattle.std.specs.Fmt.{decimal}
+use Rattle.std.specs.Prelude.{ℕ, []}
 use Rattle.jt_agent.specs.declared.reporting.Outcome.{Outcome}
 use Rattle.jt_report_command.specs.BadLines.{bad_line_of}
 use Rattle.jt_report_command.specs.declared.line.FixLine.{FixLine}
-use Rattle.jt_input.specs.Lines.{bad_line}
+use Rattle.jt_input.specs.EarlyEnds.{early_reply}
+use Rattle.jt_input.specs.declared.early_end.EarlyEnd.TheVariants as early
 use Rattle.jt_input.specs.Reply.{Reply}
 use Rattle.jt_input.specs.declared.status.Status.TheVariants as status
 use Rattle.jt_report_command.specs.Report.{outcome_reply}
@@ -19,13 +19,10 @@ pub data Came : Type 0 where
   Undialled : Came
   Reported : Outcome → ℕ → ℕ → Came
 
-unfoldable pub full_line : ℕ → List ℕ
-full_line limit = codes "vault full at " ++ decimal limit ++ codes "\n"
-
 unfoldable pub report_text : Came → Reply
 report_text (BadLine number said) = record { text = bad_line_of number said; status = status.Refused }
-report_text (BeyondLimits number) = record { text = bad_line number; status = status.Refused }
-report_text (VaultFull limit) = record { text = full_line limit; status = status.StoreFault }
-report_text VaultFailed = record { text = codes "store fault\n"; status = status.StoreFault }
+report_text (BeyondLimits number) = early_reply (early.BadLine number)
+report_text (VaultFull limit) = early_reply (early.VaultFull limit)
+report_text VaultFailed = early_reply early.StoreFault
 report_text Undialled = record { text = []; status = status.Memory }
 report_text (Reported outcome accepted recorded) = outcome_reply outcome accepted recorded

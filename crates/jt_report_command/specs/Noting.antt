@@ -2,7 +2,7 @@
 use Rattle.std.specs.Prelude.{ℕ, List, [], ◌∷◌, Option}
 use Rattle.jt_store.specs.Vaults.{Held, Notes, changed}
 use Rattle.jt_terminal_rule.specs.declared.state.State.{State}
-use Rattle.jt_terminal_rule.specs.Rule.{noted}
+use Rattle.jt_terminal_rule.specs.Rule.{with_fix}
 
 -- a terminal's state, and what its vault holds, where it tells it
 pub record Noting : Type 0 where
@@ -15,7 +15,7 @@ noting state held = record { state = state; held = held }
 -- a state that recorded these fixes, one after another
 abbrev pub noted_all : State → List (List ℕ) → State
 noted_all state [] = state
-noted_all state (fix ∷ fixes) = noted_all (noted state fix) fixes
+noted_all state (fix ∷ fixes) = noted_all (with_fix state fix) fixes
 
 -- what a vault holds that recorded these fixes behind what it held
 abbrev pub held_with : Option Held → List (List ℕ) → Option Held

@@ -3,8 +3,8 @@ use Rattle.std.specs.Prelude.{◌≡◌, ◌≤◌, ℕ, ◌+◌, Bool, true, fa
 use Rattle.std.specs.Io.KnownBytes.{Consumes}
 use Rattle.jt_value.specs.Counts.{Rose}
 use Rattle.jt_input.specs.LineReading.{Reading, HasTold}
-use Rattle.jt_store.specs.Tables.{Told}
-use Rattle.jt_store.specs.Vaults.{unsettled}
+use Rattle.jt_store.specs.Tables.{WhereKnown}
+use Rattle.jt_store.specs.Vaults.{pending_count}
 use Rattle.jt_terminal_rule.specs.declared.state.State.{State}
 use Rattle.jt_report_command.specs.FixLines.{Says}
 use Rattle.jt_report_command.specs.declared.line.FixLine.{FixLine}
@@ -21,7 +21,7 @@ NotesLine (Ok done) limit number line old now =
 NotesLine (Err (BadLine at said)) limit number line old now = (at ≡ number) × Says line said × (is_good said ≡ false) × (now ≡ old)
 NotesLine (Err (BeyondLimits at)) limit number line old now = ⊥
 NotesLine (Err (VaultFull most)) limit number line old now =
-    (most ≡ limit) × Told now.held (λ h. unsettled h ≡ limit) × (fix : List ℕ) × Says line (Fix fix) × (now ≡ old)
+    (most ≡ limit) × WhereKnown now.held (λ h. pending_count h ≡ limit) × (fix : List ℕ) × Says line (Fix fix) × (now ≡ old)
 NotesLine (Err VaultFailed) limit number line old now = (fix : List ℕ) × Says line (Fix fix) × (now ≡ old)
 NotesLine (Err ReadFailed) limit number line old now = ⊥
 NotesLine (Err Memory) limit number line old now = now ≡ old

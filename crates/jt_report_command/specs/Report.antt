@@ -2,6 +2,8 @@
 use Rattle.std.specs.Prelude.{ℕ, ◌+◌, List, [], ◌∷◌, ◌++◌, codes}
 use Rattle.std.specs.Fmt.{decimal}
 use Rattle.jt_input.specs.Reply.{Reply}
+use Rattle.jt_input.specs.EarlyEnds.{early_reply}
+use Rattle.jt_input.specs.declared.early_end.EarlyEnd.TheVariants as early
 use Rattle.jt_input.specs.declared.status.Status.TheVariants as status
 use Rattle.jt_text.specs.Values.{octets_text}
 use Rattle.jt_agent.specs.declared.ending.AttemptEnd.{AttemptEnd}
@@ -47,5 +49,5 @@ totals_line accepted recorded = codes "accepted=" ++ decimal accepted ++ codes "
 unfoldable pub outcome_reply : Outcome → ℕ → ℕ → Reply
 outcome_reply (outcome.Done ends) accepted recorded = record { text = try_lines 1 ends ++ totals_line accepted recorded; status = status.Done }
 outcome_reply (outcome.Unsent ends) accepted recorded = record { text = try_lines 1 ends ++ totals_line accepted recorded; status = status.Unsent }
-outcome_reply (outcome.StoreFault ends) accepted recorded = record { text = try_lines 1 ends ++ codes "store fault\n"; status = status.StoreFault }
+outcome_reply (outcome.StoreFault ends) accepted recorded = record { text = try_lines 1 ends ++ (early_reply early.StoreFault).text; status = status.StoreFault }
 outcome_reply outcome.Memory accepted recorded = record { text = []; status = status.Memory }

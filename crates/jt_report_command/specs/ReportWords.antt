@@ -1,6 +1,7 @@
 -- The words of `report`: this project's own. To be believed.
 use Rattle.std.specs.Prelude.{◌≡◌, ◌≤◌, ℕ, List, [], ◌∷◌, codes, Option, Some, IsTrue, option_to_list}
 use Rattle.std.specs.Fmt.{decimal}
+use Rattle.jt_value.specs.declared.limits.TheConstants.{PORT_LIMIT}
 use Rattle.jt_value.specs.declared.phone.Phone.{Phone}
 use Rattle.jt_report_command.specs.Options.{AreOptions, values_of}
 use Rattle.jt_report_command.specs.Values.{is_host, edition_in, octets_in, phone_in, plate_most, terminal_most}
@@ -28,7 +29,7 @@ pub record AreWritten (written : Written) (words : List (List ℕ)) : Type 0 whe
   pub edition : values_of (codes "edition") options ≡ option_to_list written.edition
 
 -- what `report` is told
-pub record Told : Type 0 where
+pub record ReportValues : Type 0 where
   pub host : List ℕ
   pub port : ℕ
   pub phone : Phone
@@ -37,9 +38,9 @@ pub record Told : Type 0 where
   pub tries : ℕ
 
 -- What the values tell. Numbers are written in decimal digits, without a sign and without a leading zero.
-pub record Tells (written : Written) (told : Told) : Type 0 where
+pub record TellsWords (written : Written) (told : ReportValues) : Type 0 where
   pub host : (written.host ≡ told.host) × IsTrue (is_host told.host)
-  pub port : (written.port ≡ decimal told.port) × (1 ≤ told.port) × (told.port ≤ 65535)
+  pub port : (written.port ≡ decimal told.port) × (1 ≤ told.port) × (told.port ≤ PORT_LIMIT)
   pub edition : edition_in written.edition ≡ Some told.phone.edition
   pub phone : phone_in told.phone.edition written.phone ≡ Some told.phone
   pub plate : octets_in plate_most written.plate ≡ Some told.plate
@@ -53,7 +54,7 @@ pub record AreCommand (written : Written) (words : List (List ℕ)) : Type 0 whe
   pub values : AreWritten written options
 
 -- the words of `report` that tell this
-pub record AreWords (told : Told) (words : List (List ℕ)) : Type 0 where
+pub record AreWords (told : ReportValues) (words : List (List ℕ)) : Type 0 where
   pub written : Written
   pub words_are : AreCommand written words
-  pub tells : Tells written told
+  pub tells : TellsWords written told

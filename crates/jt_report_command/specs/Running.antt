@@ -5,16 +5,16 @@ use Rattle.jt_value.specs.Counts.{Rose, RoseBy}
 use Rattle.jt_outside.specs.Pool.{Pool}
 use Rattle.jt_outside.specs.Time.{Time}
 use Rattle.jt_input.specs.Text.{lines_of}
-use Rattle.jt_store.specs.Tables.{Told}
-use Rattle.jt_store.specs.Vaults.{Held, unsettled}
+use Rattle.jt_store.specs.Tables.{WhereKnown}
+use Rattle.jt_store.specs.Vaults.{Held, pending_count}
 use Rattle.jt_terminal_rule.specs.declared.state.State.{State}
-use Rattle.jt_terminal_steps.specs.Running.{Counts}
-use Rattle.jt_agent.specs.Tries.{Reports, between, dials_in, ends_told}
+use Rattle.jt_terminal_steps.specs.Running.{CountsAsVault}
+use Rattle.jt_agent.specs.Tries.{Reports, between, dials_in, ends_in}
 use Rattle.jt_agent.specs.declared.reporting.Outcome.{Outcome}
 use Rattle.jt_report_command.specs.FixesText.{AreFirst, EndsAt, HaveFixes, IsBeyond, SaysAt, is_good}
 use Rattle.jt_report_command.specs.Noting.{held_with, noted_all}
 use Rattle.jt_report_command.specs.Reading.{EndsAtFix}
-use Rattle.jt_input.specs.Answer.{Answers, HoldsOf}
+use Rattle.jt_input.specs.Answer.{AnswersReply, HoldsOf}
 use Rattle.jt_input.specs.declared.status.Status.{Status}
 use Rattle.jt_input.specs.declared.status.Status.TheVariants as status
 use Rattle.jt_report_command.specs.Came.{Came, BadLine, BeyondLimits, VaultFull, VaultFailed, Undialled, Reported, report_text}
@@ -50,9 +50,9 @@ pub record ReportsFixes (Starts : State → Type 0) (tries : ℕ) (fixes : List 
   pub after : State
   pub reports : Reports tries outcome (between (noted_all started fixes) (held_with old.held fixes) faults old.time old.pool old.dial)
       (between after now.held now.faults now.time now.pool now.dial)
-  pub dials : RoseBy (dials_in (ends_told outcome)) old.dial now.dial
+  pub dials : RoseBy (dials_in (ends_in outcome)) old.dial now.dial
   pub totals : (accepted ≡ after.accepted) × (recorded ≡ after.recorded)
-  pub counts : Told now.held (λ held. Counts held after)
+  pub counts : WhereKnown now.held (λ held. CountsAsVault held after)
 
 -- What was done with the octets that were taken. At a bad line, whatever octets follow, the fixes of the lines before it are recorded. So they are
 -- at a full vault, of which as many fixes are not accepted as its limit says, and at a vault that failed, each at a line with one fix more; one that
@@ -64,7 +64,7 @@ Does (BadLine number said) Starts tries taken left_now old now = (fixes : List (
 Does (BeyondLimits number) Starts tries taken left_now old now = (fixes : List (List ℕ)) × NotesAlone fixes old now
     × HoldsOf (EndsAt number (IsBeyond number) fixes) left_now taken
 Does (VaultFull most) Starts tries taken left_now old now = (fixes : List (List ℕ)) × NotesAlone fixes old now
-    × (most ≡ old.limit) × Told now.held (λ held. unsettled held ≡ old.limit) × EndsAtFix fixes left_now taken
+    × (most ≡ old.limit) × WhereKnown now.held (λ held. pending_count held ≡ old.limit) × EndsAtFix fixes left_now taken
 Does VaultFailed Starts tries taken left_now old now = (fixes : List (List ℕ)) × NotesAlone fixes old now
     × (((taken ≡ []) × (fixes ≡ [])) ⊎ EndsAtFix fixes left_now taken) × Rose old.faults now.faults
 Does Undialled Starts tries taken left_now old now = (fixes : List (List ℕ)) × NotesAlone fixes old now
@@ -87,5 +87,5 @@ pub record RunsReport (Starts : State → Type 0) (tries : ℕ) (left left_now :
   pub taken : List ℕ
   pub consumed : Consumes left left_now taken
   pub does : Does came Starts tries taken left_now old now
-  pub answers : Answers status (report_text came) written written_now
+  pub answers : AnswersReply status (report_text came) written written_now
   pub ends : EndsSo came status

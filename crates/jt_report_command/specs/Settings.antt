@@ -7,15 +7,15 @@ use Rattle.jt_register.specs.Registration.{maker_len, model_len, terminal_len}
 use Rattle.jt_register.specs.declared.auth.AuthTail.{AuthTail}
 use Rattle.jt_register.specs.declared.register.Register.{Register}
 use Rattle.jt_terminal_rule.specs.declared.settings.Settings.{Settings}
-use Rattle.jt_report_command.specs.ReportWords.{Told, AreWords}
+use Rattle.jt_report_command.specs.ReportWords.{ReportValues, AreWords}
 
 -- so many zero octets
 abbrev pub zeros : ℕ → List ℕ
 zeros count = replicate count 0
 
 -- these octets, filled with zero octets up to so many
-abbrev pub filled : ℕ → List ℕ → List ℕ
-filled count octets = octets ++ zeros (count - length octets)
+abbrev pub zero_filled : ℕ → List ℕ → List ℕ
+zero_filled count octets = octets ++ zeros (count - length octets)
 
 -- Province and city are 0, the maker and the model all zero octets, the terminal id is filled, and the colour is 1.
 abbrev pub register_of : Edition → List ℕ → List ℕ → Register
@@ -24,7 +24,7 @@ register_of edition plate terminal = record {
   city = 0;
   maker = zeros (maker_len edition);
   model = zeros (model_len edition);
-  terminal = filled (terminal_len edition) terminal;
+  terminal = zero_filled (terminal_len edition) terminal;
   colour = 1;
   plate = plate;
 }
@@ -47,5 +47,5 @@ settings_of phone plate terminal = record {
 }
 
 -- there are words of `report` that tell this
-abbrev pub AreSpoken : Told → Type 0
+abbrev pub AreSpoken : ReportValues → Type 0
 AreSpoken told = (words : List (List ℕ)) × AreWords told words

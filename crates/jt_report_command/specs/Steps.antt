@@ -1,17 +1,17 @@
 -- What the parts of a run do. Step functions for the proofs.
 use Rattle.std.specs.Prelude.{◌≡◌, ◌≤◌, ◌⊎◌, ℕ, Bool, false, List, Option}
 use Rattle.jt_value.specs.Counts.{RoseBy}
-use Rattle.jt_agent.specs.Tries.{Between, Reports, dials_in, ends_told}
+use Rattle.jt_agent.specs.Tries.{Between, Reports, dials_in, ends_in}
 use Rattle.jt_agent.specs.declared.reporting.Outcome.{Outcome}
 use Rattle.jt_report_command.specs.declared.noting.FixesError.{FixesError}
 use Rattle.jt_report_command.specs.declared.noting.FixesError.TheVariants as error
-use Rattle.jt_input.specs.Answer.{Answers}
+use Rattle.jt_input.specs.Answer.{AnswersReply}
 use Rattle.jt_input.specs.declared.status.Status.{Status}
 use Rattle.jt_input.specs.declared.status.Status.TheVariants as status
-use Rattle.jt_store.specs.Tables.{Told}
+use Rattle.jt_store.specs.Tables.{WhereKnown}
 use Rattle.jt_store.specs.declared.error.StoreError.{StoreError}
 use Rattle.jt_store.specs.declared.error.StoreError.TheVariants as store
-use Rattle.jt_terminal_steps.specs.Running.{Counts}
+use Rattle.jt_terminal_steps.specs.Running.{CountsAsVault}
 use Rattle.jt_report_command.specs.Came.{Came, BadLine, BeyondLimits, VaultFull, VaultFailed, Undialled, Reported, report_text}
 
 -- what came of a run whose fixes were not all recorded, for this reason
@@ -43,17 +43,13 @@ status_of_refusal store.Failed = status.StoreFault
 status_of_refusal store.Memory = status.Memory
 status_of_refusal (store.Full limit) = status.Memory
 
--- memory was wanted for a text, or a write failed
-abbrev pub CutsShort : Status → Type 0
-CutsShort s = (s ≡ status.Memory) ⊎ (s ≡ status.WriteFault)
-
 -- attempts came to this, and its text was written, or a prefix of it at a fault
 pub record TellsAttempts (tries : ℕ) (old now : Between) (written written_now : Option (List ℕ)) (status : Status) : Type 0 where
   pub outcome : Outcome
   pub reports : Reports tries outcome old now
-  pub dials : RoseBy (dials_in (ends_told outcome)) old.dial now.dial
-  pub counts : Told now.held (λ held. Counts held now.state)
-  pub answers : Answers status (report_text (Reported outcome now.state.accepted now.state.recorded)) written written_now
+  pub dials : RoseBy (dials_in (ends_in outcome)) old.dial now.dial
+  pub counts : WhereKnown now.held (λ held. CountsAsVault held now.state)
+  pub answers : AnswersReply status (report_text (Reported outcome now.state.accepted now.state.recorded)) written written_now
 
 -- What is said of a vault beside what it holds: its limit stays, its count of faults never falls, and where none of its calls may fail none may
 -- later.

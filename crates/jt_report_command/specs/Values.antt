@@ -3,6 +3,8 @@ use Rattle.std.specs.Prelude.{ℕ, ◌==◌, ◌&&◌, ◌||◌, not, nat_le, Bo
 use Rattle.std.specs.List.{list_all}
 use Rattle.std.specs.Char.{is_ascii_alphanumeric}
 use Rattle.std.specs.Str.{bytes_eq}
+use Rattle.jt_report_command.specs.declared.readers.TheConstants.{HOST_LIMIT}
+use Rattle.jt_value.specs.declared.limits.TheConstants.{PLATE_LIMIT}
 use Rattle.hex.specs.Hex.{decode_of, decode_sized}
 use Rattle.jt_value.specs.Phone.{field_len, digits_of, first_bad}
 use Rattle.jt_value.specs.declared.phone.Edition.{Edition}
@@ -15,7 +17,7 @@ is_host_octet octet = is_ascii_alphanumeric octet || (octet == 46 || (octet == 4
 
 -- from 1 to 255 such octets; the first is no hyphen
 abbrev pub is_host : List ℕ → Bool
-is_host host = (nat_le 1 (length host) && nat_le (length host) 255) && (not (slice_index host 0 == 45) && list_all is_host_octet host)
+is_host host = (nat_le 1 (length host) && nat_le (length host) HOST_LIMIT) && (not (slice_index host 0 == 45) && list_all is_host_octet host)
 
 -- `2013` or `2019`, and 2013 where the option is missing
 abbrev pub edition_in : Option (List ℕ) → Option Edition
@@ -32,7 +34,7 @@ octets_in most text = some_of (λ octets. nat_le 1 (length octets) && nat_le (le
 
 -- the most octets of a plate
 abbrev pub plate_most : ℕ
-plate_most = 255
+plate_most = PLATE_LIMIT
 
 -- the most octets of a terminal id
 abbrev pub terminal_most : Edition → ℕ

@@ -25,7 +25,8 @@ fn push_long_line(text: &mut String, number: u64) -> Result<(), AllocError>
 
 #[tactic(auto, using(std::proofs::Common::append_assoc), unfolding(crate::specs::BadLines::no_position_line))]
 fn push_no_position_line(text: &mut String, number: u64, refusal: Refusal) -> Result<(), AllocError>
-    ensures { OnOk result (string_bytes text.new ≡ string_bytes text.old ++ no_position_line number refusal) }
+    ensures { OnOk result
+        (string_bytes text.new ≡ string_bytes text.old ++ no_position_line number refusal) }
 {
     text.push_str("line ")?;
     let Refusal { inside, why, .. } = refusal;
@@ -41,7 +42,8 @@ fn push_no_position_line(text: &mut String, number: u64, refusal: Refusal) -> Re
 /// `line N+inside refused Why` with the offset of the refusal (this project's own texts). A fix, and a line that is passed
 /// over, have none.
 pub fn push_bad_line_of(text: &mut String, number: u64, said: &FixLine) -> Result<(), AllocError>
-    ensures { OnOk result (string_bytes text.new ≡ string_bytes text.old ++ bad_line_of number said.now) }
+    ensures { OnOk result
+        (string_bytes text.new ≡ string_bytes text.old ++ bad_line_of number said.now) }
 {
     match said {
         FixLine::BadHex => push_hex_line(text, number),

@@ -3,24 +3,24 @@
 ghost use Rattle.std.specs.Prelude.{◌≡◌, ◌≢◌, ◌≤◌, ◌⊎◌, ℕ, false, length};
 ghost use Rattle.std.specs.Io.KnownBytes.{IsAtEnd};
 ghost use Rattle.jt_value.specs.Counts.{Rose};
-ghost use Rattle.jt_store.specs.Tables.{Told};
-ghost use Rattle.jt_store.specs.Vaults.{settled, unsettled};
-ghost use Rattle.jt_report_command.specs.Telling.{told_of};
-ghost use Rattle.jt_input.specs.Answer.{Answers};
+ghost use Rattle.jt_store.specs.Tables.{WhereKnown};
+ghost use Rattle.jt_store.specs.Vaults.{accepted_count, pending_count};
+ghost use Rattle.jt_report_command.specs.Telling.{values_in_words};
+ghost use Rattle.jt_input.specs.Answer.{AnswersReply, CutsShort};
 ghost use Rattle.jt_store.specs.declared.error.StoreError.TheVariants.{Full};
 ghost use Rattle.jt_terminal_rule.specs.declared.state.Phase.TheVariants.{Down};
 ghost use Rattle.jt_terminal_steps.specs.Running.{IsStarted};
 ghost use Rattle.jt_agent.specs.Tries.{between};
 ghost use Rattle.jt_report_command.specs.Came.{report_text};
-ghost use Rattle.jt_report_command.specs.Steps.{CutsShort, TellsAttempts, VaultKeeps, came_at, came_of, status_at, status_of_refusal};
+ghost use Rattle.jt_report_command.specs.Steps.{TellsAttempts, VaultKeeps, came_at, came_of, status_at, status_of_refusal};
 ghost use Rattle.jt_report_command.specs.Running.{EndsSo, RunsReport, scene_of};
 ghost use Rattle.jt_report_command.specs.Settings.{AreSpoken, settings_of};
 
-use crate::settings::settings;
-use crate::telling::{tell_bad_line, tell_beyond, tell_failed, tell_full, tell_outcome};
+use crate::settings::settings_for;
+use crate::telling::{tell_bad_line, tell_outcome};
 use crate::{FixesError, ReportWords, note_fixes};
 use jt_agent::report_all;
-use jt_input::Status;
+use jt_input::{EarlyEnd, Status, answer_early_end};
 use jt_outside::{Clock, Dial, Sink, Source};
 use jt_store::{StoreError, Vault};
 use jt_terminal::Terminal;
@@ -48,17 +48,25 @@ fn report_noted<K: Sink, D: Dial, C: Clock, V: Vault>(
     requires down { terminal.old.state.phase ≡ Down }
     requires time { terminal.old.state.time ≡ 0 }
     ensures tells { TellsAttempts tries
-        (between terminal.old.state (V.holds terminal.old.vault) (V.faults terminal.old.vault) (C.time clock.old) (D.pool dial.old) (D.faults dial.old))
-        (between terminal.new.state (V.holds terminal.new.vault) (V.faults terminal.new.vault) (C.time clock.new) (D.pool dial.new) (D.faults dial.new))
+        (between terminal.old.state (V.holds terminal.old.vault) (V.faults terminal.old.vault)
+        (C.time clock.old) (D.pool dial.old) (D.faults dial.old))
+        (between terminal.new.state (V.holds terminal.new.vault) (V.faults terminal.new.vault)
+        (C.time clock.new) (D.pool dial.new) (D.faults dial.new))
         (K.written sink.old) (K.written sink.new) result }
-    ensures vault { VaultKeeps (V.faults terminal.old.vault) (V.faults terminal.new.vault) (V.limit terminal.old.vault) (V.limit terminal.new.vault) (V.may_fail terminal.old.vault) (V.may_fail terminal.new.vault) }
-    ensures write_fault { result ≡ Status.WriteFault → Rose (K.faults sink.old) (K.faults sink.new) }
-    ensures store_fault { result ≡ Status.StoreFault → Rose (V.faults terminal.old.vault) (V.faults terminal.new.vault) }
+    ensures vault { VaultKeeps (V.faults terminal.old.vault) (V.faults terminal.new.vault)
+        (V.limit terminal.old.vault) (V.limit terminal.new.vault)
+        (V.may_fail terminal.old.vault) (V.may_fail terminal.new.vault) }
+    ensures write_fault { result ≡ Status.WriteFault →
+        Rose (K.faults sink.old) (K.faults sink.new) }
+    ensures store_fault { result ≡ Status.StoreFault →
+        Rose (V.faults terminal.old.vault) (V.faults terminal.new.vault) }
     ensures no_read_fault { result ≢ Status.ReadFault }
     ensures no_net_fault { result ≢ Status.NetFault }
     ensures not_usage { result ≢ Status.Usage }
-    ensures done { result ≡ Status.Done → Told (V.holds terminal.new.vault) (λ held. settled held ≡ length held.recorded) }
-    ensures unsent { result ≡ Status.Unsent → Told (V.holds terminal.new.vault) (λ held. settled held ≢ length held.recorded) }
+    ensures done { result ≡ Status.Done → WhereKnown (V.holds terminal.new.vault) (λ held.
+        accepted_count held ≡ length held.recorded) }
+    ensures unsent { result ≡ Status.Unsent → WhereKnown (V.holds terminal.new.vault) (λ held.
+        accepted_count held ≢ length held.recorded) }
 {
     let outcome = report_all(alloc, dial, clock, terminal, host, port, tries);
     // What its state says of the fixes is then known of the vault too.
@@ -68,18 +76,24 @@ fn report_noted<K: Sink, D: Dial, C: Clock, V: Vault>(
 }
 
 // Writes why not all fixes were recorded.
-#[tactic(auto, using(crate::proofs::Causes::not_read))]
+#[tactic(auto, using(crate::proofs::Causes::not_read), unfolding(crate::specs::Came::report_text))]
 fn tell_error<K: Sink>(alloc: Global, sink: &mut K, error: FixesError) -> Status
-    ensures answers { Answers result (report_text (came_of error)) (K.written sink.old) (K.written sink.new) }
+    ensures answers { AnswersReply result (report_text (came_of error))
+        (K.written sink.old) (K.written sink.new) }
     ensures status { (result ≡ status_at error) ⊎ CutsShort result }
     ensures ends { EndsSo (came_of error) result }
-    ensures write_fault { result ≡ Status.WriteFault → Rose (K.faults sink.old) (K.faults sink.new) }
+    ensures write_fault { result ≡ Status.WriteFault →
+        Rose (K.faults sink.old) (K.faults sink.new) }
 {
     match error {
         FixesError::BadLine(number, said) => tell_bad_line(alloc, sink, number, &said),
-        FixesError::BeyondLimits(number) => tell_beyond(alloc, sink, number),
-        FixesError::VaultFull(limit) => tell_full(alloc, sink, limit),
-        FixesError::VaultFailed => tell_failed(sink),
+        FixesError::BeyondLimits(number) => answer_early_end(
+            alloc,
+            sink,
+            EarlyEnd::BadLine(number),
+        ),
+        FixesError::VaultFull(limit) => answer_early_end(alloc, sink, EarlyEnd::VaultFull(limit)),
+        FixesError::VaultFailed => answer_early_end(alloc, sink, EarlyEnd::StoreFault),
         FixesError::ReadFailed => Status::ReadFault,
         FixesError::Memory => Status::Memory,
     }
@@ -99,18 +113,32 @@ fn report_from<S: Source, K: Sink, D: Dial, C: Clock, V: Vault>(
 ) -> Status
     requires down { terminal.old.state.phase ≡ Down }
     requires time { terminal.old.state.time ≡ 0 }
-    ensures runs { RunsReport (λ started. started ≡ terminal.old.state) tries (S.left source.old) (S.left source.new)
-        (scene_of (V.holds terminal.old.vault) (V.limit terminal.old.vault) (V.faults terminal.old.vault) (C.time clock.old) (D.pool dial.old) (D.faults dial.old))
-        (scene_of (V.holds terminal.new.vault) (V.limit terminal.new.vault) (V.faults terminal.new.vault) (C.time clock.new) (D.pool dial.new) (D.faults dial.new))
+    ensures runs { RunsReport (λ started. started ≡ terminal.old.state) tries
+        (S.left source.old) (S.left source.new)
+        (scene_of (V.holds terminal.old.vault) (V.limit terminal.old.vault)
+        (V.faults terminal.old.vault) (C.time clock.old) (D.pool dial.old) (D.faults dial.old))
+        (scene_of (V.holds terminal.new.vault) (V.limit terminal.new.vault)
+        (V.faults terminal.new.vault) (C.time clock.new) (D.pool dial.new) (D.faults dial.new))
         (K.written sink.old) (K.written sink.new) result }
-    ensures vault { VaultKeeps (V.faults terminal.old.vault) (V.faults terminal.new.vault) (V.limit terminal.old.vault) (V.limit terminal.new.vault) (V.may_fail terminal.old.vault) (V.may_fail terminal.new.vault) }
-    ensures read_fault { result ≡ Status.ReadFault → Rose (S.faults source.old) (S.faults source.new) }
-    ensures write_fault { result ≡ Status.WriteFault → Rose (K.faults sink.old) (K.faults sink.new) }
-    ensures store_fault { result ≡ Status.StoreFault → Rose (V.faults terminal.old.vault) (V.faults terminal.new.vault) ⊎ Told (V.holds terminal.new.vault) (λ held. unsettled held ≡ V.limit terminal.old.vault) }
+    ensures vault { VaultKeeps (V.faults terminal.old.vault) (V.faults terminal.new.vault)
+        (V.limit terminal.old.vault) (V.limit terminal.new.vault)
+        (V.may_fail terminal.old.vault) (V.may_fail terminal.new.vault) }
+    ensures read_fault { result ≡ Status.ReadFault →
+        Rose (S.faults source.old) (S.faults source.new) }
+    ensures write_fault { result ≡ Status.WriteFault →
+        Rose (K.faults sink.old) (K.faults sink.new) }
+    ensures store_fault { result ≡ Status.StoreFault →
+        Rose (V.faults terminal.old.vault) (V.faults terminal.new.vault)
+        ⊎ WhereKnown (V.holds terminal.new.vault) (λ held.
+        pending_count held ≡ V.limit terminal.old.vault) }
     ensures no_net_fault { result ≢ Status.NetFault }
     ensures not_usage { result ≢ Status.Usage }
-    ensures done { result ≡ Status.Done → Told (V.holds terminal.new.vault) (λ held. settled held ≡ length held.recorded) × IsAtEnd (S.left source.new) }
-    ensures unsent { result ≡ Status.Unsent → Told (V.holds terminal.new.vault) (λ held. settled held ≢ length held.recorded) × IsAtEnd (S.left source.new) }
+    ensures done { result ≡ Status.Done →
+        WhereKnown (V.holds terminal.new.vault) (λ held. accepted_count held ≡ length held.recorded)
+        × IsAtEnd (S.left source.new) }
+    ensures unsent { result ≡ Status.Unsent →
+        WhereKnown (V.holds terminal.new.vault) (λ held. accepted_count held ≢ length held.recorded)
+        × IsAtEnd (S.left source.new) }
 {
     match note_fixes(alloc, source, terminal) {
         Ok(()) => report_noted(alloc, sink, dial, clock, terminal, host, port, tries),
@@ -119,16 +147,18 @@ fn report_from<S: Source, K: Sink, D: Dial, C: Clock, V: Vault>(
 }
 
 // Writes why a vault did not load.
-#[tactic(auto, using(crate::proofs::Causes::not_read))]
-fn tell_refused<K: Sink>(sink: &mut K, error: StoreError) -> Status
+#[tactic(auto, using(crate::proofs::Causes::not_read), unfolding(crate::specs::Came::report_text))]
+fn tell_refused<K: Sink>(alloc: Global, sink: &mut K, error: StoreError) -> Status
     requires { (limit : ℕ) → error ≢ Full limit }
-    ensures answers { Answers result (report_text (came_at error)) (K.written sink.old) (K.written sink.new) }
+    ensures answers { AnswersReply result (report_text (came_at error))
+        (K.written sink.old) (K.written sink.new) }
     ensures status { (result ≡ status_of_refusal error) ⊎ CutsShort result }
     ensures ends { EndsSo (came_at error) result }
-    ensures write_fault { result ≡ Status.WriteFault → Rose (K.faults sink.old) (K.faults sink.new) }
+    ensures write_fault { result ≡ Status.WriteFault →
+        Rose (K.faults sink.old) (K.faults sink.new) }
 {
     match error {
-        StoreError::Failed => tell_failed(sink),
+        StoreError::Failed => answer_early_end(alloc, sink, EarlyEnd::StoreFault),
         StoreError::Memory => Status::Memory,
         StoreError::Full(_) => unreachable!(),
     }
@@ -148,24 +178,35 @@ pub fn report<S: Source, K: Sink, D: Dial, C: Clock, V: Vault>(
     vault: V,
     words: ReportWords,
 ) -> ReportRun<V>
-    requires words { AreSpoken (told_of words) }
-    ensures runs { RunsReport (IsStarted (settings_of words.phone words.plate words.terminal) (V.holds vault)) words.tries (S.left source.old) (S.left source.new)
-        (scene_of (V.holds vault) (V.limit vault) (V.faults vault) (C.time clock.old) (D.pool dial.old) (D.faults dial.old))
-        (scene_of (V.holds result.vault) (V.limit result.vault) (V.faults result.vault) (C.time clock.new) (D.pool dial.new) (D.faults dial.new))
+    requires words { AreSpoken (values_in_words words) }
+    ensures runs { RunsReport (IsStarted (settings_of words.phone words.plate words.terminal)
+        (V.holds vault)) words.tries (S.left source.old) (S.left source.new)
+        (scene_of (V.holds vault) (V.limit vault) (V.faults vault) (C.time clock.old)
+        (D.pool dial.old) (D.faults dial.old))
+        (scene_of (V.holds result.vault) (V.limit result.vault) (V.faults result.vault)
+        (C.time clock.new) (D.pool dial.new) (D.faults dial.new))
         (K.written sink.old) (K.written sink.new) result.status }
     // The vault's limit stays, its count of faults never falls, and where none of its calls may fail none may later.
     ensures limit { V.limit result.vault ≡ V.limit vault }
     ensures later { V.faults vault ≤ V.faults result.vault }
     ensures steady { V.may_fail vault ≡ false → V.may_fail result.vault ≡ false }
     // Why a run ends with a fault.
-    ensures read_fault { result.status ≡ Status.ReadFault → Rose (S.faults source.old) (S.faults source.new) }
-    ensures write_fault { result.status ≡ Status.WriteFault → Rose (K.faults sink.old) (K.faults sink.new) }
-    ensures store_fault { result.status ≡ Status.StoreFault → Rose (V.faults vault) (V.faults result.vault) ⊎ Told (V.holds result.vault) (λ held. unsettled held ≡ V.limit vault) }
+    ensures read_fault { result.status ≡ Status.ReadFault →
+        Rose (S.faults source.old) (S.faults source.new) }
+    ensures write_fault { result.status ≡ Status.WriteFault →
+        Rose (K.faults sink.old) (K.faults sink.new) }
+    ensures store_fault { result.status ≡ Status.StoreFault →
+        Rose (V.faults vault) (V.faults result.vault)
+        ⊎ WhereKnown (V.holds result.vault) (λ held. pending_count held ≡ V.limit vault) }
     ensures no_net_fault { result.status ≢ Status.NetFault }
     ensures not_usage { result.status ≢ Status.Usage }
     // On Done every recorded fix is accepted, and on Unsent not; on both the source was read to its end.
-    ensures done { result.status ≡ Status.Done → Told (V.holds result.vault) (λ held. settled held ≡ length held.recorded) × IsAtEnd (S.left source.new) }
-    ensures unsent { result.status ≡ Status.Unsent → Told (V.holds result.vault) (λ held. settled held ≢ length held.recorded) × IsAtEnd (S.left source.new) }
+    ensures done { result.status ≡ Status.Done →
+        WhereKnown (V.holds result.vault) (λ held. accepted_count held ≡ length held.recorded)
+        × IsAtEnd (S.left source.new) }
+    ensures unsent { result.status ≡ Status.Unsent →
+        WhereKnown (V.holds result.vault) (λ held. accepted_count held ≢ length held.recorded)
+        × IsAtEnd (S.left source.new) }
 {
     let ReportWords {
         host,
@@ -175,7 +216,7 @@ pub fn report<S: Source, K: Sink, D: Dial, C: Clock, V: Vault>(
         terminal,
         tries,
     } = words;
-    let settings = match settings(alloc, phone, plate, terminal) {
+    let settings = match settings_for(alloc, phone, plate, terminal) {
         Ok(settings) => settings,
         Err(Memory) => {
             return ReportRun {
@@ -204,7 +245,7 @@ pub fn report<S: Source, K: Sink, D: Dial, C: Clock, V: Vault>(
             }
         }
         Err((vault, error)) => ReportRun {
-            status: tell_refused(sink, error),
+            status: tell_refused(alloc, sink, error),
             vault,
         },
     }

@@ -9,6 +9,8 @@ ghost use Rattle.jt_report_command.specs.Settings.{settings_of};
 
 /// Want of memory before anything was done is a run of `report`, whatever it was told.
 pub fn law_without_memory()
-    ensures { (phone : Phone) (plate terminal : List ℕ) (tries : ℕ) (left written : Option (List ℕ)) (scene : Scene) →
-        RunsReport (IsStarted (settings_of phone plate terminal) scene.held) tries left left scene scene written written status.Memory }
+    ensures { (phone : Phone) (plate terminal : List ℕ) (tries : ℕ) (left written : Option (List ℕ))
+        (scene : Scene) →
+        RunsReport (IsStarted (settings_of phone plate terminal) scene.held) tries left left scene
+        scene written written status.Memory }
 {}

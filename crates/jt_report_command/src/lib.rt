@@ -20,3 +20,4 @@ pub use line::{FixLine, fix_line};
 pub use noting::{FixesError, note_fixes};
 pub use printing::{push_outcome, status_of};
 pub use report_words::ReportWords;
+pub use settings::settings_for;

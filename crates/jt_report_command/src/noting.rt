@@ -41,9 +41,13 @@ fn note_fix<V: Vault>(
     terminal: &mut Terminal<V>,
     fix: &Fix,
 ) -> Result<(), FixesError>
-    ensures line { (number : ℕ) (line : List ℕ) → Says line (FixOf fix.now) → NotesLine result (V.limit terminal.old.vault) number line
-        (noting terminal.old.state (V.holds terminal.old.vault)) (noting terminal.new.state (V.holds terminal.new.vault)) }
-    ensures beside { Beside terminal.old.state terminal.new.state (V.faults terminal.old.vault) (V.faults terminal.new.vault) (V.limit terminal.old.vault) (V.limit terminal.new.vault) (V.may_fail terminal.old.vault) (V.may_fail terminal.new.vault) result }
+    ensures line { (number : ℕ) (line : List ℕ) → Says line (FixOf fix.now) →
+        NotesLine result (V.limit terminal.old.vault) number line
+        (noting terminal.old.state (V.holds terminal.old.vault))
+        (noting terminal.new.state (V.holds terminal.new.vault)) }
+    ensures beside { Beside terminal.old.state terminal.new.state (V.faults terminal.old.vault)
+        (V.faults terminal.new.vault) (V.limit terminal.old.vault) (V.limit terminal.new.vault)
+        (V.may_fail terminal.old.vault) (V.may_fail terminal.new.vault) result }
 {
     match terminal.note_fix(alloc, fix) {
         Ok(()) => Ok(()),
@@ -60,9 +64,12 @@ fn note_said<V: Vault>(
     number: u64,
     said: FixLine,
 ) -> Result<(), FixesError>
-    ensures line { (line : List ℕ) → Says line said → NotesLine result (V.limit terminal.old.vault) number line
-        (noting terminal.old.state (V.holds terminal.old.vault)) (noting terminal.new.state (V.holds terminal.new.vault)) }
-    ensures beside { Beside terminal.old.state terminal.new.state (V.faults terminal.old.vault) (V.faults terminal.new.vault) (V.limit terminal.old.vault) (V.limit terminal.new.vault) (V.may_fail terminal.old.vault) (V.may_fail terminal.new.vault) result }
+    ensures line { (line : List ℕ) → Says line said → NotesLine result (V.limit terminal.old.vault)
+        number line (noting terminal.old.state (V.holds terminal.old.vault))
+        (noting terminal.new.state (V.holds terminal.new.vault)) }
+    ensures beside { Beside terminal.old.state terminal.new.state (V.faults terminal.old.vault)
+        (V.faults terminal.new.vault) (V.limit terminal.old.vault) (V.limit terminal.new.vault)
+        (V.may_fail terminal.old.vault) (V.may_fail terminal.new.vault) result }
 {
     match said {
         FixLine::Passed => Ok(()),
@@ -81,8 +88,11 @@ fn note_line<V: Vault>(
     line: &[u8],
 ) -> Result<(), FixesError>
     ensures line { NotesLine result (V.limit terminal.old.vault) number line.now
-        (noting terminal.old.state (V.holds terminal.old.vault)) (noting terminal.new.state (V.holds terminal.new.vault)) }
-    ensures beside { Beside terminal.old.state terminal.new.state (V.faults terminal.old.vault) (V.faults terminal.new.vault) (V.limit terminal.old.vault) (V.limit terminal.new.vault) (V.may_fail terminal.old.vault) (V.may_fail terminal.new.vault) result }
+        (noting terminal.old.state (V.holds terminal.old.vault))
+        (noting terminal.new.state (V.holds terminal.new.vault)) }
+    ensures beside { Beside terminal.old.state terminal.new.state (V.faults terminal.old.vault)
+        (V.faults terminal.new.vault) (V.limit terminal.old.vault) (V.limit terminal.new.vault)
+        (V.may_fail terminal.old.vault) (V.may_fail terminal.new.vault) result }
 {
     match fix_line(alloc, line) {
         Ok(said) => note_said(alloc, terminal, number, said),
@@ -98,10 +108,13 @@ pub fn note_fixes<S: Source, V: Vault>(
     source: &mut S,
     terminal: &mut Terminal<V>,
 ) -> Result<(), FixesError>
-    ensures notes { NotesFixes result (V.limit terminal.old.vault) (S.left source.old) (S.left source.new)
-        (noting terminal.old.state (V.holds terminal.old.vault)) (noting terminal.new.state (V.holds terminal.new.vault)) }
-    ensures read_failed { IsErrOf result told.ReadFailed → Rose (S.faults source.old) (S.faults source.new) }
-    ensures vault_failed { IsErrOf result told.VaultFailed → Rose (V.faults terminal.old.vault) (V.faults terminal.new.vault) }
+    ensures notes { NotesFixes result (V.limit terminal.old.vault) (S.left source.old)
+        (S.left source.new) (noting terminal.old.state (V.holds terminal.old.vault))
+        (noting terminal.new.state (V.holds terminal.new.vault)) }
+    ensures read_failed { IsErrOf result told.ReadFailed →
+        Rose (S.faults source.old) (S.faults source.new) }
+    ensures vault_failed { IsErrOf result told.VaultFailed →
+        Rose (V.faults terminal.old.vault) (V.faults terminal.new.vault) }
     // The terminal has a line where it had one, and it is as late as it was.
     ensures phase { terminal.new.state.phase ≡ terminal.old.state.phase }
     ensures time { terminal.new.state.time ≡ terminal.old.state.time }
@@ -110,7 +123,8 @@ pub fn note_fixes<S: Source, V: Vault>(
     ensures limit { V.limit terminal.new.vault ≡ V.limit terminal.old.vault }
     ensures source { S.faults source.old ≤ S.faults source.new }
     ensures vault { V.faults terminal.old.vault ≤ V.faults terminal.new.vault }
-    ensures steady { V.may_fail terminal.old.vault ≡ false → (V.may_fail terminal.new.vault ≡ false) × (IsErrOf result told.VaultFailed → ⊥) }
+    ensures steady { V.may_fail terminal.old.vault ≡ false →
+        (V.may_fail terminal.new.vault ≡ false) × (IsErrOf result told.VaultFailed → ⊥) }
 {
     law_lines();
     let mut lines = LineReader::new();

@@ -33,9 +33,10 @@ struct First<'w> {
 fn named<'w>(words: &'w [String], name: &'static [u8]) -> Option<First<'w>>
     requires { IsKnown name.now }
     ensures some { IfSome result (λ first. (0 < first.count) × (first.count ≤ length words.now)
-        × BeginsOne (first.name.now, first.value.now) (map string_bytes words.now) (map string_bytes (drop first.count words.now))) }
-    ensures none { result ≡ None → (option : List ℕ × List ℕ) (back : List (List ℕ)) → BeginWith option (map string_bytes words.now) back →
-        option.0 ≡ name.now → ⊥ }
+        × BeginsOne (first.name.now, first.value.now) (map string_bytes words.now)
+        (map string_bytes (drop first.count words.now))) }
+    ensures none { result ≡ None → (option : List ℕ × List ℕ) (back : List (List ℕ)) →
+        BeginWith option (map string_bytes words.now) back → option.0 ≡ name.now → ⊥ }
 {
     let (value, count) = option_value(words, name)?;
     Some(First { name, value, count })
@@ -44,7 +45,8 @@ fn named<'w>(words: &'w [String], name: &'static [u8]) -> Option<First<'w>>
 // The first option, where it has one of the names.
 fn first_option<'w>(words: &'w [String]) -> Option<First<'w>>
     ensures some { IfSome result (λ first. (0 < first.count) × (first.count ≤ length words.now)
-        × BeginsOne (first.name.now, first.value.now) (map string_bytes words.now) (map string_bytes (drop first.count words.now))) }
+        × BeginsOne (first.name.now, first.value.now) (map string_bytes words.now)
+        (map string_bytes (drop first.count words.now))) }
     ensures none { result ≡ None → BeginWithNone (map string_bytes words.now) }
 {
     match named(words, HOST) {
@@ -84,7 +86,8 @@ fn step<'w>(
     ensures some { IfSome result (λ step. (0 < step.1) × (step.1 ≤ length words.now)
         × Steps name.now (map string_bytes words.now) (option_to_list (option_copied found.entry))
         (map string_bytes (drop step.1 words.now)) (option_to_list (option_copied step.0))) }
-    ensures none { result ≡ None → HasTooMany name.now (map string_bytes words.now) (option_to_list (option_copied found.entry)) }
+    ensures none { result ≡ None → HasTooMany name.now (map string_bytes words.now)
+        (option_to_list (option_copied found.entry)) }
 {
     let first = first_option(words)?;
     if first.name != name {
@@ -99,7 +102,8 @@ fn step<'w>(
 // The value under a name, if there is one. None where the words are no options, or more than one has this name.
 pub(crate) fn value_of<'w>(words: &'w [String], name: &[u8]) -> Option<Option<&'w [u8]>>
     ensures some { IfSome result (λ found. AreSome (map string_bytes words.now)) }
-    ensures value { IfSome result (λ found. Have name.now (map string_bytes words.now) (option_to_list (option_copied found))) }
+    ensures value { IfSome result (λ found.
+        Have name.now (map string_bytes words.now) (option_to_list (option_copied found))) }
     ensures none { result ≡ None → HasTooMany name.now (map string_bytes words.now) [] }
 {
     let mut from = 0;
@@ -114,8 +118,10 @@ pub(crate) fn value_of<'w>(words: &'w [String], name: &[u8]) -> Option<Option<&'
 
 // The one value under a name.
 pub(crate) fn one_value_of<'w>(words: &'w [String], name: &[u8]) -> Option<&'w [u8]>
-    ensures value { IfSome result (λ value. Have name.now (map string_bytes words.now) (value.now ∷ [])) }
-    ensures none { result ≡ None → (value : List ℕ) (options : List (List ℕ × List ℕ)) → AreOptions options (map string_bytes words.now) →
+    ensures value { IfSome result (λ value.
+        Have name.now (map string_bytes words.now) (value.now ∷ [])) }
+    ensures none { result ≡ None → (value : List ℕ) (options : List (List ℕ × List ℕ)) →
+        AreOptions options (map string_bytes words.now) →
         values_of name.now options ≡ value ∷ [] → ⊥ }
 {
     value_of(words, name)?

@@ -1,17 +1,20 @@
 //! The printed lines of `report`, each put at the end of a text.
 
-ghost use Rattle.std.specs.Prelude.{◌≡◌, ◌++◌, ℕ, string_bytes, codes, OnOk};
+ghost use Rattle.std.specs.Prelude.{◌≡◌, ◌++◌, ℕ, string_bytes, OnOk};
+ghost use Rattle.jt_input.specs.EarlyEnds.{early_reply};
+ghost use Rattle.jt_input.specs.declared.early_end.EarlyEnd.TheVariants as early;
 ghost use Rattle.jt_text.specs.Values.{octets_text};
 ghost use Rattle.jt_report_command.specs.Report.{denial_text, end_text, outcome_reply, timeout_text, totals_line, try_line, try_lines, try_number};
 
 use jt_agent::{AttemptEnd, Outcome};
-use jt_input::Status;
+use jt_input::{EarlyEnd, Status};
 use std::alloc::{AllocError, Global};
 use std::fmt::Write;
 
 // Octets as lower-case hexadecimal digits, and no octets as `-`.
 fn push_octets(alloc: Global, text: &mut String, octets: &[u8]) -> Result<(), AllocError>
-    ensures { OnOk result (string_bytes text.new ≡ string_bytes text.old ++ octets_text octets.now) }
+    ensures { OnOk result
+        (string_bytes text.new ≡ string_bytes text.old ++ octets_text octets.now) }
 {
     if octets.is_empty() {
         return text.push_str("-");
@@ -30,7 +33,8 @@ fn push_denial(alloc: Global, text: &mut String, reply: &[u8]) -> Result<(), All
 
 #[tactic(auto, unfolding(crate::specs::Report::timeout_text))]
 fn push_timeout(text: &mut String, since: u64, now: u64) -> Result<(), AllocError>
-    ensures { OnOk result (string_bytes text.new ≡ string_bytes text.old ++ timeout_text since now) }
+    ensures { OnOk result
+        (string_bytes text.new ≡ string_bytes text.old ++ timeout_text since now) }
 {
     write!(text, "timeout {since} {now}")
 }
@@ -65,7 +69,8 @@ fn push_try(
     number: u64,
     end: &AttemptEnd,
 ) -> Result<(), AllocError>
-    ensures { OnOk result (string_bytes text.new ≡ string_bytes text.old ++ try_line number end.now) }
+    ensures { OnOk result
+        (string_bytes text.new ≡ string_bytes text.old ++ try_line number end.now) }
 {
     push_number(text, number)?;
     push_end(alloc, text, end)?;
@@ -84,7 +89,8 @@ fn push_tries(alloc: Global, text: &mut String, ends: &[AttemptEnd]) -> Result<(
 
 #[tactic(auto, unfolding(crate::specs::Report::totals_line))]
 fn push_totals(text: &mut String, accepted: u64, recorded: u64) -> Result<(), AllocError>
-    ensures { OnOk result (string_bytes text.new ≡ string_bytes text.old ++ totals_line accepted recorded) }
+    ensures { OnOk result
+        (string_bytes text.new ≡ string_bytes text.old ++ totals_line accepted recorded) }
 {
     write!(text, "accepted={accepted} of {recorded}\n")
 }
@@ -97,7 +103,8 @@ fn push_tries_and_totals(
     accepted: u64,
     recorded: u64,
 ) -> Result<(), AllocError>
-    ensures { OnOk result (string_bytes text.new ≡ string_bytes text.old ++ (try_lines 1 ends.now ++ totals_line accepted recorded)) }
+    ensures { OnOk result (string_bytes text.new
+        ≡ string_bytes text.old ++ (try_lines 1 ends.now ++ totals_line accepted recorded)) }
 {
     push_tries(alloc, text, ends)?;
     push_totals(text, accepted, recorded)
@@ -109,10 +116,11 @@ fn push_tries_and_fault(
     text: &mut String,
     ends: &[AttemptEnd],
 ) -> Result<(), AllocError>
-    ensures { OnOk result (string_bytes text.new ≡ string_bytes text.old ++ (try_lines 1 ends.now ++ codes "store fault\n")) }
+    ensures { OnOk result (string_bytes text.new
+        ≡ string_bytes text.old ++ (try_lines 1 ends.now ++ (early_reply early.StoreFault).text)) }
 {
     push_tries(alloc, text, ends)?;
-    text.push_str("store fault\n")
+    EarlyEnd::StoreFault.push(text)
 }
 
 /// What attempts came to, with the totals of the vault: a line for each attempt that ended, and `accepted=A of R`, or
@@ -125,7 +133,8 @@ pub fn push_outcome(
     accepted: u64,
     recorded: u64,
 ) -> Result<(), AllocError>
-    ensures { OnOk result (string_bytes text.new ≡ string_bytes text.old ++ (outcome_reply outcome.now accepted recorded).text) }
+    ensures { OnOk result (string_bytes text.new
+        ≡ string_bytes text.old ++ (outcome_reply outcome.now accepted recorded).text) }
 {
     match outcome {
         Outcome::Done(ends) => {
@@ -142,7 +151,8 @@ pub fn push_outcome(
 /// The status that goes with what attempts came to.
 #[tactic(auto, unfolding(crate::specs::Report::outcome_reply))]
 pub fn status_of(outcome: &Outcome) -> Status
-    ensures { (accepted recorded : ℕ) → result ≡ (outcome_reply outcome.now accepted recorded).status }
+    ensures { (accepted recorded : ℕ) →
+        result ≡ (outcome_reply outcome.now accepted recorded).status }
 {
     match outcome {
         Outcome::Done(_) => Status::Done,

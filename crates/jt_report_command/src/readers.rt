@@ -11,6 +11,9 @@ use jt_input::number;
 use jt_value::{Edition, Memory, Octets, Phone, Seq};
 use std::alloc::Global;
 
+/// The octets of a host's name at most (this project's own).
+const HOST_LIMIT: usize = 255;
+
 // A number from 1 to the greatest.
 pub(crate) fn number_up_to(text: &[u8], most: u32) -> Option<u32>
     ensures { Reads decimal (λ number. (1 ≤ number) × (number ≤ most)) text.now result }
@@ -38,13 +41,14 @@ fn is_host(text: &[u8]) -> bool
 {
     match text.first() {
         None => false,
-        Some(first) => text.len() <= 255 && *first != b'-' && are_host_octets(text),
+        Some(first) => text.len() <= HOST_LIMIT && *first != b'-' && are_host_octets(text),
     }
 }
 
 // The name or address of a host, 1 to 255 ASCII letters, digits, `.`, `-` and `:`, of which `-` is not the first.
 pub(crate) fn host(alloc: Global, text: &[u8]) -> Result<Option<String>, Memory>
-    ensures { IfOk result (λ host. MatchOption host (IsTrue (is_host_text text.now) → ⊥) (λ host. IsTrue (is_host_text text.now) × (string_bytes host ≡ text.now))) }
+    ensures { IfOk result (λ host. MatchOption host (IsTrue (is_host_text text.now) → ⊥)
+        (λ host. IsTrue (is_host_text text.now) × (string_bytes host ≡ text.now))) }
 {
     if !is_host(text) {
         return Ok(None);

@@ -1,13 +1,14 @@
 //! The words of `report`.
 
 ghost use Rattle.std.specs.Prelude.{◌≡◌, map, string_bytes, Some, IfOk, IfSome, MatchOption};
-ghost use Rattle.jt_report_command.specs.ReportWords.{AreCommand, AreWords, AreWritten, Tells, Told, Written as WrittenAs};
-ghost use Rattle.jt_report_command.specs.Telling.{told_of, written_of, TellsPlain};
+ghost use Rattle.jt_report_command.specs.ReportWords.{AreCommand, AreWords, AreWritten, TellsWords, ReportValues, Written as WrittenAs};
+ghost use Rattle.jt_report_command.specs.Telling.{values_in_words, written_of, TellsPlain};
 ghost use Rattle.jt_report_command.specs.Values.{terminal_most as most_of_terminal};
 ghost use Rattle.jt_report_command.specs.declared.report_words.Plain.{Plain as PlainValues};
 
 use crate::options::{EDITION, HOST, PHONE, PLATE, PORT, TERMINAL, TRIES, one_value_of, value_of};
 use crate::readers::{edition, host, number_up_to, octets, phone};
+use jt_value::limits::{PLATE_LIMIT, PORT_LIMIT};
 use jt_value::{Edition, Memory, Octets, Phone};
 use std::alloc::Global;
 
@@ -28,12 +29,7 @@ pub struct ReportWords {
     pub tries: u32,
 }
 
-const PORT_MOST: u32 = 65_535;
-
 const TRIES_MOST: u32 = 100;
-
-// The most octets of a plate.
-const PLATE_MOST: usize = 255;
 
 // The values of the options, as they are written.
 #[derive(Clone, Copy)]
@@ -49,7 +45,8 @@ struct Written<'w> {
 
 impl<'w> Written<'w> {
     fn from_options(options: &'w [String]) -> Option<Written<'w>>
-        ensures some { IfSome result (λ written. AreWritten (written_of written) (map string_bytes options.now)) }
+        ensures some { IfSome result (λ written.
+            AreWritten (written_of written) (map string_bytes options.now)) }
         ensures each { (written : WrittenAs) → AreWritten written (map string_bytes options.now) →
             MatchOption result ⊥ (λ found. written_of found ≡ written) }
     {
@@ -67,7 +64,8 @@ impl<'w> Written<'w> {
 
 // The values behind the word `report`.
 fn values_in(words: &[String]) -> Option<Written<'_>>
-    ensures some { IfSome result (λ written. AreCommand (written_of written) (map string_bytes words.now)) }
+    ensures some { IfSome result (λ written.
+        AreCommand (written_of written) (map string_bytes words.now)) }
     ensures each { (written : WrittenAs) → AreCommand written (map string_bytes words.now) →
         MatchOption result ⊥ (λ found. written_of found ≡ written) }
 {
@@ -98,9 +96,10 @@ fn terminal_most(edition: Edition) -> usize
 
 fn plain_values(written: &Written) -> Option<Plain>
     ensures some { IfSome result (λ plain. TellsPlain (written_of written.now) plain) }
-    ensures each { (plain : PlainValues) → TellsPlain (written_of written.now) plain → result ≡ Some plain }
+    ensures each { (plain : PlainValues) → TellsPlain (written_of written.now) plain →
+        result ≡ Some plain }
 {
-    let port = number_up_to(written.port, PORT_MOST)?;
+    let port = number_up_to(written.port, PORT_LIMIT)?;
     let tries = number_up_to(written.tries, TRIES_MOST)?;
     let phone = phone(edition(written.edition)?, written.phone)?;
     Some(Plain {
@@ -112,9 +111,10 @@ fn plain_values(written: &Written) -> Option<Plain>
 
 // What the values tell.
 fn tell(alloc: Global, written: &Written) -> Result<Option<ReportWords>, Memory>
-    ensures told { IfOk result (λ found. IfSome found (λ told. Tells (written_of written.now) (told_of told))) }
-    ensures that_one { (told : Told) → Tells (written_of written.now) told →
-        IfOk result (λ found. MatchOption found ⊥ (λ found. told_of found ≡ told)) }
+    ensures told { IfOk result (λ found.
+        IfSome found (λ told. TellsWords (written_of written.now) (values_in_words told))) }
+    ensures that_one { (told : ReportValues) → TellsWords (written_of written.now) told →
+        IfOk result (λ found. MatchOption found ⊥ (λ found. values_in_words found ≡ told)) }
 {
     let Some(Plain { port, phone, tries }) = plain_values(written) else {
         return Ok(None);
@@ -122,7 +122,7 @@ fn tell(alloc: Global, written: &Written) -> Result<Option<ReportWords>, Memory>
     let Some(host) = host(alloc, written.host)? else {
         return Ok(None);
     };
-    let Some(plate) = octets(alloc, written.plate, PLATE_MOST)? else {
+    let Some(plate) = octets(alloc, written.plate, PLATE_LIMIT)? else {
         return Ok(None);
     };
     let Some(terminal) = octets(alloc, written.terminal, terminal_most(phone.edition))? else {
@@ -141,9 +141,10 @@ fn tell(alloc: Global, written: &Written) -> Result<Option<ReportWords>, Memory>
 impl ReportWords {
     /// Reads the words after the program's name. None means that they are no words of `report`.
     pub fn from_words(alloc: Global, words: &[String]) -> Result<Option<ReportWords>, Memory>
-        ensures told { IfOk result (λ found. IfSome found (λ told. AreWords (told_of told) (map string_bytes words.now))) }
-        ensures that_one { (told : Told) → AreWords told (map string_bytes words.now) →
-            IfOk result (λ found. MatchOption found ⊥ (λ found. told_of found ≡ told)) }
+        ensures told { IfOk result (λ found.
+            IfSome found (λ told. AreWords (values_in_words told) (map string_bytes words.now))) }
+        ensures that_one { (told : ReportValues) → AreWords told (map string_bytes words.now) →
+            IfOk result (λ found. MatchOption found ⊥ (λ found. values_in_words found ≡ told)) }
     {
         match values_in(words) {
             Some(written) => tell(alloc, &written),

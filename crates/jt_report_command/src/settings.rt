@@ -1,12 +1,13 @@
 //! What the terminal of `report` is told before it starts.
 
 ghost use Rattle.std.specs.Prelude.{◌≡◌, ◌≤◌, length, IfOk};
+ghost use Rattle.jt_value.specs.declared.limits.TheConstants.{PLATE_LIMIT};
 ghost use Rattle.jt_header.specs.Content.{IsPhone};
 ghost use Rattle.jt_register.specs.Registration.{maker_len, model_len, register, terminal_len};
 ghost use Rattle.jt_terminal_rule.specs.Messages.{AreSettings};
 ghost use Rattle.jt_terminal_rule.specs.Tails.{IsTail};
 ghost use Rattle.jt_value.specs.Octets.{AreOctets};
-ghost use Rattle.jt_report_command.specs.Settings.{filled, register_of, settings_of, tail_of, zeros as zero_octets};
+ghost use Rattle.jt_report_command.specs.Settings.{zero_filled, register_of, settings_of, tail_of, zeros as zero_octets};
 
 use jt_layout::octets_fit;
 use jt_register::{AuthTail, Register};
@@ -23,7 +24,11 @@ struct IdLengths {
 }
 
 fn lengths_in(edition: Edition) -> IdLengths
-    ensures { result ≡ record { maker = maker_len edition; model = model_len edition; terminal = terminal_len edition } }
+    ensures { result ≡ record {
+      maker = maker_len edition;
+      model = model_len edition;
+      terminal = terminal_len edition;
+    } }
 {
     match edition {
         Edition::E2013 => IdLengths {
@@ -51,7 +56,7 @@ fn zeros(alloc: Global, count: usize) -> Result<Octets, Memory>
 // These octets, filled with zero octets up to so many.
 fn fill(alloc: Global, octets: Octets, count: usize) -> Result<Octets, Memory>
     requires { length octets ≤ count }
-    ensures are { IfOk result (λ full. full ≡ filled count octets) }
+    ensures are { IfOk result (λ full. full ≡ zero_filled count octets) }
     ensures fit { IfOk result (λ full. AreOctets full × (length full ≡ count)) }
 {
     let missing = count.saturating_sub(octets.len());
@@ -100,15 +105,16 @@ fn tail(edition: Edition) -> Option<AuthTail>
     }
 }
 
-/// The settings of a phone, a plate and a terminal id, as `report` has them (this project's own).
-pub(crate) fn settings(
+/// The settings of a phone, a plate of at most 255 octets and a terminal id of at most as many octets as an id of the phone's edition
+/// has, as `report` has them (this project's own). Memory comes where memory is refused.
+pub fn settings_for(
     alloc: Global,
     phone: Phone,
     plate: Octets,
     terminal: Octets,
 ) -> Result<Settings, Memory>
     requires phone { IsPhone phone }
-    requires plate { length plate ≤ 255 }
+    requires plate { length plate ≤ PLATE_LIMIT }
     requires terminal { length terminal ≤ terminal_len phone.edition }
     ensures are { IfOk result (λ settings. settings ≡ settings_of phone plate terminal) }
     ensures good { IfOk result AreSettings }

@@ -4,6 +4,7 @@ use Rattle.std.specs.Prelude.{ℕ, ◌^◌, ◌==◌, nat_le, nat_lt, if◌then�
 use Rattle.std.specs.List.{before_first, after_first}
 use Rattle.std.specs.Str.{bytes_eq}
 use Rattle.std.specs.Str.Parse.{digits_value}
+use Rattle.jt_script.specs.declared.script.TheConstants.{COUNT_MOST}
 use Rattle.jt_input.specs.Spelling.{is_passed}
 use Rattle.jt_script.specs.ScriptLine.{line_of}
 use Rattle.jt_script.specs.declared.event.WorldEvent.{WorldEvent}
@@ -31,7 +32,7 @@ likely_event line =
 
 abbrev pub is_amount : Option ℕ → Bool
 is_amount None = true
-is_amount (Some octets) = nat_le octets 1000000000
+is_amount (Some octets) = nat_le octets COUNT_MOST
 
 abbrev pub is_in_range : WorldEvent → Bool
 is_in_range (Fix latitude) = nat_le latitude 89999999

@@ -1,6 +1,7 @@
 -- How the lines of a script are written: this project's own forms. To be believed.
 use Rattle.std.specs.Prelude.{◌≡◌, ℕ, ◌<◌, ◌≤◌, ◌^◌, List, [], ◌∷◌, ◌++◌, codes, Option, Some, None, IfSome}
 use Rattle.std.specs.Fmt.{decimal}
+use Rattle.jt_script.specs.declared.script.TheConstants.{COUNT_MOST}
 use Rattle.jt_script.specs.declared.event.WorldEvent.{WorldEvent}
 use Rattle.jt_script.specs.declared.event.WorldEvent.TheVariants.{Fix, Up, Down, Tick}
 
@@ -22,7 +23,7 @@ line_of (Down count) = codes "down " ++ amount count
 line_of (Tick milliseconds) = codes "tick " ++ decimal milliseconds
 
 abbrev pub IsAmount : Option ℕ → Type 0
-IsAmount count = IfSome count (λ octets. octets ≤ 1000000000)
+IsAmount count = IfSome count (λ octets. octets ≤ COUNT_MOST)
 
 -- the numbers of the event are in the ranges of its form
 abbrev pub IsInRange : WorldEvent → Type 0

@@ -39,7 +39,8 @@ fn count(octets: &[u8]) -> Option<Option<u32>>
 }
 
 fn fix(line: &[u8]) -> Option<u32>
-    ensures { Reads (λ latitude. codes "fix " ++ decimal latitude) (λ latitude. latitude ≤ 89999999) line.now result }
+    ensures { Reads (λ latitude. codes "fix " ++ decimal latitude) (λ latitude. latitude ≤ 89999999)
+        line.now result }
 {
     number(line.strip_prefix(b"fix ")?, LATITUDE_MOST)
 }
@@ -51,7 +52,8 @@ fn down(line: &[u8]) -> Option<Option<u32>>
 }
 
 fn tick(line: &[u8]) -> Option<u32>
-    ensures { Reads (λ milliseconds. codes "tick " ++ decimal milliseconds) (λ milliseconds. milliseconds < 2 ^ 32) line.now result }
+    ensures { Reads (λ milliseconds. codes "tick " ++ decimal milliseconds)
+        (λ milliseconds. milliseconds < 2 ^ 32) line.now result }
 {
     number(line.strip_prefix(b"tick ")?, u32::MAX)
 }
@@ -73,7 +75,8 @@ fn line_and_count(words: &[u8]) -> Option<(u32, Option<u32>)>
 }
 
 fn up(line: &[u8]) -> Option<(u32, Option<u32>)>
-    ensures { Reads (λ up. codes "up " ++ line_and_amount up) (λ up. (up.0 < 2 ^ 32) × IsAmount up.1) line.now result }
+    ensures { Reads (λ up. codes "up " ++ line_and_amount up)
+        (λ up. (up.0 < 2 ^ 32) × IsAmount up.1) line.now result }
 {
     line_and_count(line.strip_prefix(b"up ")?)
 }
@@ -99,8 +102,10 @@ fn event(line: &[u8]) -> Option<WorldEvent>
 // What a line says, by the forms of lines.
 fn read(line: &[u8]) -> ScriptLine
     ensures passed { (result ≡ ScriptLine.Passed) ↔ IsPassed line.now }
-    ensures event { (event : WorldEvent) → result ≡ ScriptLine.Event event → (line.now ≡ line_of event) × IsInRange event }
-    ensures each_event { (event : WorldEvent) → IsInRange event → line.now ≡ line_of event → result ≡ ScriptLine.Event event }
+    ensures event { (event : WorldEvent) → result ≡ ScriptLine.Event event →
+        (line.now ≡ line_of event) × IsInRange event }
+    ensures each_event { (event : WorldEvent) → IsInRange event → line.now ≡ line_of event →
+        result ≡ ScriptLine.Event event }
 {
     match line.first() {
         None | Some(b'#') => ScriptLine::Passed,
@@ -115,8 +120,10 @@ fn read(line: &[u8]) -> ScriptLine
 pub fn script_line(line: &[u8]) -> ScriptLine
     ensures passed { (result ≡ ScriptLine.Passed) ↔ IsPassed line.now }
     // An event exactly where the line is written as that event is, and its numbers are in range.
-    ensures event { (event : WorldEvent) → result ≡ ScriptLine.Event event → (line.now ≡ line_of event) × IsInRange event }
-    ensures each_event { (event : WorldEvent) → IsInRange event → line.now ≡ line_of event → result ≡ ScriptLine.Event event }
+    ensures event { (event : WorldEvent) → result ≡ ScriptLine.Event event →
+        (line.now ≡ line_of event) × IsInRange event }
+    ensures each_event { (event : WorldEvent) → IsInRange event → line.now ≡ line_of event →
+        result ≡ ScriptLine.Event event }
     // As a function of the line:
     ensures said { result ≡ said line.now }
 {

@@ -5,7 +5,7 @@ use Rattle.std.proofs.lemmas.Slice.Eq.{bytes_eq-Decides}
 use mathlib.Core.List.{IsPrefix}
 use Rattle.jt_value.specs.Sameness.{key_of, same_key}
 use Rattle.jt_value.specs.declared.phone.Phone.{Phone}
-use Rattle.jt_store.specs.Tables.{Tables, Told}
+use Rattle.jt_store.specs.Tables.{Tables, WhereKnown}
 use Rattle.jt_store.specs.declared.row.Row.{Row}
 use Rattle.jt_turn.specs.declared.entry.Entry.{Entry as Turned}
 use Rattle.jt_platform.specs.Allowed.{Opening, Allowed, FencedReply, GuardedReply, IsHolder, Legal, StoreReply}
@@ -73,7 +73,7 @@ rows_stay o t (e ∷ more) h key told legal full =
     let before = rows_stay o t more h key told legal.1 full in
     ap length (ap (λ l. rows_after key (t.rows key) (more ++ h) ++ l) (adds_none o t (more ++ h) e.session e.request e.reply key told before legal.0) ∙ append-nil (rows_after key (t.rows key) (more ++ h))) ∙ before
 
-told_full : (o : Opening) (now : Option Tables) (more h : List Entry) (key : List ℕ) (l : ℕ) → o.tables ≡ now → l ≡ o.limit → Legal o (more ++ h) → Told (tables_after now h) (λ t. length (t.rows key) ≡ l) → Told (tables_after now (more ++ h)) (λ t. length (t.rows key) ≡ l)
+told_full : (o : Opening) (now : Option Tables) (more h : List Entry) (key : List ℕ) (l : ℕ) → o.tables ≡ now → l ≡ o.limit → Legal o (more ++ h) → WhereKnown (tables_after now h) (λ t. length (t.rows key) ≡ l) → WhereKnown (tables_after now (more ++ h)) (λ t. length (t.rows key) ≡ l)
 told_full o None more h key l told limit legal full = tt
 told_full o (Some t) more h key l told limit legal full = rows_stay o t more h key told legal (full ∙ limit) ∙ sym limit
 
@@ -82,9 +82,9 @@ there_and_back [] = refl
 there_and_back (e ∷ h) = ap (λ l. e ∷ l) (there_and_back h)
 
 pub full_after : (o : Opening) (h : List Entry) (found : List (Turned Request Reply)) (key : List ℕ) (l : ℕ) → IsPrefix found (map as_ask h) → l ≡ o.limit → Legal o (newest h)
-    → Told (tables_after o.tables (newest (map as_entry found))) (λ t. length (t.rows key) ≡ l) → Told (tables_after o.tables (newest h)) (λ t. length (t.rows key) ≡ l)
+    → WhereKnown (tables_after o.tables (newest (map as_entry found))) (λ t. length (t.rows key) ≡ l) → WhereKnown (tables_after o.tables (newest h)) (λ t. length (t.rows key) ≡ l)
 full_after o h found key l front limit legal full =
     let whole : h ≡ map as_entry found ++ map as_entry front.0 = sym (there_and_back h) ∙ (ap (λ x. map as_entry x) (sym (λ i. front.1 i)) ∙ map-append as_entry found front.0) in
     let turned : newest h ≡ newest (map as_entry front.0) ++ newest (map as_entry found) = ap newest whole ∙ reverse-append (map as_entry found) (map as_entry front.0) in
-    subst (λ x. Told (tables_after o.tables x) (λ t. length (t.rows key) ≡ l)) (sym turned)
+    subst (λ x. WhereKnown (tables_after o.tables x) (λ t. length (t.rows key) ≡ l)) (sym turned)
     (told_full o o.tables (newest (map as_entry front.0)) (newest (map as_entry found)) key l refl limit (subst (λ x. Legal o x) turned legal) full)

@@ -4,6 +4,7 @@ use Rattle.std.specs.Prelude.{option_map}
 use lib.ListN.{get_elem?}
 use mathlib.Core.List.{IsPrefix}
 use mathlib.Core.Option.{some}
+use Rattle.jt_value.specs.declared.limits.TheConstants.{INPUT_LIMIT}
 use Rattle.jt_outside.specs.Link.{Wire}
 use Rattle.jt_outside.specs.Pool.{Pool, Script, Used, used_of, IsNew}
 use Rattle.jt_turn.specs.declared.entry.Ended.{Ended}
@@ -38,7 +39,7 @@ pub record IsWorked {O : Type 0} (o : Option Opening) (opening : O) (turn : Turn
   pub pass : PassState Request Reply O
   pub came : Wire
   pub given : IsGiven opening turn coming m pass came
-  pub serves : Serves o (2 ^ 40) pass pass_now came left report
+  pub serves : Serves o INPUT_LIMIT pass pass_now came left report
   pub same : IsSamePass pass pass_now
 
 -- its pass was joined into the first one

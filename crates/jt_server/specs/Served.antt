@@ -3,12 +3,13 @@ use Rattle.std.specs.Prelude.{◌≡◌, ◌≢◌, ◌≤◌, ◌<◌, ◌+◌,
 use Rattle.std.specs.Prelude.{option_map}
 use lib.ListN.{get_elem?}
 use mathlib.Core.Option.{some}
+use Rattle.jt_value.specs.declared.limits.TheConstants.{INPUT_LIMIT}
 use Rattle.jt_value.specs.Sameness.{key_of}
 use Rattle.jt_value.specs.declared.phone.Phone.{Phone}
 use Rattle.jt_value.specs.Counts.{Rose}
 use Rattle.jt_outside.specs.Link.{Wire}
 use Rattle.jt_outside.specs.Pool.{Pool, Script, Used, used_of, IsNew}
-use Rattle.jt_store.specs.Tables.{Told}
+use Rattle.jt_store.specs.Tables.{WhereKnown}
 use Rattle.jt_turn.specs.Histories.{entries_of}
 use Rattle.jt_turn.specs.Passes.{PassState}
 use Rattle.jt_platform.specs.Allowed.{Opening}
@@ -35,7 +36,7 @@ pub record IsFullAfter (o : Opening) (h : List Entry) (q : Option Request) (l : 
   pub octets : List ℕ
   pub asked : q ≡ Some (ask.Unit phone serial id octets)
   pub limit : l ≡ o.limit
-  pub rows : Told (tables_after o.tables (newest h)) (λ t. length (t.rows (key_of phone)) ≡ l)
+  pub rows : WhereKnown (tables_after o.tables (newest h)) (λ t. length (t.rows (key_of phone)) ≡ l)
 
 -- A link that came so was served under this number, and came back so. The history's entries of the number are those of the pass that
 -- served it, and where the report's end is ListFull the phone has as many rows as it may have after the whole history.
@@ -44,7 +45,7 @@ pub record IsFullAfter (o : Opening) (h : List Entry) (q : Option Request) (l : 
 pub record IsServed (O : Type 0) (o : Opening) (h : List Entry) (number : ℕ) (came back : Wire) (report : Report) : Type 0 where
   pub pass : PassState Request Reply O
   pub pass_now : PassState Request Reply O
-  pub serves : Serves (Some o) (2 ^ 40) pass pass_now came back report
+  pub serves : Serves (Some o) INPUT_LIMIT pass pass_now came back report
   pub own : pass.number ≡ number
   pub entries : entries_of number (map as_ask h) ≡ pass_now.mine
   pub full : (l : ℕ) → report.end ≡ ends.ListFull l → IsFullAfter o h (last_asked (at_state start) serves.talk.turns) l

@@ -23,7 +23,8 @@ pub(crate) trait Door {
     ghost name: { Self → ℕ };
 
     fn accept(&mut self) -> Accepted<Self::Link>
-        ensures link { Accepts (wire_of Self.Link.inbound Self.Link.written Self.Link.faults) (pool self.old) (pool self.new) result }
+        ensures link { Accepts (wire_of Self.Link.inbound Self.Link.written Self.Link.faults)
+            (pool self.old) (pool self.new) result }
         ensures count { Counts (faults self.old) (faults self.new) }
         ensures cause { result ≡ Failed → Rose (faults self.old) (faults self.new) }
         ensures name { name self.new ≡ name self.old };

@@ -18,6 +18,7 @@ ghost use Rattle.jt_server.specs.Served.{AreServed, EndsAs, store_faults};
 ghost use Rattle.jt_server.specs.Jobs.{AreUpTo, HasFailed, IsGiven, IsJoined, IsRoot, IsWorked, ServesLinks, AreRooms, lent_to};
 ghost use lib.ListN.{get_elem?};
 ghost use mathlib.Core.Option.{some};
+ghost use Rattle.jt_value.specs.declared.limits.TheConstants.{INPUT_LIMIT};
 
 use crate::held::{Door, Held};
 use crate::served::{ServeEnd, Served};
@@ -68,15 +69,22 @@ where
     requires history { hub.history ≡ [] }
     requires sessions { 1 ≤ sessions }
     // Each reply is one that the entries before it allow, over the opening of the hub, which stays but for its reserved number.
-    ensures legal { Legal (opening_of (P.tables hub.start) (P.limit hub.start) hub.fleet hub.secret) (newest result.hub.history) }
-    ensures opening { (result.hub.start ≡ hub.start) × (result.hub.fleet ≡ hub.fleet) × (result.hub.secret ≡ hub.secret) }
+    ensures legal { Legal (opening_of (P.tables hub.start) (P.limit hub.start) hub.fleet hub.secret)
+        (newest result.hub.history) }
+    ensures opening { (result.hub.start ≡ hub.start) × (result.hub.fleet ≡ hub.fleet)
+        × (result.hub.secret ≡ hub.secret) }
     // What was served, and what came back to the listener.
-    ensures served { AreServed (Option (HubOpening P)) (opening_of (P.tables hub.start) (P.limit hub.start) hub.fleet hub.secret) result.hub.history (L.pool listen.old) (L.pool listen.new) result.reports }
-    ensures no_other { (n : ℕ) → (n ≡ 0) ⊎ (length result.reports < n) → entries_of n (map as_ask result.hub.history) ≡ [] }
-    ensures end { EndsAs result.end (length result.reports) sessions (L.pool listen.new) (L.faults listen.old) (L.faults listen.new) }
+    ensures served { AreServed (Option (HubOpening P))
+        (opening_of (P.tables hub.start) (P.limit hub.start) hub.fleet hub.secret)
+        result.hub.history (L.pool listen.old) (L.pool listen.new) result.reports }
+    ensures no_other { (n : ℕ) → (n ≡ 0) ⊎ (length result.reports < n) →
+        entries_of n (map as_ask result.hub.history) ≡ [] }
+    ensures end { EndsAs result.end (length result.reports) sessions (L.pool listen.new)
+        (L.faults listen.old) (L.faults listen.new) }
     ensures count { Counts (L.faults listen.old) (L.faults listen.new) }
     // The keeper's count rose by at least as many as the reports that end as StoreFault.
-    ensures faults { RoseBy (store_faults result.reports) (P.faults hub.keeper) (P.faults result.hub.keeper) }
+    ensures faults { RoseBy (store_faults result.reports) (P.faults hub.keeper)
+        (P.faults result.hub.keeper) }
 {
     match hub.reserve(sessions) {
         Ok(()) => serve_reserved(rt, alloc, listen, hub, sessions),
@@ -88,7 +96,11 @@ where
 fn refused<L: Listen, P: Keeper>(alloc: Global, listen: &L, hub: Hub<P>, sessions: u32) -> Served<P>
     requires history { hub.history ≡ [] }
     requires sessions { 1 ≤ sessions }
-    ensures { ServesLinks (Option (HubOpening P)) (opening_of (P.tables hub.start) (P.limit hub.start) hub.fleet hub.secret) hub.start hub.fleet hub.secret result.hub sessions (L.pool listen.now) (L.pool listen.now) (L.faults listen.now) (L.faults listen.now) (P.faults hub.keeper) (P.faults result.hub.keeper) result.reports result.end }
+    ensures { ServesLinks (Option (HubOpening P))
+        (opening_of (P.tables hub.start) (P.limit hub.start) hub.fleet hub.secret) hub.start
+        hub.fleet hub.secret result.hub sessions (L.pool listen.now) (L.pool listen.now)
+        (L.faults listen.now) (L.faults listen.now) (P.faults hub.keeper)
+        (P.faults result.hub.keeper) result.reports result.end }
 {
     let _sessions = sessions;
     let _listen = listen;
@@ -111,7 +123,8 @@ fn take_rooms<K: Link + Drop, P: Keeper>(
     alloc: Global,
     sessions: u32,
 ) -> Result<Rooms<K, P>, Memory>
-    ensures { IfOk result (λ rooms. AreRooms sessions rooms.jobs.items rooms.jobs.spare rooms.links.items rooms.links.spare rooms.reports.items rooms.reports.spare) }
+    ensures { IfOk result (λ rooms. AreRooms sessions rooms.jobs.items rooms.jobs.spare
+        rooms.links.items rooms.links.spare rooms.reports.items rooms.reports.spare) }
 {
     let jobs = room(alloc, sessions)?;
     let links = room(alloc, sessions)?;
@@ -136,7 +149,11 @@ where
     requires history { hub.history ≡ [] }
     requires sessions { 1 ≤ sessions }
     requires reserved { sessions ≤ hub.reserved }
-    ensures { ServesLinks (Option (HubOpening P)) (opening_of (P.tables hub.start) (P.limit hub.start) hub.fleet hub.secret) hub.start hub.fleet hub.secret result.hub sessions (L.pool listen.old) (L.pool listen.new) (L.faults listen.old) (L.faults listen.new) (P.faults hub.keeper) (P.faults result.hub.keeper) result.reports result.end }
+    ensures { ServesLinks (Option (HubOpening P))
+        (opening_of (P.tables hub.start) (P.limit hub.start) hub.fleet hub.secret) hub.start
+        hub.fleet hub.secret result.hub sessions (L.pool listen.old) (L.pool listen.new)
+        (L.faults listen.old) (L.faults listen.new) (P.faults hub.keeper)
+        (P.faults result.hub.keeper) result.reports result.end }
 {
     let Ok(rooms) = take_rooms(alloc, sessions) else {
         return refused(alloc, listen, hub, sessions);
@@ -161,10 +178,34 @@ fn serve_turn<R: Threads + Wait + Sync, L: Listen, P: Keeper + Send + Drop>(
 ) -> Served<P>
 where
     L::Link: Send,
-    requires begun { pass ≡ record { turn = turn; number = 0; opening = Some (record { start = before.value.start; fleet = before.value.fleet; secret = before.value.secret; reserved = before.value.reserved }); base = P.faults before.value.keeper; seen = []; mine = []; faults = P.faults before.value.keeper; found = []; found_faults = 0; failed = 0; ended = []; lent = 0; given = 0 } }
+    requires begun { pass ≡ record {
+      turn = turn;
+      number = 0;
+      opening = Some (record {
+        start = before.value.start;
+        fleet = before.value.fleet;
+        secret = before.value.secret;
+        reserved = before.value.reserved;
+      });
+      base = P.faults before.value.keeper;
+      seen = [];
+      mine = [];
+      faults = P.faults before.value.keeper;
+      found = [];
+      found_faults = 0;
+      failed = 0;
+      ended = [];
+      lent = 0;
+      given = 0;
+    } }
     requires reserved { sessions ≤ before.value.reserved }
-    requires rooms { AreRooms sessions rooms.jobs.items rooms.jobs.spare rooms.links.items rooms.links.spare rooms.reports.items rooms.reports.spare }
-    ensures { ServesLinks (Option (HubOpening P)) (opening_of (P.tables before.value.start) (P.limit before.value.start) before.value.fleet before.value.secret) before.value.start before.value.fleet before.value.secret result.hub sessions (L.pool listen.old) (L.pool listen.new) (L.faults listen.old) (L.faults listen.new) (P.faults before.value.keeper) (P.faults result.hub.keeper) result.reports result.end }
+    requires rooms { AreRooms sessions rooms.jobs.items rooms.jobs.spare rooms.links.items
+        rooms.links.spare rooms.reports.items rooms.reports.spare }
+    ensures { ServesLinks (Option (HubOpening P))
+        (opening_of (P.tables before.value.start) (P.limit before.value.start) before.value.fleet
+        before.value.secret) before.value.start before.value.fleet before.value.secret result.hub
+        sessions (L.pool listen.old) (L.pool listen.new) (L.faults listen.old) (L.faults listen.new)
+        (P.faults before.value.keeper) (P.faults result.hub.keeper) result.reports result.end }
 {
     let Rooms {
         jobs,
@@ -207,16 +248,22 @@ where
     requires root { IsRoot pass.opening turn.now pass.base pass }
     requires fresh { (pass.given ≡ 0) × (pass.lent ≡ 0) × (pass.ended ≡ []) × (pass.failed ≡ 0) }
     requires reserved { IsSomeAnd pass.opening (λ o. sessions ≤ o.reserved) }
-    requires room { (jobs.items ≡ []) × (sessions ≤ jobs.spare) × (links.items ≡ []) × (sessions ≤ links.spare) }
+    requires room { (jobs.items ≡ []) × (sessions ≤ jobs.spare) × (links.items ≡ [])
+        × (sessions ≤ links.spare) }
     ensures root { IsRoot pass.opening turn.now pass.base result.pass }
     ensures lent { result.pass.lent ≡ 0 }
     ensures up_to { AreUpTo (length result.links.items) result.pass }
     ensures failed { HasFailed (store_faults (map (λ b. b.report) result.links.items)) result.pass }
-    ensures links { (i : ℕ) (b : _) → get_elem? result.links.items i ≡ some b → IsJoined (option_map (λ o. opening_of (P.tables o.start) (P.limit o.start) o.fleet o.secret) pass.opening) pass.opening turn.now (L.pool listen.old).coming (length result.links.items - 1 - i) result.pass (wire_of L.Link.inbound L.Link.written L.Link.faults b.link) b.report }
+    ensures links { (i : ℕ) (b : _) → get_elem? result.links.items i ≡ some b →
+        IsJoined (option_map (λ o. opening_of (P.tables o.start) (P.limit o.start) o.fleet o.secret)
+        pass.opening)
+        pass.opening turn.now (L.pool listen.old).coming (length result.links.items - 1 - i)
+        result.pass (wire_of L.Link.inbound L.Link.written L.Link.faults b.link) b.report }
     ensures pool { L.pool listen.new ≡ lent_to (length result.links.items) (L.pool listen.old) }
     ensures count { Counts (L.faults listen.old) (L.faults listen.new) }
     ensures few { length result.links.items ≤ sessions }
-    ensures end { EndsAs result.end (length result.links.items) sessions (L.pool listen.new) (L.faults listen.old) (L.faults listen.new) }
+    ensures end { EndsAs result.end (length result.links.items) sessions (L.pool listen.new)
+        (L.faults listen.old) (L.faults listen.new) }
 {
     let held = Held { listen };
     let done = serve_all(rt, alloc, held, turn, pass, jobs, links, sessions);
@@ -243,10 +290,14 @@ fn room<T: Drop>(alloc: Global, count: u32) -> Result<Buffer<T>, Memory>
 fn give_back<L: Listen>(listen: &mut L, mut links: Vec<Back<L::Link>>, reports: &mut Buffer<Report>)
     requires lent { IfSome (L.pool listen.old).lent (λ lent. length links.items ≤ lent) }
     requires room { length links.items ≤ reports.old.spare }
-    ensures reports { reports.new.items ≡ reports.old.items ++ reverse (map (λ b. b.report) links.items) }
+    ensures reports { reports.new.items
+        ≡ reports.old.items ++ reverse (map (λ b. b.report) links.items) }
     ensures coming { (L.pool listen.new).coming ≡ (L.pool listen.old).coming }
-    ensures back { (L.pool listen.new).back ≡ option_map (λ back. back ++ map used_of (reverse (map (λ b. wire_of L.Link.inbound L.Link.written L.Link.faults b.link) links.items))) (L.pool listen.old).back }
-    ensures lent { (L.pool listen.new).lent ≡ option_map (λ lent. lent - length links.items) (L.pool listen.old).lent }
+    ensures back { (L.pool listen.new).back ≡ option_map (λ back. back ++ map used_of (reverse
+        (map (λ b. wire_of L.Link.inbound L.Link.written L.Link.faults b.link) links.items)))
+        (L.pool listen.old).back }
+    ensures lent { (L.pool listen.new).lent
+        ≡ option_map (λ lent. lent - length links.items) (L.pool listen.old).lent }
     ensures count { L.faults listen.new ≡ L.faults listen.old }
 {
     while let Some(back) = links.pop() {
@@ -274,17 +325,22 @@ where
     requires root { IsRoot pass.opening turn.now pass.base pass }
     requires fresh { (pass.given ≡ 0) × (pass.lent ≡ 0) × (pass.ended ≡ []) × (pass.failed ≡ 0) }
     requires reserved { IsSomeAnd pass.opening (λ o. sessions ≤ o.reserved) }
-    requires room { (jobs.items ≡ []) × (sessions ≤ jobs.spare) × (links.items ≡ []) × (sessions ≤ links.spare) }
+    requires room { (jobs.items ≡ []) × (sessions ≤ jobs.spare) × (links.items ≡ [])
+        × (sessions ≤ links.spare) }
     ensures root { IsRoot pass.opening turn.now pass.base result.pass }
     ensures lent { result.pass.lent ≡ 0 }
     ensures up_to { AreUpTo (length result.links.items) result.pass }
     ensures failed { HasFailed (store_faults (map (λ b. b.report) result.links.items)) result.pass }
-    ensures links { (i : ℕ) (b : _) → get_elem? result.links.items i ≡ some b → IsJoined (option_map (λ o. opening_of (P.tables o.start) (P.limit o.start) o.fleet o.secret) pass.opening) pass.opening turn.now (D.pool door).coming (length result.links.items - 1 - i) result.pass (wire_of D.Link.inbound D.Link.written D.Link.faults b.link) b.report }
+    ensures links { (i : ℕ) (b : _) → get_elem? result.links.items i ≡ some b →
+        IsJoined (option_map (λ o. opening_of (P.tables o.start) (P.limit o.start) o.fleet o.secret)
+        pass.opening) pass.opening turn.now (D.pool door).coming (length result.links.items - 1 - i)
+        result.pass (wire_of D.Link.inbound D.Link.written D.Link.faults b.link) b.report }
     ensures pool { D.pool result.door ≡ lent_to (length result.links.items) (D.pool door) }
     ensures name { D.name result.door ≡ D.name door }
     ensures count { Counts (D.faults door) (D.faults result.door) }
     ensures few { length result.links.items ≤ sessions }
-    ensures end { EndsAs result.end (length result.links.items) sessions (D.pool result.door) (D.faults door) (D.faults result.door) }
+    ensures end { EndsAs result.end (length result.links.items) sessions (D.pool result.door)
+        (D.faults door) (D.faults result.door) }
 {
     thread::scope(
         thread::scope_env(),
@@ -292,19 +348,27 @@ where
         move |scope| -> Done<D, P>
             requires sync { IsSync R.row }
             requires root { IsRoot pass.opening turn.now pass.base pass }
-            requires fresh { (pass.given ≡ 0) × (pass.lent ≡ 0) × (pass.ended ≡ []) × (pass.failed ≡ 0) }
+            requires fresh { (pass.given ≡ 0) × (pass.lent ≡ 0) × (pass.ended ≡ [])
+                × (pass.failed ≡ 0) }
             requires reserved { IsSomeAnd pass.opening (λ o. sessions ≤ o.reserved) }
-            requires room { (jobs.items ≡ []) × (sessions ≤ jobs.spare) × (links.items ≡ []) × (sessions ≤ links.spare) }
+            requires room { (jobs.items ≡ []) × (sessions ≤ jobs.spare) × (links.items ≡ [])
+                × (sessions ≤ links.spare) }
             ensures root { IsRoot pass.opening turn.entry.now pass.base result.pass }
             ensures lent { result.pass.lent ≡ 0 }
             ensures up_to { AreUpTo (length result.links.items) result.pass }
-            ensures failed { HasFailed (store_faults (map (λ b. b.report) result.links.items)) result.pass }
-            ensures links { (i : ℕ) (b : _) → get_elem? result.links.items i ≡ some b → IsJoined (option_map (λ o. opening_of (P.tables o.start) (P.limit o.start) o.fleet o.secret) pass.opening) pass.opening turn.entry.now (D.pool door).coming (length result.links.items - 1 - i) result.pass (wire_of D.Link.inbound D.Link.written D.Link.faults b.link) b.report }
+            ensures failed { HasFailed (store_faults (map (λ b. b.report) result.links.items))
+                result.pass }
+            ensures links { (i : ℕ) (b : _) → get_elem? result.links.items i ≡ some b →
+                IsJoined (option_map (λ o.
+                opening_of (P.tables o.start) (P.limit o.start) o.fleet o.secret) pass.opening)
+                pass.opening turn.entry.now (D.pool door).coming (length result.links.items - 1 - i)
+                result.pass (wire_of D.Link.inbound D.Link.written D.Link.faults b.link) b.report }
             ensures pool { D.pool result.door ≡ lent_to (length result.links.items) (D.pool door) }
             ensures name { D.name result.door ≡ D.name door }
             ensures count { Counts (D.faults door) (D.faults result.door) }
             ensures few { length result.links.items ≤ sessions }
-            ensures end { EndsAs result.end (length result.links.items) sessions (D.pool result.door) (D.faults door) (D.faults result.door) }
+            ensures end { EndsAs result.end (length result.links.items) sessions
+                (D.pool result.door) (D.faults door) (D.faults result.door) }
         {
             let mut door = door;
             let mut pass = pass;
@@ -346,19 +410,27 @@ fn accept_all<'s, E, R: Threads + Wait + Sync + 's, D: Door, P: Keeper + Send + 
 where
     D::Link: Send + 's,
     requires root { IsRoot pass.old.opening turn.now pass.old.base pass.old }
-    requires fresh { (pass.old.given ≡ 0) × (pass.old.lent ≡ 0) × (pass.old.ended ≡ []) × (pass.old.failed ≡ 0) }
+    requires fresh { (pass.old.given ≡ 0) × (pass.old.lent ≡ 0) × (pass.old.ended ≡ [])
+        × (pass.old.failed ≡ 0) }
     requires reserved { IsSomeAnd pass.old.opening (λ o. sessions ≤ o.reserved) }
     requires room { (jobs.old.items ≡ []) × (sessions ≤ jobs.old.spare) }
     ensures root { IsRoot pass.old.opening turn.now pass.old.base pass.new }
     ensures lent { pass.new.lent ≡ length jobs.new.items }
     ensures failed { pass.new.failed ≡ 0 }
     ensures up_to { AreUpTo 0 pass.new }
-    ensures jobs { (m : ℕ) (job : _) → get_elem? jobs.new.items m ≡ some job → MatchResult job (λ h. IsGiven pass.old.opening turn.now (D.pool door.old).coming m h.promise.pass.value (wire_of D.Link.inbound D.Link.written D.Link.faults h.promise.link.value)) (λ w. IsWorked (option_map (λ o. opening_of (P.tables o.start) (P.limit o.start) o.fleet o.secret) pass.old.opening) pass.old.opening turn.now (D.pool door.old).coming m w.pass (wire_of D.Link.inbound D.Link.written D.Link.faults w.link) w.report) }
+    ensures jobs { (m : ℕ) (job : _) → get_elem? jobs.new.items m ≡ some job → MatchResult job
+        (λ h. IsGiven pass.old.opening turn.now (D.pool door.old).coming m h.promise.pass.value
+        (wire_of D.Link.inbound D.Link.written D.Link.faults h.promise.link.value))
+        (λ w.
+        IsWorked (option_map (λ o. opening_of (P.tables o.start) (P.limit o.start) o.fleet o.secret)
+        pass.old.opening) pass.old.opening turn.now (D.pool door.old).coming m w.pass
+        (wire_of D.Link.inbound D.Link.written D.Link.faults w.link) w.report) }
     ensures pool { D.pool door.new ≡ lent_to (length jobs.new.items) (D.pool door.old) }
     ensures name { D.name door.new ≡ D.name door.old }
     ensures count { Counts (D.faults door.old) (D.faults door.new) }
     ensures few { length jobs.new.items ≤ sessions }
-    ensures end { EndsAs result (length jobs.new.items) sessions (D.pool door.new) (D.faults door.old) (D.faults door.new) }
+    ensures end { EndsAs result (length jobs.new.items) sessions (D.pool door.new)
+        (D.faults door.old) (D.faults door.new) }
 {
     let mut accepted = 0;
     while accepted < sessions {
@@ -405,7 +477,11 @@ fn start<
     requires turn { pass.turn ≡ turn.now }
     requires number { (1 ≤ pass.number) × IsSomeAnd pass.opening (λ o. pass.number ≤ o.reserved) }
     requires new { pass.mine ≡ [] }
-    ensures { MatchResult result (λ h. (h.promise.pass.value ≡ pass) × (h.promise.link.value ≡ link)) (λ w. Serves (option_map (λ o. opening_of (P.tables o.start) (P.limit o.start) o.fleet o.secret) pass.opening) (2 ^ 40) pass w.pass (wire_of K.inbound K.written K.faults link) (wire_of K.inbound K.written K.faults w.link) w.report × IsSamePass pass w.pass) }
+    ensures { MatchResult result
+        (λ h. (h.promise.pass.value ≡ pass) × (h.promise.link.value ≡ link)) (λ w.
+        Serves (option_map (λ o. opening_of (P.tables o.start) (P.limit o.start) o.fleet o.secret)
+        pass.opening) INPUT_LIMIT pass w.pass (wire_of K.inbound K.written K.faults link)
+        (wire_of K.inbound K.written K.faults w.link) w.report × IsSamePass pass w.pass) }
 {
     let given = Given {
         link: Snapshot::of(&link),
@@ -419,7 +495,15 @@ fn start<
 
 // What a thread brought back, once it has ended.
 fn finish<R: Threads, K: Link + Drop, P: Keeper>(rt: &R, job: Job<K, P>) -> Work<K, P>
-    ensures { (opening : Option (HubOpening P)) (of_turn : TurnId) (coming : Option (List Script)) (m : ℕ) → MatchResult job (λ h. IsGiven opening of_turn coming m h.promise.pass.value (wire_of K.inbound K.written K.faults h.promise.link.value)) (λ w. IsWorked (option_map (λ o. opening_of (P.tables o.start) (P.limit o.start) o.fleet o.secret) opening) opening of_turn coming m w.pass (wire_of K.inbound K.written K.faults w.link) w.report) → IsWorked (option_map (λ o. opening_of (P.tables o.start) (P.limit o.start) o.fleet o.secret) opening) opening of_turn coming m result.pass (wire_of K.inbound K.written K.faults result.link) result.report }
+    ensures { (opening : Option (HubOpening P)) (of_turn : TurnId) (coming : Option (List Script))
+        (m : ℕ) →
+        MatchResult job (λ h. IsGiven opening of_turn coming m h.promise.pass.value
+        (wire_of K.inbound K.written K.faults h.promise.link.value)) (λ w. IsWorked
+        (option_map (λ o. opening_of (P.tables o.start) (P.limit o.start) o.fleet o.secret) opening)
+        opening of_turn coming m w.pass (wire_of K.inbound K.written K.faults w.link) w.report) →
+        IsWorked (option_map (λ o. opening_of (P.tables o.start) (P.limit o.start) o.fleet o.secret)
+        opening) opening of_turn coming m result.pass
+        (wire_of K.inbound K.written K.faults result.link) result.report }
 {
     match job {
         Ok(handle) => handle.join(rt),
@@ -440,14 +524,24 @@ fn join_all<R: Threads, D: Door, P: Keeper>(
     requires lent { pass.old.lent ≡ length jobs.items }
     requires failed { pass.old.failed ≡ 0 }
     requires up_to { AreUpTo 0 pass.old }
-    requires jobs { (m : ℕ) (job : _) → get_elem? jobs.items m ≡ some job → MatchResult job (λ h. IsGiven pass.old.opening turn.now (D.pool before.value).coming m h.promise.pass.value (wire_of D.Link.inbound D.Link.written D.Link.faults h.promise.link.value)) (λ w. IsWorked (option_map (λ o. opening_of (P.tables o.start) (P.limit o.start) o.fleet o.secret) pass.old.opening) pass.old.opening turn.now (D.pool before.value).coming m w.pass (wire_of D.Link.inbound D.Link.written D.Link.faults w.link) w.report) }
+    requires jobs { (m : ℕ) (job : _) → get_elem? jobs.items m ≡ some job → MatchResult job
+        (λ h. IsGiven pass.old.opening turn.now (D.pool before.value).coming m h.promise.pass.value
+        (wire_of D.Link.inbound D.Link.written D.Link.faults h.promise.link.value))
+        (λ w.
+        IsWorked (option_map (λ o. opening_of (P.tables o.start) (P.limit o.start) o.fleet o.secret)
+        pass.old.opening) pass.old.opening turn.now (D.pool before.value).coming m w.pass
+        (wire_of D.Link.inbound D.Link.written D.Link.faults w.link) w.report) }
     requires room { (links.old.items ≡ []) × (length jobs.items ≤ links.old.spare) }
     ensures root { IsRoot pass.old.opening turn.now pass.old.base pass.new }
     ensures lent { pass.new.lent ≡ 0 }
     ensures as_many { length links.new.items ≡ length jobs.items }
     ensures up_to { AreUpTo (length links.new.items) pass.new }
     ensures failed { HasFailed (store_faults (map (λ b. b.report) links.new.items)) pass.new }
-    ensures links { (i : ℕ) (b : _) → get_elem? links.new.items i ≡ some b → IsJoined (option_map (λ o. opening_of (P.tables o.start) (P.limit o.start) o.fleet o.secret) pass.old.opening) pass.old.opening turn.now (D.pool before.value).coming (length links.new.items - 1 - i) pass.new (wire_of D.Link.inbound D.Link.written D.Link.faults b.link) b.report }
+    ensures links { (i : ℕ) (b : _) → get_elem? links.new.items i ≡ some b →
+        IsJoined (option_map (λ o. opening_of (P.tables o.start) (P.limit o.start) o.fleet o.secret)
+        pass.old.opening)
+        pass.old.opening turn.now (D.pool before.value).coming (length links.new.items - 1 - i)
+        pass.new (wire_of D.Link.inbound D.Link.written D.Link.faults b.link) b.report }
 {
     while let Some(job) = jobs.pop() {
         let Work {

@@ -1,6 +1,7 @@
 //! What a thread does: it serves one link.
 
 ghost use Rattle.std.specs.Prelude.{◌≡◌, ◌≤◌, ◌^◌, [], IsSomeAnd, option_map};
+ghost use Rattle.jt_value.specs.declared.limits.TheConstants.{INPUT_LIMIT};
 ghost use Rattle.jt_outside.specs.Link.{wire_of};
 ghost use Rattle.jt_platform.specs.Hub.{opening_of};
 ghost use Rattle.jt_session.specs.Hearing.{IsSamePass};
@@ -37,8 +38,9 @@ impl<K: Link, P: Keeper> Promise<Work<K, P>> for Given<K, P> {
     ghost use Rattle.jt_platform.specs.Hub.{opening_of};
     ghost use Rattle.jt_session.specs.Hearing.{IsSamePass};
     ghost use Rattle.jt_session.specs.Serving.{Serves};
+    ghost use Rattle.jt_value.specs.declared.limits.TheConstants.{INPUT_LIMIT};
 
-    ghost kept_by = { λ given work. Serves (option_map (λ o. opening_of (P.tables o.start) (P.limit o.start) o.fleet o.secret) given.pass.value.opening) (2 ^ 40) given.pass.value work.pass (wire_of K.inbound K.written K.faults given.link.value) (wire_of K.inbound K.written K.faults work.link) work.report × IsSamePass given.pass.value work.pass };
+    ghost kept_by = { λ given work. Serves (option_map (λ o. opening_of (P.tables o.start) (P.limit o.start) o.fleet o.secret) given.pass.value.opening) INPUT_LIMIT given.pass.value work.pass (wire_of K.inbound K.written K.faults given.link.value) (wire_of K.inbound K.written K.faults work.link) work.report × IsSamePass given.pass.value work.pass };
 }
 
 /// A thread that serves a link, or what the caller itself did in its place.
@@ -54,7 +56,10 @@ pub(crate) fn serve_one<R: Wait, K: Link, P: Keeper>(
     requires turn { pass.turn ≡ turn.now }
     requires number { (1 ≤ pass.number) × IsSomeAnd pass.opening (λ o. pass.number ≤ o.reserved) }
     requires new { pass.mine ≡ [] }
-    ensures serves { Serves (option_map (λ o. opening_of (P.tables o.start) (P.limit o.start) o.fleet o.secret) pass.opening) (2 ^ 40) pass result.pass (wire_of K.inbound K.written K.faults link) (wire_of K.inbound K.written K.faults result.link) result.report }
+    ensures serves { Serves (option_map (λ o.
+        opening_of (P.tables o.start) (P.limit o.start) o.fleet o.secret) pass.opening) INPUT_LIMIT
+        pass result.pass (wire_of K.inbound K.written K.faults link)
+        (wire_of K.inbound K.written K.faults result.link) result.report }
     ensures same { IsSamePass pass result.pass }
 {
     let (report, pass) = serve_link(rt, alloc, &mut link, turn, pass);

@@ -11,7 +11,7 @@ use Rattle.jt_layout.specs.Layout.{word}
 use Rattle.jt_layout.specs.Answer.{Answers}
 use Rattle.jt_codec.specs.Bodies.{body, body_octets}
 use Rattle.jt_codec.specs.Law.{AreOneToOne}
-use Rattle.jt_codec.specs.Parsing.{placed}
+use Rattle.jt_codec.specs.Parsing.{body_answer}
 use Rattle.jt_codec.specs.Resend.{count, resend}
 use Rattle.jt_codec.specs.declared.message.Message.{Message}
 use Rattle.jt_codec.specs.declared.message.Message.TheVariants as message
@@ -22,11 +22,11 @@ pub asked_read : AreOneToOne → (h : Header) (octets : List ℕ) (m : Message) 
 asked_read law h octets m q are fills is =
     ap Some is ∙ ap (request_read (h, octets)) (sym (((law h.edition h.id).reads_value octets m are).1 fills))
 
-unplaced_ok : (start : ℕ) (r : Result Message Refusal) (m : Message) → placed start r ≡ Ok m → r ≡ Ok m
+unplaced_ok : (start : ℕ) (r : Result Message Refusal) (m : Message) → body_answer start r ≡ Ok m → r ≡ Ok m
 unplaced_ok start (Ok x) m e = e
 unplaced_ok start (Err x) m e = absurd cc
 
-unplaced_err : (start : ℕ) (h : Header) (octets : List ℕ) (r : Result Message Refusal) (refusal : Refusal) → placed start r ≡ Err refusal → None ≡ request_read (h, octets) r
+unplaced_err : (start : ℕ) (h : Header) (octets : List ℕ) (r : Result Message Refusal) (refusal : Refusal) → body_answer start r ≡ Err refusal → None ≡ request_read (h, octets) r
 unplaced_err start h octets (Ok x) refusal e = absurd cc
 unplaced_err start h octets (Err x) refusal e = refl
 

@@ -6,7 +6,7 @@ use Rattle.jt_value.specs.declared.refusal.Refusal.{Refusal}
 use Rattle.jt_escape.specs.Scan.{State as Splitting}
 use Rattle.jt_header.specs.Fields.{header_at, body_at}
 use Rattle.jt_stream.specs.Item.{Item, Items}
-use Rattle.jt_stream.specs.Stream.{Gains, told}
+use Rattle.jt_stream.specs.Stream.{Gains, stream_items}
 use Rattle.jt_stream.specs.Unplaced.{items, unplaced, fault}
 use Rattle.jt_stream.specs.declared.stream.StreamItem.{StreamItem}
 use Rattle.jt_stream.specs.declared.stream.StreamItem.TheVariants as answer
@@ -31,26 +31,26 @@ brings some unplaced_are old new octets gained gains read are stands =
       gains.stands read stands,
     )
 
-pub came_nothing : HasItems → AreItems → (old new : Splitting) (octets : List ℕ) (item : StreamItem) (kept : State) (out : List ℕ) (spare : ℕ) → item ≡ answer.More → Gains old new octets (told item new) → OctetsCame old new octets kept kept out out spare Quiet
+pub came_nothing : HasItems → AreItems → (old new : Splitting) (octets : List ℕ) (item : StreamItem) (kept : State) (out : List ℕ) (spare : ℕ) → item ≡ answer.More → Gains old new octets (stream_items item new) → OctetsCame old new octets kept kept out out spare Quiet
 came_nothing some unplaced_are old new octets item kept out spare is gains =
-    inl (record { brings = brings some unplaced_are old new octets [] (subst (λ i. Gains old new octets (told i new)) is gains); state = refl; wrote = refl })
+    inl (record { brings = brings some unplaced_are old new octets [] (subst (λ i. Gains old new octets (stream_items i new)) is gains); state = refl; wrote = refl })
 
-pub came_refused : HasItems → AreItems → (old new : Splitting) (octets : List ℕ) (item : StreamItem) (refusal : Refusal) (kept kept_now : State) (out : List ℕ) (spare : ℕ) → item ≡ answer.Refused refusal → Gains old new octets (told item new)
+pub came_refused : HasItems → AreItems → (old new : Splitting) (octets : List ℕ) (item : StreamItem) (refusal : Refusal) (kept kept_now : State) (out : List ℕ) (spare : ℕ) → item ≡ answer.Refused refusal → Gains old new octets (stream_items item new)
     → kept_now ≡ record kept { refused = kept.refused + 1 } → OctetsCame old new octets kept kept_now out out spare Quiet
 came_refused some unplaced_are old new octets item refusal kept kept_now out spare is gains state =
     inr (
       fault refusal,
       record {
-        brings = brings some unplaced_are old new octets (told (answer.Refused refusal) new) (subst (λ i. Gains old new octets (told i new)) is gains);
+        brings = brings some unplaced_are old new octets (stream_items (answer.Refused refusal) new) (subst (λ i. Gains old new octets (stream_items i new)) is gains);
         answered = record { none = refl; state = state; wrote = sym (append-nil out) };
       },
     )
 
-pub came_frame : HasItems → AreItems → (old new : Splitting) (octets : List ℕ) (item : StreamItem) (kept kept_now : State) (out out_now : List ℕ) (spare : ℕ) (came : Came) → item ≡ answer.Frame → Gains old new octets (told item new)
+pub came_frame : HasItems → AreItems → (old new : Splitting) (octets : List ℕ) (item : StreamItem) (kept kept_now : State) (out out_now : List ℕ) (spare : ℕ) (came : Came) → item ≡ answer.Frame → Gains old new octets (stream_items item new)
     → FrameCame kept kept_now (header_at new.content) (body_at new.content) out out_now spare came → OctetsCame old new octets kept kept_now out out_now spare came
 came_frame some unplaced_are old new octets item kept kept_now out out_now spare Quiet is gains came =
-    inr (message_at new.content, record { brings = brings some unplaced_are old new octets (told answer.Frame new) (subst (λ i. Gains old new octets (told i new)) is gains); answered = came })
+    inr (message_at new.content, record { brings = brings some unplaced_are old new octets (stream_items answer.Frame new) (subst (λ i. Gains old new octets (stream_items i new)) is gains); answered = came })
 came_frame some unplaced_are old new octets item kept kept_now out out_now spare (Asks header q) is gains came =
-    (brings some unplaced_are old new octets (told answer.Frame new) (subst (λ i. Gains old new octets (told i new)) is gains), came)
+    (brings some unplaced_are old new octets (stream_items answer.Frame new) (subst (λ i. Gains old new octets (stream_items i new)) is gains), came)
 came_frame some unplaced_are old new octets item kept kept_now out out_now spare Memory is gains came =
-    (brings some unplaced_are old new octets (told answer.Frame new) (subst (λ i. Gains old new octets (told i new)) is gains), came)
+    (brings some unplaced_are old new octets (stream_items answer.Frame new) (subst (λ i. Gains old new octets (stream_items i new)) is gains), came)

@@ -26,7 +26,7 @@ use Rattle.jt_session.specs.declared.end.Fed.{Fed}
 use Rattle.jt_session.specs.declared.end.Fed.TheVariants.{On, Stop}
 use Rattle.jt_session.specs.declared.report.Report.{Report}
 use Rattle.jt_session.specs.Talk.{Way, Goes, Stops, Turn, Talked, FitsFrom, IsReplied, asks, at_state, items_of, start, talk_from, turn_on}
-use Rattle.jt_session.specs.Sessions.{Seen, before, end_by, end_of, fed_by}
+use Rattle.jt_session.specs.Sessions.{Seen, before, end_by, end_of, feed_end}
 use Rattle.jt_session.specs.Sessions as sessions
 use Rattle.jt_session.specs.TurnLaw.{IsNew}
 use Rattle.jt_session.specs.Hearing.{IsFilled, acts_on, last_asked}
@@ -85,7 +85,7 @@ unclosed (e ∷ found) n are =
 
 -- ---- Fenced exactly where the newest entry is so answered
 
-fed_fenced : (r : Reply) (n : ℕ) → fed_by r ≡ Stop (ends.Fenced n) → r ≡ say.Fenced n
+fed_fenced : (r : Reply) (n : ℕ) → feed_end r ≡ Stop (ends.Fenced n) → r ≡ say.Fenced n
 fed_fenced (say.Registered code) n e = absurd cc
 fed_fenced (say.Denied m) n e = absurd cc
 fed_fenced say.Accepted n e = absurd cc
@@ -133,7 +133,7 @@ newest_way k item None (Goes (Some r)) n replied never e = absurd replied
 newest_way k item None (Stops None) n replied never e = absurd (never e)
 newest_way k item None (Stops (Some r)) n replied never e = absurd replied
 newest_way k item (Some q) (Goes None) n replied never e = absurd replied
-newest_way k item (Some q) (Goes (Some r)) n replied never e = ap fed_by (some_in r (say.Fenced n) e)
+newest_way k item (Some q) (Goes (Some r)) n replied never e = ap feed_end (some_in r (say.Fenced n) e)
 newest_way k item (Some q) (Stops None) n replied never e = absurd (never e)
 newest_way k item (Some q) (Stops (Some r)) n replied never e = absurd (never e)
 

@@ -11,7 +11,7 @@ use Rattle.jt_session.specs.declared.end.End.TheVariants as ends
 use Rattle.jt_session.specs.declared.end.Fed.TheVariants.{On, Stop}
 use Rattle.jt_session.specs.Law.{ran_short}
 use Rattle.jt_session.specs.Talk.{Way, Goes, Stops, Turn, Talked, FitsFrom, IsReplied, asks, is_fenced, talk_from, turn_on}
-use Rattle.jt_session.specs.Sessions.{AreUnasked, Seen, before, end_by, end_of, ended_short, entries_on, fed_by, is_unasked, turn_by}
+use Rattle.jt_session.specs.Sessions.{AreUnasked, Seen, before, end_by, end_of, ended_short, entries_on, feed_end, is_unasked, turn_by}
 use Rattle.jt_session.specs.Waiting.{ends_by}
 
 -- turns without replies make no entries
@@ -43,7 +43,7 @@ entry_by true k item q r n h none = ap (λ e. record { session = n; request = q;
 entry_by false k item q r n h none = ap (λ e. entries_on n e ++ h) (sym none)
 
 -- the session goes on by a reply exactly where it is not over by it
-pub on_by : (r : Reply) → (fed_by r ≡ On) ↔ (ends_by r ≡ false)
+pub on_by : (r : Reply) → (feed_end r ≡ On) ↔ (ends_by r ≡ false)
 on_by (say.Registered code) = (λ e. refl, λ e. refl)
 on_by (say.Denied n) = (λ e. refl, λ e. refl)
 on_by say.Accepted = (λ e. refl, λ e. refl)
@@ -56,12 +56,12 @@ on_by (say.ListFull l) = (λ e. absurd cc, λ e. absurd (false≢true (sym e)))
 on_by say.StoreFault = (λ e. absurd cc, λ e. absurd (false≢true (sym e)))
 on_by say.Memory = (λ e. absurd cc, λ e. absurd (false≢true (sym e)))
 
-fenced_on : (r : Reply) → makes_entry r ≡ true → (is_fenced r ≡ false) ↔ (fed_by r ≡ On)
+fenced_on : (r : Reply) → makes_entry r ≡ true → (is_fenced r ≡ false) ↔ (feed_end r ≡ On)
 fenced_on r entry =
     let same : ends_by r ≡ is_fenced r = ap (λ b. if b then is_fenced r else true) entry in
     (λ e. (on_by r).1 (same ∙ e), λ e. sym same ∙ (on_by r).0 e)
 
-lost_on : (r : Reply) → makes_entry r ≡ false → (true ≡ false) ↔ (fed_by r ≡ On)
+lost_on : (r : Reply) → makes_entry r ≡ false → (true ≡ false) ↔ (feed_end r ≡ On)
 lost_on r none =
     let same : ends_by r ≡ true = ap (λ b. if b then is_fenced r else true) none in
     (λ e. absurd (false≢true (sym e)), λ e. sym same ∙ (on_by r).0 e)

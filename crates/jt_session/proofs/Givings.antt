@@ -8,7 +8,7 @@ use mathlib.Core.Logic.{dite}
 use native.Mathlib.Decide.{ℕ_discrete}
 use Rattle.jt_value.specs.Sameness.{key_of}
 use Rattle.jt_value.specs.declared.phone.Phone.{Phone}
-use Rattle.jt_store.specs.Tables.{Tables, Told}
+use Rattle.jt_store.specs.Tables.{Tables, WhereKnown}
 use Rattle.jt_value.specs.Counts.{Rose}
 use Rattle.jt_turn.specs.declared.entry.Entry.{Entry as Turned}
 use Rattle.jt_turn.specs.Histories.{entry_if}
@@ -27,7 +27,7 @@ use Rattle.jt_session.proofs.Hubs.{reply_room}
 
 -- ---- a unit at which the phone had as many rows as it may have
 
-told_map : (now : Option Tables) (P Q : Tables → Type 0) → ((t : Tables) → P t → Q t) → Told now P → Told now Q
+told_map : (now : Option Tables) (P Q : Tables → Type 0) → ((t : Tables) → P t → Q t) → WhereKnown now P → WhereKnown now Q
 told_map None P Q f told = tt
 told_map (Some t) P Q f told = f t told
 

@@ -16,7 +16,7 @@ use Rattle.jt_session.specs.declared.end.End.TheVariants as ends
 use Rattle.jt_session.specs.declared.end.Fed.{Fed}
 use Rattle.jt_session.specs.declared.end.Fed.TheVariants.{On, Stop}
 use Rattle.jt_session.specs.Talk.{Turn, Talked, asks, talk_from}
-use Rattle.jt_session.specs.Sessions.{Seen, Takes, IsRepliedTo, before, end_of, fed_by, turn_by}
+use Rattle.jt_session.specs.Sessions.{Seen, TakesUnasked, IsRepliedTo, before, end_of, feed_end, turn_by}
 use Rattle.jt_session.specs.Hearing.{Hears, FailedMore, IsFilled, IsSamePass, acts_on, last_asked}
 use Rattle.jt_session.proofs.Ending.{reply_gains, unasked_entries}
 use Rattle.jt_session.proofs.Hubs.{on_end, short_end, end_way, waits_for}
@@ -33,7 +33,7 @@ acts_by false n q r = refl
 
 -- ---- how a reply ends a session
 
-fed_store : (r : Reply) → fed_by r ≡ Stop ends.StoreFault → r ≡ say.StoreFault
+fed_store : (r : Reply) → feed_end r ≡ Stop ends.StoreFault → r ≡ say.StoreFault
 fed_store (say.Registered code) e = absurd cc
 fed_store (say.Denied n) e = absurd cc
 fed_store say.Accepted e = absurd cc
@@ -54,7 +54,7 @@ end_in : Fed → End
 end_in On = ends.Ended
 end_in (Stop end) = end
 
-fed_full : (r : Reply) (l : ℕ) → fed_by r ≡ Stop (ends.ListFull l) → r ≡ say.ListFull l
+fed_full : (r : Reply) (l : ℕ) → feed_end r ≡ Stop (ends.ListFull l) → r ≡ say.ListFull l
 fed_full (say.Registered code) l e = absurd cc
 fed_full (say.Denied n) l e = absurd cc
 fed_full say.Accepted l e = absurd cc
@@ -80,7 +80,7 @@ no_full_short : (l : ℕ) (P : Type 0) → Stop ends.Memory ≡ Stop (ends.ListF
 no_full_short l P e = absurd cc
 
 module _ {O : Type 0} where
-  pub hears_on : (o : Option Opening) (s now : Seen) (octets out out_now : List ℕ) (pass : PassState Request Reply O) → Takes s now octets out out_now → now.over ≡ false → Hears o s now octets pass pass out out_now On
+  pub hears_on : (o : Option Opening) (s now : Seen) (octets out out_now : List ℕ) (pass : PassState Request Reply O) → TakesUnasked s now octets out out_now → now.over ≡ false → Hears o s now octets pass pass out out_now On
   hears_on o s now octets out out_now pass took on = record {
     turns = took.turns;
     went = took.went;
@@ -93,7 +93,7 @@ module _ {O : Type 0} where
     full = λ l e. no_full l (IfSome o (λ o. IsFilled o pass.seen (last_asked (before s) took.turns) l)) e;
   }
 
-  pub hears_short : (o : Option Opening) (s now : Seen) (octets out out_now : List ℕ) (pass : PassState Request Reply O) → Takes s now octets out out_now → s.over ≡ false → now.over ≡ true → Hears o s now octets pass pass out out_now (Stop ends.Memory)
+  pub hears_short : (o : Option Opening) (s now : Seen) (octets out out_now : List ℕ) (pass : PassState Request Reply O) → TakesUnasked s now octets out out_now → s.over ≡ false → now.over ≡ true → Hears o s now octets pass pass out out_now (Stop ends.Memory)
   hears_short o s now octets out out_now pass took on over = record {
     turns = took.turns;
     went = took.went;
@@ -109,7 +109,7 @@ module _ {O : Type 0} where
   -- a request was replied to
   pub hears_reply : (o : Option Opening) (s now : Seen) (out out_now : List ℕ) (item : Unplaced) (q : Request) (r : Reply) (pass pass_now : PassState Request Reply O) → IsRepliedTo s now r out out_now item → asks s.state item ≡ Some q
       → pass_now.mine ≡ pass.mine ++ entry_if (makes_entry r) pass.number q r → pass.failed ≤ pass_now.failed → pass.faults ≤ pass_now.faults → (r ≡ say.StoreFault → FailedMore pass pass_now)
-      → ((l : ℕ) → r ≡ say.ListFull l → IfSome o (λ o. IsFilled o pass_now.seen (Some q) l)) → Hears o s now [] pass pass_now out out_now (fed_by r)
+      → ((l : ℕ) → r ≡ say.ListFull l → IfSome o (λ o. IsFilled o pass_now.seen (Some q) l)) → Hears o s now [] pass pass_now out out_now (feed_end r)
   hears_reply o s now out out_now item q r pass pass_now did asked mine failed faults fault full = record {
     turns = turn_by r item ∷ [];
     went = did.turn;
@@ -125,7 +125,7 @@ module _ {O : Type 0} where
   -- the request that waits was
   pub hears_asked : (o : Option Opening) (s now : Seen) (out out_now : List ℕ) (q : Request) (r : Reply) (fed : Fed) (pass pass_now : PassState Request Reply O) → IsSomeAnd s.waiting (λ item. asks s.state item ≡ Some q) → IfSome s.waiting (IsRepliedTo s now r out out_now)
       → pass_now.mine ≡ pass.mine ++ entry_if (makes_entry r) pass.number q r → pass.failed ≤ pass_now.failed → pass.faults ≤ pass_now.faults → (r ≡ say.StoreFault → FailedMore pass pass_now)
-      → ((l : ℕ) → r ≡ say.ListFull l → IfSome o (λ o. IsFilled o pass_now.seen (Some q) l)) → fed ≡ fed_by r → Hears o s now [] pass pass_now out out_now fed
+      → ((l : ℕ) → r ≡ say.ListFull l → IfSome o (λ o. IsFilled o pass_now.seen (Some q) l)) → fed ≡ feed_end r → Hears o s now [] pass pass_now out out_now fed
   hears_asked o s now out out_now q r fed pass pass_now waits did mine failed faults fault full is =
       let item = waits_for s.waiting (λ item. asks s.state item ≡ Some q) waits in
       subst (λ f. Hears o s now [] pass pass_now out out_now f) (sym is)

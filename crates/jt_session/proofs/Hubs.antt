@@ -32,7 +32,7 @@ use Rattle.jt_session.specs.declared.end.Fed.{Fed}
 use Rattle.jt_session.specs.declared.end.Fed.TheVariants.{On, Stop}
 use Rattle.jt_session.specs.Replies.{HasRoomFor}
 use Rattle.jt_session.specs.Talk.{State, Way, Goes, Stops, Turn, Talked, turn_on, talk_from, asks, asked_by, is_own, message_of, request_of, request_read, FitsFrom}
-use Rattle.jt_session.specs.Sessions.{Seen, LedTo, Takes, Feeds, HasFedReason, IsRepliedTo, AreUnasked, is_unasked, before, end_by, end_of, entries_on, fed_by, turn_by, MayGo, MayTurn}
+use Rattle.jt_session.specs.Sessions.{Seen, LedTo, TakesUnasked, Feeds, HasFedReason, IsRepliedTo, AreUnasked, is_unasked, before, end_by, end_of, entries_on, feed_end, turn_by, MayGo, MayTurn}
 use Rattle.jt_session.proofs.Ending.{entry_by, unasked_entries}
 use Rattle.jt_session.proofs.Joining.{feeds_both, stops_over}
 use Rattle.jt_session.proofs.Onward.{FrontFirst, turns_beyond}
@@ -79,7 +79,7 @@ pub short_end : (k : Talked) (turns : List Turn) → FitsFrom k turns → AreUna
 short_end k [] fits are on over = absurd (false≢true (sym on ∙ over))
 short_end k (t ∷ older) fits are on over = way_short (talk_from k older) t.item (asks (talk_from k older).state t.item) t.way are.0 fits.0 over
 
-pub feeds_on : (s now : Seen) (octets : List ℕ) (o : Opening) (h : List Entry) (out out_now : List ℕ) → Takes s now octets out out_now → now.over ≡ false → Feeds s now octets o h h out out_now On
+pub feeds_on : (s now : Seen) (octets : List ℕ) (o : Opening) (h : List Entry) (out out_now : List ℕ) → TakesUnasked s now octets out out_now → now.over ≡ false → Feeds s now octets o h h out out_now On
 feeds_on s now octets o h out out_now took on = record {
   turns = took.turns;
   went = took.went;
@@ -89,7 +89,7 @@ feeds_on s now octets o h out out_now took on = record {
   ended = on_end (before s) took.turns took.unasked (sym took.went.over ∙ on);
 }
 
-pub feeds_short : (s now : Seen) (octets : List ℕ) (o : Opening) (h : List Entry) (out out_now : List ℕ) → Takes s now octets out out_now → s.over ≡ false → now.over ≡ true → Feeds s now octets o h h out out_now (Stop ends.Memory)
+pub feeds_short : (s now : Seen) (octets : List ℕ) (o : Opening) (h : List Entry) (out out_now : List ℕ) → TakesUnasked s now octets out out_now → s.over ≡ false → now.over ≡ true → Feeds s now octets o h h out out_now (Stop ends.Memory)
 feeds_short s now octets o h out out_now took on over = record {
   turns = took.turns;
   went = took.went;
@@ -118,7 +118,7 @@ may_by : (b : Bool) (o : Opening) (h : List Entry) (n : ℕ) (q : Request) (r : 
 may_by true o h n q r e allowed = allowed (not_trouble r e)
 may_by false o h n q r e allowed = allowed
 
-pub end_way : (b : Bool) (r : Reply) → fed_by r ≡ end_by (if b then Goes (Some r) else Stops (Some r))
+pub end_way : (b : Bool) (r : Reply) → feed_end r ≡ end_by (if b then Goes (Some r) else Stops (Some r))
 end_way true r = refl
 end_way false r = refl
 
@@ -127,7 +127,7 @@ newest_by true h e = reverse-append h (e ∷ [])
 newest_by false h e = refl
 
 pub feeds_reply : (s now : Seen) (o : Opening) (h h_now : List Entry) (out out_now : List ℕ) (item : Unplaced) (q : Request) (r : Reply) → IsRepliedTo s now r out out_now item → asks s.state item ≡ Some q → (is_trouble r ≡ false → Allowed o (newest h) s.number q r) → h_now ≡ history_by s.number q r h
-    → Feeds s now [] o (newest h) (newest h_now) out out_now (fed_by r)
+    → Feeds s now [] o (newest h) (newest h_now) out out_now (feed_end r)
 feeds_reply s now o h h_now out out_now item q r did asked allowed history = record {
   turns = turn_by r item ∷ [];
   went = did.turn;
@@ -237,7 +237,7 @@ waits_for None P waits = absurd waits
 waits_for (Some item) P waits = (item, refl, waits)
 
 pub ask_feeds : (s now : Seen) (o : Opening) (h h_now : List Entry) (out out_now : List ℕ) (n : ℕ) (q : Request) (r : Reply) (fed : Fed) → IsSomeAnd s.waiting (λ item. asks s.state item ≡ Some q) → IfSome s.waiting (IsRepliedTo s now r out out_now) → n ≡ s.number
-    → (is_trouble r ≡ false → Allowed o (newest h) n q r) → h_now ≡ history_by n q r h → fed ≡ fed_by r → Feeds s now [] o (newest h) (newest h_now) out out_now fed
+    → (is_trouble r ≡ false → Allowed o (newest h) n q r) → h_now ≡ history_by n q r h → fed ≡ feed_end r → Feeds s now [] o (newest h) (newest h_now) out out_now fed
 ask_feeds s now o h h_now out out_now n q r fed waits did same allowed history is =
     let item = waits_for s.waiting (λ item. asks s.state item ≡ Some q) waits in
     subst (λ f. Feeds s now [] o (newest h) (newest h_now) out out_now f) (sym is)

@@ -12,7 +12,7 @@ use Rattle.jt_platform.specs.declared.request.Request.{Request}
 use Rattle.jt_platform.specs.declared.request.Reply.{Reply}
 use Rattle.jt_value.proofs.OctetLists.{AreOctets-append}
 use Rattle.jt_session.specs.Law.{ran_short}
-use Rattle.jt_session.specs.Talk.{Way, Goes, Stops, Turn, Talked, Turned, turn_on, turned, talk_from, quiet, told, asks, frame_said, is_fenced, IsReplied, FitsFrom, items_of}
+use Rattle.jt_session.specs.Talk.{Way, Goes, Stops, Turn, Talked, Turned, turn_on, talk_after_turn, talk_from, turn_without_request, turn_at_reply, asks, frame_said, is_fenced, IsReplied, FitsFrom, items_of}
 use Rattle.jt_session.specs.declared.end.Fed.{Fed}
 use Rattle.jt_session.specs.declared.end.Fed.TheVariants.{On}
 use Rattle.jt_session.specs.Sessions.{Seen, Turns, before, counts, ended_short, entries_on, MayGo, MayTurn, Feeds, end_of}
@@ -21,20 +21,20 @@ use Rattle.jt_session.specs.Sessions.{Seen, Turns, before, counts, ended_short, 
 abbrev pub onto : Talked → Talked → Talked
 onto k j = record j { entries = j.entries ++ k.entries; written = k.written ++ j.written }
 
-turned_onto : (k j : Talked) (t : Turned) (gained : List (Request × Reply)) (over : Bool) → turned (onto k j) t gained over ≡ onto k (turned j t gained over)
+turned_onto : (k j : Talked) (t : Turned) (gained : List (Request × Reply)) (over : Bool) → talk_after_turn (onto k j) t gained over ≡ onto k (talk_after_turn j t gained over)
 turned_onto k j t gained over =
     ap (λ w. record { state = t.state; entries = gained ++ (j.entries ++ k.entries); written = w; over = over }) (append_assoc k.written j.written (frame_said t.says))
     ∙ ap (λ e. record { state = t.state; entries = e; written = k.written ++ (j.written ++ frame_said t.says); over = over }) (sym (append_assoc gained j.entries k.entries))
 
 turn_onto : (k j : Talked) (item : Unplaced) (asked : Option Request) (way : Way) → turn_on (onto k j) item asked way ≡ onto k (turn_on j item asked way)
-turn_onto k j item None (Goes None) = turned_onto k j (quiet j.state item) [] false
+turn_onto k j item None (Goes None) = turned_onto k j (turn_without_request j.state item) [] false
 turn_onto k j item None (Goes (Some r)) = refl
 turn_onto k j item None (Stops None) = refl
 turn_onto k j item None (Stops (Some r)) = refl
 turn_onto k j item (Some q) (Goes None) = refl
-turn_onto k j item (Some q) (Goes (Some r)) = turned_onto k j (told j.state item r) ((q, r) ∷ []) (is_fenced r)
+turn_onto k j item (Some q) (Goes (Some r)) = turned_onto k j (turn_at_reply j.state item r) ((q, r) ∷ []) (is_fenced r)
 turn_onto k j item (Some q) (Stops None) = refl
-turn_onto k j item (Some q) (Stops (Some r)) = turned_onto k j (told j.state item r) [] true
+turn_onto k j item (Some q) (Stops (Some r)) = turned_onto k j (turn_at_reply j.state item r) [] true
 
 talk_onto : (k j : Talked) (turns : List Turn) → talk_from (onto k j) turns ≡ onto k (talk_from j turns)
 talk_onto k j [] = refl

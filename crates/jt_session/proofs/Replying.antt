@@ -9,7 +9,7 @@ use Rattle.jt_stream.specs.Unplaced.{Unplaced, Message, items}
 use Rattle.jt_platform.specs.Allowed.{makes_entry}
 use Rattle.jt_platform.specs.declared.request.Request.{Request}
 use Rattle.jt_platform.specs.declared.request.Reply.{Reply}
-use Rattle.jt_session.specs.Talk.{State, Goes, Stops, Talked, turn_on, told, answers, saying, answer_to, asks, message_of, reads_on, frame_said, is_fenced, IsReplied}
+use Rattle.jt_session.specs.Talk.{State, Goes, Stops, Talked, turn_on, turn_at_reply, answers, saying, answer_to, asks, message_of, reads_on, frame_said, is_fenced, IsReplied}
 use Rattle.jt_session.specs.Sessions.{Seen, IsRepliedTo, turn_by, before}
 use Rattle.jt_header.specs.Fields.{header_at, body_at}
 use Rattle.jt_session.specs.Waiting.{AsksFor, Waits, ends_by, state_of, waiting_of}
@@ -26,11 +26,11 @@ said_of s (Some m) header r e =
     ap (λ h. saying s h (answer_to h r)) same
 
 -- a reply's turn, by whether it makes an entry
-turn_state : (b : Bool) (k : Talked) (item : Unplaced) (q : Request) (r : Reply) → (turn_on k item (Some q) (if b then Goes (Some r) else Stops (Some r))).state ≡ (told k.state item r).state
+turn_state : (b : Bool) (k : Talked) (item : Unplaced) (q : Request) (r : Reply) → (turn_on k item (Some q) (if b then Goes (Some r) else Stops (Some r))).state ≡ (turn_at_reply k.state item r).state
 turn_state true k item q r = refl
 turn_state false k item q r = refl
 
-turn_written : (b : Bool) (k : Talked) (item : Unplaced) (q : Request) (r : Reply) → (turn_on k item (Some q) (if b then Goes (Some r) else Stops (Some r))).written ≡ k.written ++ frame_said (told k.state item r).says
+turn_written : (b : Bool) (k : Talked) (item : Unplaced) (q : Request) (r : Reply) → (turn_on k item (Some q) (if b then Goes (Some r) else Stops (Some r))).written ≡ k.written ++ frame_said (turn_at_reply k.state item r).says
 turn_written true k item q r = refl
 turn_written false k item q r = refl
 
@@ -50,7 +50,7 @@ module _ (number : ℕ) (stream : Splitting) (kept was : State) (header h : Head
   abbrev now_seen : Seen
   now_seen = record { number = number; stream = stream; state = kept_now; waiting = None; over = ends_by r }
 
-  told_is : told was (Message h octets) r ≡ saying kept header (answer_to header r)
+  told_is : turn_at_reply was (Message h octets) r ≡ saying kept header (answer_to header r)
   told_is = said_of (reads_on was h octets h.packet) (message_of was h octets h.packet) header r waits.message ∙ ap (λ k. saying k header (answer_to header r)) (sym waits.kept_is)
 
   replied_to : IsRepliedTo then_seen now_seen r out out_now (Message h octets)

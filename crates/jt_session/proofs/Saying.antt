@@ -21,7 +21,7 @@ use Rattle.jt_codec.specs.Law.{AckOctets}
 use Rattle.jt_codec.specs.Resend.{count}
 use Rattle.jt_codec.specs.declared.message.Message.{Message}
 use Rattle.jt_codec.specs.declared.message.Message.TheVariants as message
-use Rattle.jt_subpacket.specs.Fates.{Taken, begins, taken_by, taken_by_fields, taken_as, taken_in, unfinished, told as told_fate}
+use Rattle.jt_subpacket.specs.Fates.{Taken, begins, taken_by, taken_by_fields, taken_as, taken_in, unfinished, packet_fate as told_fate}
 use Rattle.jt_subpacket.specs.Partials.{Partial, Pieces, key_of as part_key, kept_of, missing, numbers, with_piece}
 use Rattle.jt_subpacket.specs.declared.key.PartKey.{PartKey}
 use Rattle.jt_subpacket.specs.declared.taken.Fate.{Fate}
@@ -33,7 +33,7 @@ use Rattle.jt_platform.specs.declared.request.Request.TheVariants as ask
 use Rattle.jt_platform.specs.declared.request.Reply.{Reply}
 use Rattle.jt_platform.specs.declared.request.Reply.TheVariants as say
 use Rattle.jt_session.specs.Replies.{HasRoomFor}
-use Rattle.jt_session.specs.Talk.{State, Turned, accepted_result, ack, answer_to, answers, answers_packet, first_phone, header_to, is_answer, is_own, is_wide, message_of, message_to, quiet, quiet_own, reads_on, refuses, saying, told, whole_of}
+use Rattle.jt_session.specs.Talk.{State, Turned, accepted_result, ack, answer_to, answers, answers_packet, first_phone, header_to, is_answer, is_own, is_wide, message_of, message_to, turn_without_request, own_turn_without_request, reads_on, refuses, saying, turn_at_reply, whole_of}
 use Rattle.jt_session.specs.Talk as talk
 use Rattle.jt_session.specs.Law.{IsUnitId, is_stored}
 use Rattle.jt_session.specs.AnswerLaw.{IsOf, IsStateOf, IsAnswer, SaysNoSuccess, AnswersAre}
@@ -64,7 +64,7 @@ packet_stays key s h (Resend first numbers) of = saying_stays key s h (Some (mes
 packet_stays key s h Repeat of = of
 packet_stays key s h Kept of = of
 
-own_stays : (s : State) (h : Header) (octets : List ℕ) (packet : Option Packet) → IsStateOf (key_of h.phone) s → IsStateOf (key_of h.phone) (quiet_own s h octets packet).state
+own_stays : (s : State) (h : Header) (octets : List ℕ) (packet : Option Packet) → IsStateOf (key_of h.phone) s → IsStateOf (key_of h.phone) (own_turn_without_request s h octets packet).state
 own_stays s h octets None of = refuses_stays (key_of h.phone) (reads_on s h octets None) h (reads_stays s h octets None of)
 own_stays s h octets (Some packet) of = packet_stays (key_of h.phone) (reads_on s h octets (Some packet)) h (taken_by s.partial h octets).fate (reads_stays s h octets (Some packet) of)
 
@@ -72,16 +72,16 @@ either_stays : (key : List ℕ) (b : Bool) (x y : Turned) → IsStateOf key x.st
 either_stays key true x y of of_too = of
 either_stays key false x y of of_too = of_too
 
-stays_quiet : (s : State) (h : Header) (octets : List ℕ) → IsStateOf (key_of h.phone) s → IsStateOf (key_of h.phone) (quiet s (Frame h octets)).state
+stays_quiet : (s : State) (h : Header) (octets : List ℕ) → IsStateOf (key_of h.phone) s → IsStateOf (key_of h.phone) (turn_without_request s (Frame h octets)).state
 stays_quiet s h octets of =
-    either_stays (key_of h.phone) (is_own s.phone h.phone) (quiet_own s h octets h.packet) (saying (record s { frames = s.frames + 1 }) h (Some (ack h 1)))
+    either_stays (key_of h.phone) (is_own s.phone h.phone) (own_turn_without_request s h octets h.packet) (saying (record s { frames = s.frames + 1 }) h (Some (ack h 1)))
     (own_stays s h octets h.packet of) (saying_stays (key_of h.phone) (record s { frames = s.frames + 1 }) h (Some (ack h 1)) (record { phone = of.phone; serial = of.serial }))
 
 answers_stays : (key : List ℕ) (s : State) (m : Option (Header × List ℕ)) (r : Reply) → IsStateOf key s → IsStateOf key (answers s m r).state
 answers_stays key s None r of = of
 answers_stays key s (Some m) r of = saying_stays key s m.0 (answer_to m.0 r) of
 
-stays_told : (s : State) (h : Header) (octets : List ℕ) (r : Reply) → IsStateOf (key_of h.phone) s → IsStateOf (key_of h.phone) (told s (Frame h octets) r).state
+stays_told : (s : State) (h : Header) (octets : List ℕ) (r : Reply) → IsStateOf (key_of h.phone) s → IsStateOf (key_of h.phone) (turn_at_reply s (Frame h octets) r).state
 stays_told s h octets r of = answers_stays (key_of h.phone) (reads_on s h octets h.packet) (message_of s h octets h.packet) r (reads_stays s h octets h.packet of)
 
 -- ---- lengths
@@ -226,14 +226,14 @@ packet_none s h (Resend first lacking) = (s, h, message.Resend (record { first =
 packet_none s h Repeat = tt
 packet_none s h Kept = tt
 
-own_none : (s : State) (h : Header) (octets : List ℕ) (packet : Option Packet) → IfSome (quiet_own s h octets packet).says SaysNoSuccess
+own_none : (s : State) (h : Header) (octets : List ℕ) (packet : Option Packet) → IfSome (own_turn_without_request s h octets packet).says SaysNoSuccess
 own_none s h octets None = refuses_none (reads_on s h octets None) h
 own_none s h octets (Some packet) = packet_none (reads_on s h octets (Some packet)) h (taken_by s.partial h octets).fate
 
-no_success : (s : State) (item : Unplaced) → IfSome (quiet s item).says SaysNoSuccess
+no_success : (s : State) (item : Unplaced) → IfSome (turn_without_request s item).says SaysNoSuccess
 no_success s (Fault place why) = tt
 no_success s (Frame h octets) =
-    either_says SaysNoSuccess (is_own s.phone h.phone) (quiet_own s h octets h.packet) (saying (record s { frames = s.frames + 1 }) h (Some (ack h 1)))
+    either_says SaysNoSuccess (is_own s.phone h.phone) (own_turn_without_request s h octets h.packet) (saying (record s { frames = s.frames + 1 }) h (Some (ack h 1)))
     (own_none s h octets h.packet) (record s { frames = s.frames + 1 }, h, ack h 1, refl, one_is_none 1 refl)
 
 module _ (law : AckOctets) where
@@ -244,13 +244,13 @@ module _ (law : AckOctets) where
   packet_says s h Repeat good below few = tt
   packet_says s h Kept good below few = tt
 
-  own_says : (s : State) (h : Header) (octets : List ℕ) (packet : Option Packet) → IsHeader h → s.serial < 2 ^ 16 → IfSome (quiet_own s h octets packet).says (IsAnswer h)
+  own_says : (s : State) (h : Header) (octets : List ℕ) (packet : Option Packet) → IsHeader h → s.serial < 2 ^ 16 → IfSome (own_turn_without_request s h octets packet).says (IsAnswer h)
   own_says s h octets None good below = ack_answer law s h h.serial h.id 2 good below
   own_says s h octets (Some packet) good below = packet_says (reads_on s h octets (Some packet)) h (taken_by s.partial h octets).fate good below (taken_few s.partial h octets)
 
-  said_quiet : (s : State) (h : Header) (octets : List ℕ) → IsHeader h → s.serial < 2 ^ 16 → IfSome (quiet s (Frame h octets)).says (IsAnswer h)
+  said_quiet : (s : State) (h : Header) (octets : List ℕ) → IsHeader h → s.serial < 2 ^ 16 → IfSome (turn_without_request s (Frame h octets)).says (IsAnswer h)
   said_quiet s h octets good below =
-      either_says (IsAnswer h) (is_own s.phone h.phone) (quiet_own s h octets h.packet) (saying (record s { frames = s.frames + 1 }) h (Some (ack h 1)))
+      either_says (IsAnswer h) (is_own s.phone h.phone) (own_turn_without_request s h octets h.packet) (saying (record s { frames = s.frames + 1 }) h (Some (ack h 1)))
       (own_says s h octets h.packet good below) (ack_answer law s h h.serial h.id 1 good below)
 
   -- of the message with these fields beside the frame's
@@ -293,7 +293,7 @@ module _ (law : AckOctets) where
   kept_serial s h octets None below = below
   kept_serial s h octets (Some packet) below = below
 
-  said_told : (s : State) (h : Header) (octets : List ℕ) (r : Reply) → IsHeader h → s.serial < 2 ^ 16 → HasRoomFor r → IfSome (told s (Frame h octets) r).says (IsAnswer h)
+  said_told : (s : State) (h : Header) (octets : List ℕ) (r : Reply) → IsHeader h → s.serial < 2 ^ 16 → HasRoomFor r → IfSome (turn_at_reply s (Frame h octets) r).says (IsAnswer h)
   said_told s h octets r good below few = message_says s (reads_on s h octets h.packet) h octets h.packet r good (kept_serial s h octets h.packet below) few
 
 -- ---- acceptances
@@ -304,10 +304,10 @@ accepted_auth g is = ap (λ id. if is_answer id then None else Some (ack g (acce
 says_of : (k : State) (o : Option (Header × List ℕ)) (m : Header × List ℕ) (r : Reply) → o ≡ Some m → answer_to m.0 r ≡ Some (ack m.0 0) → (answers k o r).says ≡ Some (message_to k m.0 (ack m.0 0))
 says_of k o m r brings answer = ap (λ x. (answers k x r).says) brings ∙ ap (λ a. (saying k m.0 a).says) answer
 
-entered : (s : State) (h : Header) (octets : List ℕ) (m : Header × List ℕ) → message_of s h octets h.packet ≡ Some m → m.0.id ≡ 0x0102 → (told s (Frame h octets) say.Accepted).says ≡ Some (message_to (reads_on s h octets h.packet) m.0 (ack m.0 0))
+entered : (s : State) (h : Header) (octets : List ℕ) (m : Header × List ℕ) → message_of s h octets h.packet ≡ Some m → m.0.id ≡ 0x0102 → (turn_at_reply s (Frame h octets) say.Accepted).says ≡ Some (message_to (reads_on s h octets h.packet) m.0 (ack m.0 0))
 entered s h octets m brings is = says_of (reads_on s h octets h.packet) (message_of s h octets h.packet) m say.Accepted brings (accepted_auth m.0 is)
 
-stored : (s : State) (h : Header) (octets : List ℕ) (m : Header × List ℕ) (r : Reply) → message_of s h octets h.packet ≡ Some m → is_stored r ≡ true → (told s (Frame h octets) r).says ≡ Some (message_to (reads_on s h octets h.packet) m.0 (ack m.0 0))
+stored : (s : State) (h : Header) (octets : List ℕ) (m : Header × List ℕ) (r : Reply) → message_of s h octets h.packet ≡ Some m → is_stored r ≡ true → (turn_at_reply s (Frame h octets) r).says ≡ Some (message_to (reads_on s h octets h.packet) m.0 (ack m.0 0))
 stored s h octets m r brings is = says_of (reads_on s h octets h.packet) (message_of s h octets h.packet) m r brings (stored_answer m.0 r is)
 
 ack_named : (h : Header) (n serial id result : ℕ) → Some (ack h n) ≡ Some (message.PlatformAck serial id result) → (serial ≡ h.serial) × (id ≡ h.id)

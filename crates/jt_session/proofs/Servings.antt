@@ -21,10 +21,10 @@ use Rattle.jt_session.specs.declared.end.End.TheVariants as ends
 use Rattle.jt_session.specs.declared.end.Fed.{Fed}
 use Rattle.jt_session.specs.declared.end.Fed.TheVariants.{On, Stop}
 use Rattle.jt_session.specs.Talk.{Way, Goes, Stops, Turn}
-use Rattle.jt_session.specs.Sessions.{Seen, end_by, end_of, fed_by}
+use Rattle.jt_session.specs.Sessions.{Seen, end_by, end_of, feed_end}
 use Rattle.jt_session.specs.TurnLaw.{IsNew}
 use Rattle.jt_session.specs.Hearing.{Hears, FailedMore, IsSamePass}
-use Rattle.jt_session.specs.Serving.{Answers, AnswersEnd, Converses, Course, HasCause, Names}
+use Rattle.jt_session.specs.Serving.{AnswersRead, AnswersEnd, Converses, Course, HasCause, Names}
 use Rattle.jt_session.proofs.Turning.{takes_none}
 use Rattle.jt_session.proofs.Hearings.{hears_as, hears_both, hears_on, same_both}
 
@@ -41,7 +41,7 @@ by_answer (Stop ends.StoreFault) = true
 by_answer (Stop (ends.ListFull l)) = true
 by_answer (Stop ends.Memory) = true
 
-reply_ends : (r : Reply) → by_answer (fed_by r) ≡ true
+reply_ends : (r : Reply) → by_answer (feed_end r) ≡ true
 reply_ends (say.Registered code) = refl
 reply_ends (say.Denied n) = refl
 reply_ends say.Accepted = refl
@@ -199,7 +199,7 @@ module _ {O : Type 0} (o : Option Opening) (s : Seen) (pass : PassState Request 
 
     -- octets were read and heard
     module _ (piece : List ℕ) (count : ℕ) (gave : Gives w.inbound mid.inbound piece) (cause : ReadHasCause w.faults mid.faults w.inbound mid.inbound (Bytes count)) (are : AreOctets piece) (other : Option Opening) (same_o : other ≡ o) (next : Seen) (pass_next : PassState Request Reply O) (w_next : Wire) (done : ℕ) (end : Option Ending)
-        (did : Answers other now next piece pass_now pass_next mid w_next done end) (same : IsSamePass pass_now pass_next) where
+        (did : AnswersRead other now next piece pass_now pass_next mid w_next done end) (same : IsSamePass pass_now pass_next) where
       abbrev taken_now : List ℕ
       taken_now = c.taken ++ piece
 

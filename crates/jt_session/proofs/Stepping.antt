@@ -12,7 +12,7 @@ use Rattle.jt_session.specs.declared.step.Step.TheVariants.{More}
 use Rattle.jt_session.specs.declared.step.Came.{Came}
 use Rattle.jt_session.specs.declared.step.Came.TheVariants.{Quiet, Asks, Memory}
 use Rattle.jt_session.specs.Talk.{State}
-use Rattle.jt_session.specs.Sessions.{Seen, LedTo, Takes}
+use Rattle.jt_session.specs.Sessions.{Seen, LedTo, TakesUnasked}
 use Rattle.jt_session.specs.Steps.{GoesOn}
 use Rattle.jt_session.specs.Waiting.{message_at, state_of, waiting_of}
 use Rattle.jt_session.specs.Reading.{OctetsCame}
@@ -76,11 +76,11 @@ module _ (s : Seen) (number : ℕ) (stream stream_now : Splitting) (waiting : Op
       (short_open number stream stream_now kept was kept_now was_now over octets out out_now spare still (held came Memory is it)))
 
 -- one item more of a slice
-pub takes_more : (first mid now : Seen) (octets : List ℕ) (taken count : ℕ) (front out out_now : List ℕ) → AreOctets octets → Takes first mid (take taken octets) front out → GoesOn mid now (take count (take (length octets - taken) (drop taken octets))) out out_now
-    → Takes first now (take (taken + count) octets) front out_now
+pub takes_more : (first mid now : Seen) (octets : List ℕ) (taken count : ℕ) (front out out_now : List ℕ) → AreOctets octets → TakesUnasked first mid (take taken octets) front out → GoesOn mid now (take count (take (length octets - taken) (drop taken octets))) out out_now
+    → TakesUnasked first now (take (taken + count) octets) front out_now
 takes_more first mid now octets taken count front out out_now are so_far goes =
     let piece : take (length octets - taken) (drop taken octets) ≡ drop taken octets = take_all (length octets - taken) (drop taken octets) (omega (arith, length-drop taken octets)) in
-    subst (λ some. Takes first now some front out_now) (ap (λ rest. take taken octets ++ take count rest) piece ∙ sym (take-add taken count octets)) (goes first (take taken octets) front (AreOctets-take taken octets are) so_far)
+    subst (λ some. TakesUnasked first now some front out_now) (ap (λ rest. take taken octets ++ take count rest) piece ∙ sym (take-add taken count octets)) (goes first (take taken octets) front (AreOctets-take taken octets are) so_far)
 
 pub led_on : (now : Seen) (step : Step) → step ≡ More → LedTo now step → (now.waiting ≡ None) × (now.over ≡ false)
 led_on now step is led = subst (LedTo now) is led

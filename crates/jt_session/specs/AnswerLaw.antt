@@ -17,7 +17,7 @@ use Rattle.jt_platform.specs.declared.request.Request.TheVariants as ask
 use Rattle.jt_platform.specs.declared.request.Reply.{Reply}
 use Rattle.jt_platform.specs.declared.request.Reply.TheVariants as say
 use Rattle.jt_session.specs.Replies.{HasRoomFor}
-use Rattle.jt_session.specs.Talk.{State, ack, answer_to, asks, message_of, message_to, quiet, reads_on, told}
+use Rattle.jt_session.specs.Talk.{State, ack, answer_to, asks, message_of, message_to, turn_without_request, reads_on, turn_at_reply}
 use Rattle.jt_session.specs.Law.{IsUnitId, is_stored}
 
 -- ---- what is asked
@@ -77,19 +77,19 @@ SaysNoSuccess said = (s : State) × (h : Header) × (m : Message) × (said ≡ m
 
 pub record AnswersAre : Type 0 where
   -- a session stays that of the phone
-  pub stays_quiet : (s : State) (h : Header) (octets : List ℕ) → IsStateOf (key_of h.phone) s → IsStateOf (key_of h.phone) (quiet s (Frame h octets)).state
-  pub stays_told : (s : State) (h : Header) (octets : List ℕ) (r : Reply) → IsStateOf (key_of h.phone) s → IsStateOf (key_of h.phone) (told s (Frame h octets) r).state
+  pub stays_quiet : (s : State) (h : Header) (octets : List ℕ) → IsStateOf (key_of h.phone) s → IsStateOf (key_of h.phone) (turn_without_request s (Frame h octets)).state
+  pub stays_told : (s : State) (h : Header) (octets : List ℕ) (r : Reply) → IsStateOf (key_of h.phone) s → IsStateOf (key_of h.phone) (turn_at_reply s (Frame h octets) r).state
   -- each message that is written is one that a frame can have, to the phone of the frame that it answers
-  pub said_quiet : (s : State) (h : Header) (octets : List ℕ) → IsHeader h → s.serial < 2 ^ 16 → IfSome (quiet s (Frame h octets)).says (IsAnswer h)
-  pub said_told : (s : State) (h : Header) (octets : List ℕ) (r : Reply) → IsHeader h → s.serial < 2 ^ 16 → HasRoomFor r → IfSome (told s (Frame h octets) r).says (IsAnswer h)
+  pub said_quiet : (s : State) (h : Header) (octets : List ℕ) → IsHeader h → s.serial < 2 ^ 16 → IfSome (turn_without_request s (Frame h octets)).says (IsAnswer h)
+  pub said_told : (s : State) (h : Header) (octets : List ℕ) (r : Reply) → IsHeader h → s.serial < 2 ^ 16 → HasRoomFor r → IfSome (turn_at_reply s (Frame h octets) r).says (IsAnswer h)
   -- where nothing was asked no success is told
-  pub no_success : (s : State) (item : Unplaced) → IfSome (quiet s item).says SaysNoSuccess
+  pub no_success : (s : State) (item : Unplaced) → IfSome (turn_without_request s item).says SaysNoSuccess
   -- an accepted authentication is told its acceptance
   pub entered : (s : State) (h : Header) (octets : List ℕ) (m : Header × List ℕ) → message_of s h octets h.packet ≡ Some m → m.0.id ≡ AUTH
-      → (told s (Frame h octets) say.Accepted).says ≡ Some (message_to (reads_on s h octets h.packet) m.0 (ack m.0 0))
+      → (turn_at_reply s (Frame h octets) say.Accepted).says ≡ Some (message_to (reads_on s h octets h.packet) m.0 (ack m.0 0))
   -- a message that stands in a row is told its acceptance
   pub stored : (s : State) (h : Header) (octets : List ℕ) (m : Header × List ℕ) (r : Reply) → message_of s h octets h.packet ≡ Some m → is_stored r ≡ true
-      → (told s (Frame h octets) r).says ≡ Some (message_to (reads_on s h octets h.packet) m.0 (ack m.0 0))
+      → (turn_at_reply s (Frame h octets) r).says ≡ Some (message_to (reads_on s h octets h.packet) m.0 (ack m.0 0))
   -- an acceptance names the message, and a unit is told one at no other reply
   pub named : (h : Header) (r : Reply) (serial id result : ℕ) → answer_to h r ≡ Some (message.PlatformAck serial id result) → (serial ≡ h.serial) × (id ≡ h.id)
   pub unit_alone : (h : Header) (r : Reply) (serial id result : ℕ) → IsUnitId h.id → answer_to h r ≡ Some (message.PlatformAck serial id result) → (result ≡ 0) ⊎ (result ≡ 4) → is_stored r ≡ true

@@ -3,7 +3,7 @@ use Rattle.std.specs.Prelude.{◌≡◌, ◌≤◌, ◌<◌, ◌-◌, ◌^◌, �
 use mathlib.Core.List.{IsPrefix}
 use Rattle.jt_value.specs.Sameness.{key_of}
 use Rattle.jt_value.specs.declared.phone.Phone.{Phone}
-use Rattle.jt_store.specs.Tables.{Told}
+use Rattle.jt_store.specs.Tables.{WhereKnown}
 use Rattle.jt_turn.specs.declared.entry.Entry.{Entry as Turned}
 use Rattle.jt_turn.specs.Passes.{PassState}
 use Rattle.jt_platform.specs.Allowed.{Opening}
@@ -48,7 +48,7 @@ pub record IsFilled (o : Opening) (seen : List (Turned Request Reply)) (q : Opti
   pub octets : List ℕ
   pub asked : q ≡ Some (ask.Unit phone serial id octets)
   pub limit : l ≡ o.limit
-  pub rows : Told (tables_after o.tables (newest (map as_entry found))) (λ t. length (t.rows (key_of phone)) ≡ l)
+  pub rows : WhereKnown (tables_after o.tables (newest (map as_entry found))) (λ t. length (t.rows (key_of phone)) ≡ l)
 
 -- The session heard the octets, and the pass acted for it: its turns; the pass's new entries, which are the requests of the turns with
 -- their replies; what was written; how it ended. Where it ended by StoreFault the desk's count of faults rose, and where it ended by

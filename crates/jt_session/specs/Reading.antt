@@ -1,6 +1,7 @@
 -- What a frame led to, and the octets up to an item. For the proofs.
 use Rattle.std.specs.Prelude.{◌≡◌, ◌≤◌, ◌<◌, ◌⊎◌, ℕ, ◌+◌, List, [], ◌∷◌, ◌++◌, Option, None, Some}
 use Rattle.std.specs.Option.{option_map}
+use Rattle.jt_value.specs.declared.limits.TheConstants.{FRAME_LIMIT}
 use Rattle.jt_escape.specs.Scan.{State as Splitting}
 use Rattle.jt_header.specs.Content.{IsHeader}
 use Rattle.jt_header.specs.Fields.{header_at, body_at}
@@ -10,7 +11,7 @@ use Rattle.jt_platform.specs.declared.request.Request.{Request}
 use Rattle.jt_session.specs.declared.step.Came.{Came}
 use Rattle.jt_session.specs.declared.step.Came.TheVariants.{Quiet, Asks, Memory}
 use Rattle.jt_subpacket.specs.Fates.{taken_by}
-use Rattle.jt_session.specs.Talk.{State, Turned, asks, frame_said, message_of, one_if, quiet, reads_on, stopped, whole_of}
+use Rattle.jt_session.specs.Talk.{State, Turned, asks, frame_said, message_of, one_if, turn_without_request, reads_on, state_at_want, whole_of}
 use Rattle.jt_session.specs.Sessions.{counts}
 use Rattle.jt_session.specs.Steps.{Brings}
 use Rattle.jt_session.specs.Waiting.{message_at}
@@ -28,7 +29,7 @@ pub record HasMessage (now read : State) (out out_now : List ℕ) (spare : ℕ) 
   pub good : IsHeader header
   pub state : now ≡ read
   pub wrote : out_now ≡ out
-  pub room : 2092 ≤ spare
+  pub room : FRAME_LIMIT ≤ spare
 
 -- memory was wanted before anything was asked or written
 pub record WantsMemory (now stop : State) (out out_now : List ℕ) : Type 0 where
@@ -43,8 +44,8 @@ CameTo asked message read t stop now out out_now spare (Asks header q) = HasMess
 CameTo asked message read t stop now out out_now spare Memory = WantsMemory now stop out out_now
 
 -- the message that a packet makes whole
-abbrev pub joined : State → Header → List ℕ → Option (Header × List ℕ)
-joined s h octets = whole_of h (taken_by s.partial h octets).fate
+abbrev pub whole_message : State → Header → List ℕ → Option (Header × List ℕ)
+whole_message s h octets = whole_of h (taken_by s.partial h octets).fate
 
 -- what is kept once the assembler has the packet
 abbrev pub takes_in : State → Header → List ℕ → State
@@ -53,7 +54,7 @@ takes_in s h octets = record s { partial = (taken_by s.partial h octets).partial
 -- what a frame led to
 abbrev pub FrameCame : State → State → Header → List ℕ → List ℕ → List ℕ → ℕ → Came → Type 0
 FrameCame old now h octets out out_now spare came =
-    CameTo (asks old (Frame h octets)) (message_of old h octets h.packet) (reads_on old h octets h.packet) (quiet old (Frame h octets)) (stopped old (Frame h octets)) now out out_now spare came
+    CameTo (asks old (Frame h octets)) (message_of old h octets h.packet) (reads_on old h octets h.packet) (turn_without_request old (Frame h octets)) (state_at_want old (Frame h octets)) now out out_now spare came
 
 -- at most one more is counted
 pub record IsOneMore (old now : State) : Type 0 where
@@ -70,7 +71,7 @@ pub record AreBelow (limit : ℕ) (s : State) : Type 0 where
 -- an item that asks nothing, or none
 pub record WasPassed (stream stream_now : Splitting) (octets : List ℕ) (old now : State) (out out_now : List ℕ) (item : Unplaced) : Type 0 where
   pub brings : Brings stream stream_now octets (item ∷ [])
-  pub answered : WasAnswered now out out_now (asks old item) (quiet old item)
+  pub answered : WasAnswered now out out_now (asks old item) (turn_without_request old item)
 
 pub record WasNothing (stream stream_now : Splitting) (octets : List ℕ) (old now : State) (out out_now : List ℕ) : Type 0 where
   pub brings : Brings stream stream_now octets []

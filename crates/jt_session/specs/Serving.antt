@@ -3,6 +3,7 @@ use Rattle.std.specs.Prelude.{◌≡◌, ◌≢◌, ◌≤◌, ◌*◌, ◌⊎�
 use Rattle.jt_value.specs.Octets.{AreOctets}
 use Rattle.std.specs.Io.KnownBytes.{Appends, IsAtEnd}
 use mathlib.Core.List.{IsPrefix}
+use Rattle.jt_value.specs.declared.limits.TheConstants.{ANSWER_LIMIT}
 use Rattle.jt_value.specs.Counts.{Counts, Rose, RoseBy}
 use Rattle.jt_outside.specs.Link.{Wire, Gives}
 use Rattle.jt_turn.specs.declared.entry.Entry.{Entry as Turned}
@@ -54,7 +55,7 @@ AnswersEnd count said fed before now None = (fed ≡ On) × (count ≡ length sa
 AnswersEnd count said fed before now (Some end) = ((end ≡ ends.LinkFault) × Rose before now) ⊎ ((fed ≡ Stop end) × (count ≡ length said))
 
 -- the session heard the octets, and so many octets of the answers were written
-pub record Answers {O : Type 0} (o : Option Opening) (s now : Seen) (octets : List ℕ) (pass pass_now : PassState Request Reply O) (link link_now : Wire) (count : ℕ) (end : Option End) : Type 0 where
+pub record AnswersRead {O : Type 0} (o : Option Opening) (s now : Seen) (octets : List ℕ) (pass pass_now : PassState Request Reply O) (link link_now : Wire) (count : ℕ) (end : Option End) : Type 0 where
   pub said : List ℕ
   pub fed : Fed
   pub hears : Hears o s now octets pass pass_now [] said fed
@@ -74,7 +75,7 @@ pub record Course {O : Type 0} (o : Option Opening) (s now : Seen) (pass pass_no
   pub read : so_far ≡ length taken
   pub writes : Appends link.written link_now.written said
   pub written : answered ≡ length said
-  pub short : answered ≤ 4184 * so_far
+  pub short : answered ≤ ANSWER_LIMIT * so_far
   pub place : now.stream.place ≤ so_far
   pub waits : now.waiting ≡ None
   pub on : now.over ≡ false

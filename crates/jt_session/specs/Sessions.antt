@@ -1,6 +1,7 @@
 -- What contracts see of a session, and what its calls did (this project's own). To be believed.
 use Rattle.std.specs.Prelude.{◌≡◌, ◌≢◌, ◌≤◌, ℕ, List, [], ◌∷◌, ◌++◌, map, Bool, true, false, if◌then◌else◌, Option, None, Some, IsSomeAnd}
 use Rattle.std.specs.Option.{option_to_list}
+use Rattle.jt_value.specs.declared.limits.TheConstants.{FRAME_LIMIT}
 use Rattle.jt_value.specs.Octets.{AreOctets}
 use Rattle.jt_escape.specs.Scan.{State as Splitting}
 use Rattle.jt_escape.specs.Splitter.{StandsFor}
@@ -63,7 +64,7 @@ AreUnasked [] = Unit {0}
 AreUnasked (t ∷ older) = (is_unasked t.way ≡ true) × AreUnasked older
 
 -- the octets were taken, which brought these turns, none with a reply, and what was written stands behind what was there
-pub record Takes (s now : Seen) (octets out out_now : List ℕ) : Type 0 where
+pub record TakesUnasked (s now : Seen) (octets out out_now : List ℕ) : Type 0 where
   pub turns : List Turn
   pub went : Turns s now octets turns
   pub unasked : AreUnasked turns
@@ -77,7 +78,7 @@ LedTo now Memory = (now.waiting ≡ None) × (now.over ≡ true)
 
 -- where a request waits there is room for any answer
 abbrev pub HasRoom : ℕ → Step → Type 0
-HasRoom spare (Ask q) = 2092 ≤ spare
+HasRoom spare (Ask q) = FRAME_LIMIT ≤ spare
 HasRoom spare step = Unit {0}
 
 -- ---- the answer to a request
@@ -91,12 +92,12 @@ abbrev pub turn_by : Reply → Unplaced → Turn
 turn_by r item = record { item = item; way = way_by r }
 
 -- Fenced, ListFull, StoreFault and Memory end the session
-abbrev pub fed_by : Reply → Fed
-fed_by (say.Fenced other) = Stop (ends.Fenced other)
-fed_by (say.ListFull l) = Stop (ends.ListFull l)
-fed_by say.StoreFault = Stop ends.StoreFault
-fed_by say.Memory = Stop ends.Memory
-fed_by reply = On
+abbrev pub feed_end : Reply → Fed
+feed_end (say.Fenced other) = Stop (ends.Fenced other)
+feed_end (say.ListFull l) = Stop (ends.ListFull l)
+feed_end say.StoreFault = Stop ends.StoreFault
+feed_end say.Memory = Stop ends.Memory
+feed_end reply = On
 
 -- the reply was the answer to the request of the item: its turn was gone on with, and this was written
 pub record IsRepliedTo (s now : Seen) (r : Reply) (out out_now : List ℕ) (item : Unplaced) : Type 0 where
@@ -124,9 +125,9 @@ MayTurn o h session k (t ∷ older) =
 -- how the last of the turns ended the session, newest turn first: by its reply, or by want of memory before it asked or wrote
 abbrev pub end_by : Way → Fed
 end_by (Goes None) = On
-end_by (Goes (Some r)) = fed_by r
+end_by (Goes (Some r)) = feed_end r
 end_by (Stops None) = Stop ends.Memory
-end_by (Stops (Some r)) = fed_by r
+end_by (Stops (Some r)) = feed_end r
 
 abbrev pub end_of : List Turn → Fed
 end_of [] = On

@@ -4,8 +4,8 @@ use Rattle.jt_value.specs.Octets.{AreOctets}
 use Rattle.jt_escape.specs.Scan.{State as Splitting}
 use Rattle.jt_escape.specs.Splitter.{StandsFor}
 use Rattle.jt_stream.specs.Unplaced.{Unplaced, items}
-use Rattle.jt_session.specs.Talk.{asks, quiet, stopped, frame_said, is_frame}
-use Rattle.jt_session.specs.Sessions.{Seen, Takes, counts}
+use Rattle.jt_session.specs.Talk.{asks, turn_without_request, state_at_want, frame_said, is_frame}
+use Rattle.jt_session.specs.Sessions.{Seen, TakesUnasked, counts}
 
 -- the stream went on by the octets, which brought these items
 abbrev pub Brings : Splitting → Splitting → List ℕ → List Unplaced → Type 0
@@ -25,11 +25,11 @@ pub record WasSilent (s now : Seen) (octets out out_now : List ℕ) : Type 0 whe
 pub record WasQuiet (s now : Seen) (octets out out_now : List ℕ) (item : Unplaced) : Type 0 where
   pub brings : Brings s.stream now.stream octets (item ∷ [])
   pub asked : asks s.state item ≡ None
-  pub state : now.state ≡ (quiet s.state item).state
+  pub state : now.state ≡ (turn_without_request s.state item).state
   pub waiting : now.waiting ≡ None
   pub over : now.over ≡ false
   pub number : now.number ≡ s.number
-  pub wrote : out_now ≡ out ++ frame_said (quiet s.state item).says
+  pub wrote : out_now ≡ out ++ frame_said (turn_without_request s.state item).says
 
 -- an item asked, and waits
 pub record HasAsked (s now : Seen) (octets out out_now : List ℕ) (item : Unplaced) : Type 0 where
@@ -44,7 +44,7 @@ pub record HasAsked (s now : Seen) (octets out out_now : List ℕ) (item : Unpla
 pub record RanShort (s now : Seen) (octets out out_now : List ℕ) (item : Unplaced) : Type 0 where
   pub brings : Brings s.stream now.stream octets (item ∷ [])
   pub frame : is_frame item ≡ true
-  pub counted : counts now.state ≡ counts (stopped s.state item)
+  pub counted : counts now.state ≡ counts (state_at_want s.state item)
   pub waiting : now.waiting ≡ None
   pub over : now.over ≡ true
   pub number : now.number ≡ s.number
@@ -53,4 +53,4 @@ pub record RanShort (s now : Seen) (octets out out_now : List ℕ) (item : Unpla
 -- what stands for the octets and answers so far stands for these too
 abbrev pub GoesOn : Seen → Seen → List ℕ → List ℕ → List ℕ → Type 0
 GoesOn s now octets out out_now =
-    (first : Seen) (so_far front : List ℕ) → AreOctets so_far → Takes first s so_far front out → Takes first now (so_far ++ octets) front out_now
+    (first : Seen) (so_far front : List ℕ) → AreOctets so_far → TakesUnasked first s so_far front out → TakesUnasked first now (so_far ++ octets) front out_now

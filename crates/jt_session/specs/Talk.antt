@@ -136,15 +136,15 @@ answers_packet s h (Resend first missing) = saying s h (Some (message.Resend (re
 answers_packet s h Repeat = saying s h None
 answers_packet s h Kept = saying s h None
 
-abbrev pub quiet_own : State → Header → List ℕ → Option Packet → Turned
-quiet_own s h octets None = refuses (reads_on s h octets None) h
-quiet_own s h octets (Some packet) = answers_packet (reads_on s h octets (Some packet)) h (taken_by s.partial h octets).fate
+abbrev pub own_turn_without_request : State → Header → List ℕ → Option Packet → Turned
+own_turn_without_request s h octets None = refuses (reads_on s h octets None) h
+own_turn_without_request s h octets (Some packet) = answers_packet (reads_on s h octets (Some packet)) h (taken_by s.partial h octets).fate
 
 -- where an item asks nothing: a refused item is counted and answered with nothing, a frame of another phone is answered with result 1
-abbrev pub quiet : State → Unplaced → Turned
-quiet s (Fault place why) = record { state = record s { refused = s.refused + 1 }; says = None }
-quiet s (Frame h octets) =
-    if is_own s.phone h.phone then quiet_own s h octets h.packet
+abbrev pub turn_without_request : State → Unplaced → Turned
+turn_without_request s (Fault place why) = record { state = record s { refused = s.refused + 1 }; says = None }
+turn_without_request s (Frame h octets) =
+    if is_own s.phone h.phone then own_turn_without_request s h octets h.packet
     else saying (record s { frames = s.frames + 1 }) h (Some (ack h 1))
 
 -- the ids of messages that the terminal answers with, which are not answered themselves
@@ -177,14 +177,14 @@ answers s None reply = record { state = s; says = None }
 answers s (Some m) reply = saying s m.0 (answer_to m.0 reply)
 
 -- where an item asked and was replied to so
-abbrev pub told : State → Unplaced → Reply → Turned
-told s (Fault place why) reply = record { state = s; says = None }
-told s (Frame h octets) reply = answers (reads_on s h octets h.packet) (message_of s h octets h.packet) reply
+abbrev pub turn_at_reply : State → Unplaced → Reply → Turned
+turn_at_reply s (Fault place why) reply = record { state = s; says = None }
+turn_at_reply s (Frame h octets) reply = answers (reads_on s h octets h.packet) (message_of s h octets h.packet) reply
 
 -- a frame at which memory was wanted counts among the frames alone
-abbrev pub stopped : State → Unplaced → State
-stopped s (Fault place why) = s
-stopped s (Frame h octets) = record s { frames = s.frames + 1 }
+abbrev pub state_at_want : State → Unplaced → State
+state_at_want s (Fault place why) = s
+state_at_want s (Frame h octets) = record s { frames = s.frames + 1 }
 
 -- ---- turns
 
@@ -213,15 +213,15 @@ abbrev pub frame_said : Option (Header × List ℕ) → List ℕ
 frame_said None = []
 frame_said (Some m) = framed (content_of m.0 m.1)
 
-abbrev pub turned : Talked → Turned → List (Request × Reply) → Bool → Talked
-turned k t gained over = record { state = t.state; entries = gained ++ k.entries; written = k.written ++ frame_said t.says; over = over }
+abbrev pub talk_after_turn : Talked → Turned → List (Request × Reply) → Bool → Talked
+talk_after_turn k t gained over = record { state = t.state; entries = gained ++ k.entries; written = k.written ++ frame_said t.says; over = over }
 
 -- after Fenced, which is answered first, the session is over, and after a reply that makes no entry, which is not answered
 abbrev pub turn_on : Talked → Unplaced → Option Request → Way → Talked
-turn_on k item None (Goes None) = turned k (quiet k.state item) [] false
-turn_on k item (Some q) (Goes (Some r)) = turned k (told k.state item r) ((q, r) ∷ []) (is_fenced r)
-turn_on k item (Some q) (Stops (Some r)) = turned k (told k.state item r) [] true
-turn_on k item asked (Stops None) = record k { state = stopped k.state item; over = true }
+turn_on k item None (Goes None) = talk_after_turn k (turn_without_request k.state item) [] false
+turn_on k item (Some q) (Goes (Some r)) = talk_after_turn k (turn_at_reply k.state item r) ((q, r) ∷ []) (is_fenced r)
+turn_on k item (Some q) (Stops (Some r)) = talk_after_turn k (turn_at_reply k.state item r) [] true
+turn_on k item asked (Stops None) = record k { state = state_at_want k.state item; over = true }
 turn_on k item asked way = k
 
 -- newest turn first

@@ -1,6 +1,7 @@
 //! A session over a hub.
 
 ghost use Rattle.std.specs.Prelude.{◌≡◌, ◌≤◌, ◌<◌, ◌+◌, ◌^◌, ◌↔◌, ℕ, [], ◌∷◌, ◌++◌, false, None, Some, IsSomeAnd, length, take};
+ghost use Rattle.jt_value.specs.declared.limits.TheConstants.{FRAME_LIMIT};
 ghost use Rattle.jt_platform.specs.History.{newest, closed};
 ghost use Rattle.jt_platform.specs.Hub.{HasReason, IsOwed, opening_of};
 ghost use Rattle.jt_platform.specs.declared.request.Request.TheVariants as request;
@@ -19,16 +20,22 @@ use jt_value::Buffer;
 impl Session {
     // Asks the hub what the frame that waits wants, and answers the frame.
     fn ask<P: Keeper>(&mut self, hub: &mut Hub<P>, request: Request, out: &mut Buffer<u8>) -> Fed
-        requires waits { IsSomeAnd self.old.waiting (λ item. asks self.old.state item ≡ Some request) }
+        requires waits { IsSomeAnd self.old.waiting (λ item.
+            asks self.old.state item ≡ Some request) }
         requires on { self.old.over ≡ false }
-        requires room { 2092 ≤ out.old.spare }
-        ensures feeds { Feeds self.old self.new [] (opening_of (P.tables hub.old.start) (P.limit hub.old.start) hub.old.fleet hub.old.secret) (newest hub.old.history) (newest hub.new.history) out.old.items out.new.items result }
+        requires room { FRAME_LIMIT ≤ out.old.spare }
+        ensures feeds { Feeds self.old self.new [] (opening_of (P.tables hub.old.start)
+            (P.limit hub.old.start) hub.old.fleet hub.old.secret)
+            (newest hub.old.history) (newest hub.new.history) out.old.items out.new.items result }
         ensures on { (result ≡ Fed.On) ↔ (self.new.over ≡ false) }
         ensures waiting { self.new.waiting ≡ None }
         ensures place { self.new.stream.place ≡ self.old.stream.place }
-        ensures opening { (hub.new.start ≡ hub.old.start) × (hub.new.fleet ≡ hub.old.fleet) × (hub.new.secret ≡ hub.old.secret) × (hub.new.reserved ≡ hub.old.reserved) }
-        ensures closed { (session : ℕ) → closed (newest hub.new.history) session ≡ closed (newest hub.old.history) session }
-        ensures reason { HasFedReason (P.faults hub.old.keeper) (P.faults hub.new.keeper) (P.may_fail hub.old.keeper) (P.may_fail hub.new.keeper) result }
+        ensures opening { (hub.new.start ≡ hub.old.start) × (hub.new.fleet ≡ hub.old.fleet)
+            × (hub.new.secret ≡ hub.old.secret) × (hub.new.reserved ≡ hub.old.reserved) }
+        ensures closed { (session : ℕ) →
+            closed (newest hub.new.history) session ≡ closed (newest hub.old.history) session }
+        ensures reason { HasFedReason (P.faults hub.old.keeper) (P.faults hub.new.keeper)
+            (P.may_fail hub.old.keeper) (P.may_fail hub.new.keeper) result }
     {
         let reply = hub.act(self.number(), &request);
         self.reply(&reply, out)
@@ -46,13 +53,19 @@ impl Session {
         requires short { self.old.stream.place + length octets.now < 2 ^ 63 }
         ensures taken { result.0 ≤ length octets.now }
         ensures some { 0 < length octets.now → 0 < result.0 }
-        ensures feeds { Feeds self.old self.new (take result.0 octets.now) (opening_of (P.tables hub.old.start) (P.limit hub.old.start) hub.old.fleet hub.old.secret) (newest hub.old.history) (newest hub.new.history) out.old.items out.new.items result.1 }
+        ensures feeds { Feeds self.old self.new (take result.0 octets.now)
+            (opening_of (P.tables hub.old.start) (P.limit hub.old.start) hub.old.fleet
+            hub.old.secret)
+            (newest hub.old.history) (newest hub.new.history) out.old.items out.new.items result.1 }
         ensures on { (result.1 ≡ Fed.On) ↔ (self.new.over ≡ false) }
         ensures waiting { self.new.waiting ≡ None }
         ensures place { self.new.stream.place ≡ self.old.stream.place + result.0 }
-        ensures opening { (hub.new.start ≡ hub.old.start) × (hub.new.fleet ≡ hub.old.fleet) × (hub.new.secret ≡ hub.old.secret) × (hub.new.reserved ≡ hub.old.reserved) }
-        ensures closed { (session : ℕ) → closed (newest hub.new.history) session ≡ closed (newest hub.old.history) session }
-        ensures reason { HasFedReason (P.faults hub.old.keeper) (P.faults hub.new.keeper) (P.may_fail hub.old.keeper) (P.may_fail hub.new.keeper) result.1 }
+        ensures opening { (hub.new.start ≡ hub.old.start) × (hub.new.fleet ≡ hub.old.fleet)
+            × (hub.new.secret ≡ hub.old.secret) × (hub.new.reserved ≡ hub.old.reserved) }
+        ensures closed { (session : ℕ) →
+            closed (newest hub.new.history) session ≡ closed (newest hub.old.history) session }
+        ensures reason { HasFedReason (P.faults hub.old.keeper) (P.faults hub.new.keeper)
+            (P.may_fail hub.old.keeper) (P.may_fail hub.new.keeper) result.1 }
     {
         let (count, step) = self.take(octets, out);
         match step {
@@ -73,13 +86,18 @@ impl Session {
         requires short { self.old.stream.place + length octets.now < 2 ^ 63 }
         requires unclosed { closed (newest hub.old.history) self.old.number ≡ false }
         // What was read, asked with the replies, which the history allows, and written; and how it ended.
-        ensures feeds { Feeds self.old self.new octets.now (opening_of (P.tables hub.old.start) (P.limit hub.old.start) hub.old.fleet hub.old.secret) (newest hub.old.history) (newest hub.new.history) out.old.items out.new.items result }
+        ensures feeds { Feeds self.old self.new octets.now (opening_of (P.tables hub.old.start)
+            (P.limit hub.old.start) hub.old.fleet hub.old.secret)
+            (newest hub.old.history) (newest hub.new.history) out.old.items out.new.items result }
         ensures on { (result ≡ Fed.On) ↔ (self.new.over ≡ false) }
         ensures waiting { self.new.waiting ≡ None }
         ensures place { self.new.stream.place ≤ self.old.stream.place + length octets.now }
-        ensures opening { (hub.new.start ≡ hub.old.start) × (hub.new.fleet ≡ hub.old.fleet) × (hub.new.secret ≡ hub.old.secret) × (hub.new.reserved ≡ hub.old.reserved) }
-        ensures closed { (session : ℕ) → closed (newest hub.new.history) session ≡ closed (newest hub.old.history) session }
-        ensures reason { HasFedReason (P.faults hub.old.keeper) (P.faults hub.new.keeper) (P.may_fail hub.old.keeper) (P.may_fail hub.new.keeper) result }
+        ensures opening { (hub.new.start ≡ hub.old.start) × (hub.new.fleet ≡ hub.old.fleet)
+            × (hub.new.secret ≡ hub.old.secret) × (hub.new.reserved ≡ hub.old.reserved) }
+        ensures closed { (session : ℕ) →
+            closed (newest hub.new.history) session ≡ closed (newest hub.old.history) session }
+        ensures reason { HasFedReason (P.faults hub.old.keeper) (P.faults hub.new.keeper)
+            (P.may_fail hub.old.keeper) (P.may_fail hub.new.keeper) result }
     {
         law_front();
         let mut taken = 0;
@@ -99,9 +117,13 @@ impl Session {
     pub fn close<P: Keeper>(&mut self, hub: &mut Hub<P>)
         requires { IsOwed hub.old.history hub.old.reserved self.old.number }
         ensures same { self.new ≡ self.old }
-        ensures entry { hub.new.history ≡ hub.old.history ++ record { session = self.old.number; request = request.Close; reply = reply.Accepted } ∷ [] }
-        ensures opening { (hub.new.start ≡ hub.old.start) × (hub.new.fleet ≡ hub.old.fleet) × (hub.new.secret ≡ hub.old.secret) × (hub.new.reserved ≡ hub.old.reserved) }
-        ensures reason { HasReason (P.faults hub.old.keeper) (P.faults hub.new.keeper) (P.may_fail hub.old.keeper) (P.may_fail hub.new.keeper) reply.Accepted }
+        ensures entry { hub.new.history ≡ hub.old.history
+            ++ record { session = self.old.number; request = request.Close; reply = reply.Accepted }
+            ∷ [] }
+        ensures opening { (hub.new.start ≡ hub.old.start) × (hub.new.fleet ≡ hub.old.fleet)
+            × (hub.new.secret ≡ hub.old.secret) × (hub.new.reserved ≡ hub.old.reserved) }
+        ensures reason { HasReason (P.faults hub.old.keeper) (P.faults hub.new.keeper)
+            (P.may_fail hub.old.keeper) (P.may_fail hub.new.keeper) reply.Accepted }
     {
         hub.act(self.number(), &Request::Close);
     }

@@ -1,6 +1,7 @@
 //! Frames that are written behind others.
 
 ghost use Rattle.std.specs.Prelude.{◌≡◌, ◌≤◌, ◌<◌, ◌+◌, ◌*◌, ◌-◌, ◌^◌, ◌∷◌, [], ◌++◌, length};
+ghost use Rattle.jt_value.specs.declared.limits.TheConstants.{FRAME_LIMIT};
 ghost use Rattle.jt_escape.specs.Frame.{escaped_octet, framed};
 ghost use Rattle.jt_header.specs.Content.{IsHeader, content_of};
 
@@ -57,9 +58,9 @@ fn put_framed(out: &mut Buffer<u8>, content: &[u8])
 pub(crate) fn put_frame(out: &mut Buffer<u8>, header: &Header, body: &[u8])
     requires header { IsHeader header.now }
     requires body { length body.now < 2 ^ 10 }
-    requires room { 2092 ≤ out.old.spare }
+    requires room { FRAME_LIMIT ≤ out.old.spare }
     ensures items { out.new.items ≡ out.old.items ++ framed (content_of header.now body.now) }
-    ensures bound { length out.new.items ≤ length out.old.items + 2092 }
+    ensures bound { length out.new.items ≤ length out.old.items + FRAME_LIMIT }
 {
     let mut content = ArrayVec::new();
     write_header(header, body.len() as u16, &mut content);

@@ -1,6 +1,7 @@
 //! A session over a turn, by a pass of it.
 
 ghost use Rattle.std.specs.Prelude.{◌≡◌, ◌≤◌, ◌<◌, ◌+◌, ◌*◌, ◌^◌, ◌↔◌, [], false, None, Some, IsSome, IsSomeAnd, length, option_map, take};
+ghost use Rattle.jt_value.specs.declared.limits.TheConstants.{ANSWER_LIMIT, FRAME_LIMIT};
 ghost use Rattle.jt_platform.specs.Hub.{opening_of};
 ghost use Rattle.jt_session.specs.Talk.{asks};
 ghost use Rattle.jt_session.specs.Hearing.{Hears, IsSamePass};
@@ -27,15 +28,18 @@ fn ask<R: Wait, P: Keeper>(
     requires turn { pass.old.turn ≡ turn.now }
     requires number { pass.old.number ≡ session.old.number }
     requires opening { IsSome pass.old.opening }
-    requires waits { IsSomeAnd session.old.waiting (λ item. asks session.old.state item ≡ Some request) }
+    requires waits { IsSomeAnd session.old.waiting (λ item.
+        asks session.old.state item ≡ Some request) }
     requires on { session.old.over ≡ false }
-    requires room { 2092 ≤ out.old.spare }
-    ensures hears { Hears (option_map (λ o. opening_of (P.tables o.start) (P.limit o.start) o.fleet o.secret) pass.old.opening) session.old session.new [] pass.old pass.new out.old.items out.new.items result }
+    requires room { FRAME_LIMIT ≤ out.old.spare }
+    ensures hears { Hears (option_map (λ o.
+        opening_of (P.tables o.start) (P.limit o.start) o.fleet o.secret) pass.old.opening)
+        session.old session.new [] pass.old pass.new out.old.items out.new.items result }
     ensures same { IsSamePass pass.old pass.new }
     ensures on { (result ≡ Fed.On) ↔ (session.new.over ≡ false) }
     ensures waiting { session.new.waiting ≡ None }
     ensures place { session.new.stream.place ≡ session.old.stream.place }
-    ensures short { length out.new.items ≤ length out.old.items + 2092 }
+    ensures short { length out.new.items ≤ length out.old.items + FRAME_LIMIT }
 {
     let reply = turn.act(rt, pass, &request);
     session.reply(&reply, out)
@@ -58,12 +62,16 @@ fn hear_some<R: Wait, P: Keeper>(
     requires short { session.old.stream.place + length octets.now < 2 ^ 63 }
     ensures taken { result.0 ≤ length octets.now }
     ensures some { 0 < length octets.now → 0 < result.0 }
-    ensures hears { Hears (option_map (λ o. opening_of (P.tables o.start) (P.limit o.start) o.fleet o.secret) pass.old.opening) session.old session.new (take result.0 octets.now) pass.old pass.new out.old.items out.new.items result.1 }
+    ensures hears { Hears (option_map (λ o.
+        opening_of (P.tables o.start) (P.limit o.start) o.fleet o.secret) pass.old.opening)
+        session.old session.new (take result.0 octets.now) pass.old pass.new
+        out.old.items out.new.items result.1 }
     ensures same { IsSamePass pass.old pass.new }
     ensures on { (result.1 ≡ Fed.On) ↔ (session.new.over ≡ false) }
     ensures waiting { session.new.waiting ≡ None }
     ensures place { session.new.stream.place ≡ session.old.stream.place + result.0 }
-    ensures short { length out.new.items ≤ length out.old.items + 2092 * result.0 + 2092 }
+    ensures short { length out.new.items
+        ≤ length out.old.items + FRAME_LIMIT * result.0 + FRAME_LIMIT }
 {
     let (count, step) = session.take(octets, out);
     match step {
@@ -89,12 +97,14 @@ pub(crate) fn hear<R: Wait, P: Keeper>(
     requires waits { session.old.waiting ≡ None }
     requires on { session.old.over ≡ false }
     requires short { session.old.stream.place + length octets.now < 2 ^ 63 }
-    ensures hears { Hears (option_map (λ o. opening_of (P.tables o.start) (P.limit o.start) o.fleet o.secret) pass.old.opening) session.old session.new octets.now pass.old pass.new out.old.items out.new.items result }
+    ensures hears { Hears (option_map (λ o.
+        opening_of (P.tables o.start) (P.limit o.start) o.fleet o.secret) pass.old.opening)
+        session.old session.new octets.now pass.old pass.new out.old.items out.new.items result }
     ensures same { IsSamePass pass.old pass.new }
     ensures on { (result ≡ Fed.On) ↔ (session.new.over ≡ false) }
     ensures waiting { session.new.waiting ≡ None }
     ensures place { session.new.stream.place ≤ session.old.stream.place + length octets.now }
-    ensures short { length out.new.items ≤ length out.old.items + 4184 * length octets.now }
+    ensures short { length out.new.items ≤ length out.old.items + ANSWER_LIMIT * length octets.now }
 {
     law_front();
     let mut taken = 0;

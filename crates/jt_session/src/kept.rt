@@ -1,6 +1,7 @@
 //! What a session keeps between items, and what it writes.
 
 ghost use Rattle.std.specs.Prelude.{◌≡◌, ◌≤◌, ◌<◌, ◌+◌, ◌-◌, ◌%◌, ◌^◌, [], ◌++◌, length, Some, None, ℕ, ◌⊎◌};
+ghost use Rattle.jt_value.specs.declared.limits.TheConstants.{FRAME_LIMIT};
 ghost use Rattle.jt_value.specs.declared.phone.Edition.{Edition};
 ghost use Rattle.jt_escape.specs.Frame.{framed};
 ghost use Rattle.jt_header.specs.Content.{IsHeader, content_of};
@@ -91,7 +92,8 @@ fn accepted_result(id: u16) -> u8
 fn register_body(header: &Header, outcome: u8, code: &[u8]) -> ArrayVec<u8, BODY_LIMIT>
     requires room { length code.now ≤ 1020 }
     requires code { (outcome ≡ 0) ⊎ (code.now ≡ []) }
-    ensures octets { result.items ≡ body_octets header.now.edition (register_reply header.now outcome code.now) }
+    ensures octets { result.items
+        ≡ body_octets header.now.edition (register_reply header.now outcome code.now) }
     ensures short { length result.items < 2 ^ 10 }
 {
     let mut body = ArrayVec::new();
@@ -120,10 +122,11 @@ impl Kept {
     pub(crate) fn say(&mut self, header: &Header, id: u16, body: &[u8], out: &mut Buffer<u8>)
         requires header { IsHeader header.now }
         requires short { length body.now < 2 ^ 10 }
-        requires room { 2092 ≤ out.old.spare }
+        requires room { FRAME_LIMIT ≤ out.old.spare }
         ensures state { self.new ≡ record self.old { serial = (self.old.serial + 1) % 65536 } }
-        ensures out { out.new.items ≡ out.old.items ++ framed (content_of (header_to self.old header.now id) body.now) }
-        ensures bound { length out.new.items ≤ length out.old.items + 2092 }
+        ensures out { out.new.items
+            ≡ out.old.items ++ framed (content_of (header_to self.old header.now id) body.now) }
+        ensures bound { length out.new.items ≤ length out.old.items + FRAME_LIMIT }
     {
         let answer = Header {
             edition: header.edition,
@@ -141,10 +144,12 @@ impl Kept {
     // Writes the general response with this result.
     pub(crate) fn acknowledge(&mut self, header: &Header, outcome: u8, out: &mut Buffer<u8>)
         requires header { IsHeader header.now }
-        requires room { 2092 ≤ out.old.spare }
-        ensures state { self.new ≡ (saying self.old header.now (Some (ack header.now outcome))).state }
-        ensures out { out.new.items ≡ out.old.items ++ frame_said (saying self.old header.now (Some (ack header.now outcome))).says }
-        ensures bound { length out.new.items ≤ length out.old.items + 2092 }
+        requires room { FRAME_LIMIT ≤ out.old.spare }
+        ensures state { self.new
+            ≡ (saying self.old header.now (Some (ack header.now outcome))).state }
+        ensures out { out.new.items ≡ out.old.items
+            ++ frame_said (saying self.old header.now (Some (ack header.now outcome))).says }
+        ensures bound { length out.new.items ≤ length out.old.items + FRAME_LIMIT }
     {
         let body = ack_body(header, outcome);
         self.say(header, PLATFORM_ACK, body.as_slice(), out);
@@ -159,12 +164,14 @@ impl Kept {
         out: &mut Buffer<u8>,
     )
         requires header { IsHeader header.now }
-        requires room { 2092 ≤ out.old.spare }
+        requires room { FRAME_LIMIT ≤ out.old.spare }
         requires code { length code.now ≤ 1020 }
         requires outcome { (outcome ≡ 0) ⊎ (code.now ≡ []) }
-        ensures state { self.new ≡ (saying self.old header.now (Some (register_reply header.now outcome code.now))).state }
-        ensures out { out.new.items ≡ out.old.items ++ frame_said (saying self.old header.now (Some (register_reply header.now outcome code.now))).says }
-        ensures bound { length out.new.items ≤ length out.old.items + 2092 }
+        ensures state { self.new ≡ (saying self.old header.now
+            (Some (register_reply header.now outcome code.now))).state }
+        ensures out { out.new.items ≡ out.old.items ++ frame_said (saying self.old header.now
+            (Some (register_reply header.now outcome code.now))).says }
+        ensures bound { length out.new.items ≤ length out.old.items + FRAME_LIMIT }
     {
         let body = register_body(header, outcome, code);
         self.say(header, REGISTER_REPLY, body.as_slice(), out);
@@ -173,11 +180,13 @@ impl Kept {
     /// Writes what answers the message at this reply, if anything does.
     pub(crate) fn answer(&mut self, header: &Header, reply: &Reply, out: &mut Buffer<u8>)
         requires header { IsHeader header.now }
-        requires room { 2092 ≤ out.old.spare }
+        requires room { FRAME_LIMIT ≤ out.old.spare }
         requires code { HasRoomFor reply.now }
-        ensures state { self.new ≡ (saying self.old header.now (answer_to header.now reply.now)).state }
-        ensures out { out.new.items ≡ out.old.items ++ frame_said (saying self.old header.now (answer_to header.now reply.now)).says }
-        ensures bound { length out.new.items ≤ length out.old.items + 2092 }
+        ensures state { self.new
+            ≡ (saying self.old header.now (answer_to header.now reply.now)).state }
+        ensures out { out.new.items ≡ out.old.items
+            ++ frame_said (saying self.old header.now (answer_to header.now reply.now)).says }
+        ensures bound { length out.new.items ≤ length out.old.items + FRAME_LIMIT }
     {
         match reply {
             Reply::Registered(code) => {

@@ -1,6 +1,7 @@
 //! Frames read: what each asks, and what is written where it asks nothing.
 
 ghost use Rattle.std.specs.Prelude.{◌≡◌, ◌≤◌, ◌<◌, ◌+◌, ◌^◌, ◌++◌, None, Some, IsSome, IsTrue, length, take};
+ghost use Rattle.jt_value.specs.declared.limits.TheConstants.{OCTET_COUNT_LIMIT};
 ghost use Rattle.jt_header.specs.Content.{IsHeader};
 ghost use Rattle.jt_header.specs.Fields.{header_at, body_at};
 ghost use Rattle.jt_codec.specs.Bodies.{body_octets};
@@ -9,9 +10,9 @@ ghost use Rattle.jt_layout.specs.Layout.{word};
 ghost use Rattle.jt_codec.specs.Resend.{count as count_part};
 ghost use Rattle.jt_stream.specs.Unplaced.{Message as Frame};
 ghost use Rattle.jt_subpacket.specs.Fates.{taken_by};
-ghost use Rattle.jt_session.specs.Talk.{answers_packet, asked_by, first_phone, frame_said, message_of, one_if, quiet_own, reads_on, refuses, stopped};
+ghost use Rattle.jt_session.specs.Talk.{answers_packet, asked_by, first_phone, frame_said, message_of, one_if, own_turn_without_request, reads_on, refuses, state_at_want};
 ghost use Rattle.jt_session.specs.Talk as talk;
-ghost use Rattle.jt_session.specs.Reading.{AreBelow, CameTo, FrameCame, IsOneMore, OctetsCame, joined, takes_in};
+ghost use Rattle.jt_session.specs.Reading.{AreBelow, CameTo, FrameCame, IsOneMore, OctetsCame, whole_message, takes_in};
 
 use crate::kept::Kept;
 use crate::request::request_of;
@@ -42,8 +43,9 @@ fn put_word(body: &mut ArrayVec<u8, BODY_LIMIT>, number: u16)
 // The serial of the first packet, and how many are asked for: in one octet to 2013, and in two to 2019.
 #[tactic(auto, unfolding(jt_layout::specs::Layout::number))]
 fn resend_front(edition: Edition, first: u16, count: u16) -> ArrayVec<u8, BODY_LIMIT>
-    requires { count ≤ 255 }
-    ensures octets { result.items ≡ word.spell first ++ (count_part (talk.is_wide edition)).spell count }
+    requires { count ≤ OCTET_COUNT_LIMIT }
+    ensures octets { result.items
+        ≡ word.spell first ++ (count_part (talk.is_wide edition)).spell count }
     ensures short { length result.items ≤ 4 }
 {
     let mut front = ArrayVec::new();
@@ -62,8 +64,9 @@ fn resend_front(edition: Edition, first: u16, count: u16) -> ArrayVec<u8, BODY_L
 
 // The body of a request to send packets again.
 fn resend_body(edition: Edition, first: u16, missing: &[u16]) -> ArrayVec<u8, BODY_LIMIT>
-    requires { length missing.now ≤ 255 }
-    ensures octets { result.items ≡ body_octets edition (message.Resend (record { first = first; wide = talk.is_wide edition; numbers = missing.now })) }
+    requires { length missing.now ≤ OCTET_COUNT_LIMIT }
+    ensures octets { result.items ≡ body_octets edition (message.Resend
+        (record { first = first; wide = talk.is_wide edition; numbers = missing.now })) }
     ensures short { length result.items < 2 ^ 10 }
 {
     let mut body = resend_front(edition, first, missing.len() as u16);
@@ -86,7 +89,10 @@ impl Kept {
     // Counts a frame of the session's own phone.
     fn note(&mut self, header: &Header)
         requires { self.old.frames < 2 ^ 63 }
-        ensures { self.new ≡ record self.old { phone = first_phone self.old.phone header.now.phone; frames = self.old.frames + 1 } }
+        ensures { self.new ≡ record self.old {
+          phone = first_phone self.old.phone header.now.phone;
+          frames = self.old.frames + 1;
+        } }
     {
         self.frames += 1;
         if self.phone.is_none() {
@@ -107,10 +113,11 @@ impl Kept {
     fn refuse(&mut self, header: &Header, out: &mut Buffer<u8>)
         requires few { self.old.refused < 2 ^ 63 }
         requires header { IsHeader header.now }
-        requires room { 2092 ≤ out.old.spare }
+        requires room { FRAME_LIMIT ≤ out.old.spare }
         ensures state { self.new ≡ (refuses self.old header.now).state }
-        ensures out { out.new.items ≡ out.old.items ++ frame_said (refuses self.old header.now).says }
-        ensures bound { length out.new.items ≤ length out.old.items + 2092 }
+        ensures out { out.new.items
+            ≡ out.old.items ++ frame_said (refuses self.old header.now).says }
+        ensures bound { length out.new.items ≤ length out.old.items + FRAME_LIMIT }
     {
         self.refused += 1;
         self.acknowledge(header, MESSAGE_ERROR, out);
@@ -128,11 +135,14 @@ impl Kept {
         requires few { (self.old.refused < 2 ^ 63) × (self.old.dropped < 2 ^ 63) }
         requires header { IsHeader header.now }
         requires whole { header.now.packet ≡ None }
-        requires room { 2092 ≤ out.old.spare }
-        ensures came { CameTo (asked_by (Some (header.now, body.now))) (Some (header.now, body.now)) (record self.old { dropped = self.old.dropped + one_if dropped }) (refuses (record self.old { dropped = self.old.dropped + one_if dropped }) header.now) self.old self.new out.old.items out.new.items out.new.spare result }
+        requires room { FRAME_LIMIT ≤ out.old.spare }
+        ensures came { CameTo (asked_by (Some (header.now, body.now))) (Some (header.now, body.now))
+            (record self.old { dropped = self.old.dropped + one_if dropped })
+            (refuses (record self.old { dropped = self.old.dropped + one_if dropped }) header.now)
+            self.old self.new out.old.items out.new.items out.new.spare result }
         ensures few { IsOneMore (record self.old { frames = self.new.frames }) self.new }
         ensures frames { self.new.frames ≡ self.old.frames }
-        ensures bound { length out.new.items ≤ length out.old.items + 2092 }
+        ensures bound { length out.new.items ≤ length out.old.items + FRAME_LIMIT }
     {
         match request_of(alloc, header, body) {
             Ok(Some(request)) => {
@@ -159,12 +169,16 @@ impl Kept {
         requires few { (self.old.refused < 2 ^ 63) × (self.old.dropped < 2 ^ 63) }
         requires header { IsHeader header.now }
         requires some { IsSome header.now.packet }
-        requires short { length body.now ≤ 1023 }
-        requires room { 2092 ≤ out.old.spare }
-        ensures came { CameTo (asked_by (joined self.old header.now body.now)) (joined self.old header.now body.now) (takes_in self.old header.now body.now) (answers_packet (takes_in self.old header.now body.now) header.now (taken_by self.old.partial header.now body.now).fate) self.old self.new out.old.items out.new.items out.new.spare result }
+        requires short { length body.now ≤ BODY_LIMIT }
+        requires room { FRAME_LIMIT ≤ out.old.spare }
+        ensures came { CameTo (asked_by (whole_message self.old header.now body.now))
+            (whole_message self.old header.now body.now) (takes_in self.old header.now body.now)
+            (answers_packet (takes_in self.old header.now body.now) header.now
+            (taken_by self.old.partial header.now body.now).fate)
+            self.old self.new out.old.items out.new.items out.new.spare result }
         ensures few { IsOneMore (record self.old { frames = self.new.frames }) self.new }
         ensures frames { self.new.frames ≡ self.old.frames }
-        ensures bound { length out.new.items ≤ length out.old.items + 2092 }
+        ensures bound { length out.new.items ≤ length out.old.items + FRAME_LIMIT }
     {
         let Ok(taken) = self.assembler.take(header, body) else {
             return Came::Memory;
@@ -208,11 +222,16 @@ impl Kept {
     ) -> Came
         requires few { AreBelow (2 ^ 63) self.old }
         requires header { IsHeader header.now }
-        requires short { length body.now ≤ 1023 }
-        requires room { 2092 ≤ out.old.spare }
-        ensures came { CameTo (asked_by (message_of self.old header.now body.now header.now.packet)) (message_of self.old header.now body.now header.now.packet) (reads_on self.old header.now body.now header.now.packet) (quiet_own self.old header.now body.now header.now.packet) (stopped self.old (Frame header.now body.now)) self.new out.old.items out.new.items out.new.spare result }
+        requires short { length body.now ≤ BODY_LIMIT }
+        requires room { FRAME_LIMIT ≤ out.old.spare }
+        ensures came { CameTo (asked_by (message_of self.old header.now body.now header.now.packet))
+            (message_of self.old header.now body.now header.now.packet)
+            (reads_on self.old header.now body.now header.now.packet)
+            (own_turn_without_request self.old header.now body.now header.now.packet)
+            (state_at_want self.old (Frame header.now body.now)) self.new
+            out.old.items out.new.items out.new.spare result }
         ensures few { IsOneMore self.old self.new }
-        ensures bound { length out.new.items ≤ length out.old.items + 2092 }
+        ensures bound { length out.new.items ≤ length out.old.items + FRAME_LIMIT }
     {
         self.note(header);
         match header.packet {
@@ -231,11 +250,12 @@ impl Kept {
     ) -> Came
         requires few { AreBelow (2 ^ 63) self.old }
         requires header { IsHeader header.now }
-        requires short { length body.now ≤ 1023 }
-        requires room { 2092 ≤ out.old.spare }
-        ensures came { FrameCame self.old self.new header.now body.now out.old.items out.new.items out.new.spare result }
+        requires short { length body.now ≤ BODY_LIMIT }
+        requires room { FRAME_LIMIT ≤ out.old.spare }
+        ensures came { FrameCame self.old self.new header.now body.now out.old.items out.new.items
+            out.new.spare result }
         ensures few { IsOneMore self.old self.new }
-        ensures bound { length out.new.items ≤ length out.old.items + 2092 }
+        ensures bound { length out.new.items ≤ length out.old.items + FRAME_LIMIT }
     {
         if self.is_own(&header.phone) {
             return self.take_own(alloc, header, body, out);
@@ -250,9 +270,10 @@ impl Kept {
 fn read_frame(alloc: Global, stream: &Stream, kept: &mut Kept, out: &mut Buffer<u8>) -> Came
     requires few { AreBelow (2 ^ 63) kept.old }
     requires found { IsTrue stream.now.found }
-    ensures came { FrameCame kept.old kept.new (header_at stream.now.splitter.content) (body_at stream.now.splitter.content) out.old.items out.new.items out.new.spare result }
+    ensures came { FrameCame kept.old kept.new (header_at stream.now.splitter.content)
+        (body_at stream.now.splitter.content) out.old.items out.new.items out.new.spare result }
     ensures few { IsOneMore kept.old kept.new }
-    ensures bound { length out.new.items ≤ length out.old.items + 2092 }
+    ensures bound { length out.new.items ≤ length out.old.items + FRAME_LIMIT }
 {
     let Some((_, header, body)) = stream.frame() else {
         unreachable!();
@@ -278,9 +299,10 @@ pub(crate) fn read_item(
     ensures taken { result.0 ≤ length octets.now }
     ensures some { 0 < result.0 }
     ensures place { stream.new.splitter.place ≡ stream.old.splitter.place + result.0 }
-    ensures came { OctetsCame stream.old.splitter stream.new.splitter (take result.0 octets.now) kept.old kept.new out.old.items out.new.items out.new.spare result.1 }
+    ensures came { OctetsCame stream.old.splitter stream.new.splitter (take result.0 octets.now)
+        kept.old kept.new out.old.items out.new.items out.new.spare result.1 }
     ensures few { IsOneMore kept.old kept.new }
-    ensures bound { length out.new.items ≤ length out.old.items + 2092 }
+    ensures bound { length out.new.items ≤ length out.old.items + FRAME_LIMIT }
 {
     law_one_list();
     law_items();

@@ -1,7 +1,7 @@
 //! What messages ask.
 
 ghost use Rattle.std.specs.Prelude.{◌≡◌, None, Some, IfOk};
-ghost use Rattle.jt_codec.specs.Viewing.{viewed};
+ghost use Rattle.jt_codec.specs.Viewing.{message_in_view};
 ghost use Rattle.jt_session.specs.Talk.{asked_by};
 ghost use Rattle.jt_session.specs.Talk as talk;
 ghost use Rattle.jt_platform.specs.declared.request.Request.TheVariants as ask;
@@ -18,7 +18,8 @@ use std::alloc::Global;
 const MOST_IN_ONE_PIECE: usize = BODY_LIMIT;
 
 fn unit(alloc: Global, header: &Header, body: &[u8]) -> Result<Request, Memory>
-    ensures { IfOk result (λ request. request ≡ ask.Unit header.now.phone header.now.serial header.now.id body.now) }
+    ensures { IfOk result (λ request.
+        request ≡ ask.Unit header.now.phone header.now.serial header.now.id body.now) }
 {
     Ok(Request::Unit {
         phone: header.phone,
@@ -48,7 +49,12 @@ fn entrance(header: &Header, auth: Auth) -> Request
 }
 
 // What a message asks that was read. The message is given up.
-fn asked(alloc: Global, header: &Header, body: &[u8], message: Message) -> Result<Request, Memory>
+fn request_asked(
+    alloc: Global,
+    header: &Header,
+    body: &[u8],
+    message: Message,
+) -> Result<Request, Memory>
     ensures { IfOk result (λ request. request ≡ talk.request_of header.now body.now message) }
 {
     match message {
@@ -67,13 +73,13 @@ fn asked(alloc: Global, header: &Header, body: &[u8], message: Message) -> Resul
 
 // What a message asks of which a value is made, or None where its body is refused.
 #[inline(never)]
-fn asked_when_read(alloc: Global, header: &Header, body: &[u8]) -> Result<Option<Request>, Memory>
+fn request_when_read(alloc: Global, header: &Header, body: &[u8]) -> Result<Option<Request>, Memory>
     ensures { IfOk result (λ request. request ≡ asked_by (Some (header.now, body.now))) }
 {
     law_of_bodies();
     match read_body(alloc, header.edition, header.id, body) {
         Ok(message) => {
-            let request = asked(alloc, header, body, message)?;
+            let request = request_asked(alloc, header, body, message)?;
             Ok(Some(request))
         }
         Err(CodecError::Refused(_)) => Ok(None),
@@ -82,13 +88,14 @@ fn asked_when_read(alloc: Global, header: &Header, body: &[u8]) -> Result<Option
 }
 
 // What a message asks that is viewed in place.
-fn asked_in_view(
+fn request_in_view(
     alloc: Global,
     header: &Header,
     body: &[u8],
     view: MessageView,
 ) -> Result<Request, Memory>
-    ensures { IfOk result (λ request. request ≡ talk.request_of header.now body.now (viewed view.entry)) }
+    ensures { IfOk result (λ request.
+        request ≡ talk.request_of header.now body.now (message_in_view view.entry)) }
 {
     match view {
         MessageView::Position(_) | MessageView::Batch(_) => unit(alloc, header, body),
@@ -110,14 +117,14 @@ pub(crate) fn request_of(
     ensures { IfOk result (λ request. request ≡ asked_by (Some (header.now, body.now))) }
 {
     if body.len() > MOST_IN_ONE_PIECE {
-        return asked_when_read(alloc, header, body);
+        return request_when_read(alloc, header, body);
     }
     match view_message(header, body) {
         Some(Ok(view)) => {
-            let request = asked_in_view(alloc, header, body, view)?;
+            let request = request_in_view(alloc, header, body, view)?;
             Ok(Some(request))
         }
         Some(Err(_)) => Ok(None),
-        None => asked_when_read(alloc, header, body),
+        None => request_when_read(alloc, header, body),
     }
 }

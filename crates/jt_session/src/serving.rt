@@ -1,12 +1,13 @@
 //! A session over a link.
 
 ghost use Rattle.std.specs.Prelude.{◌≡◌, ◌≤◌, ◌<◌, ◌+◌, ◌*◌, ◌^◌, [], false, None, IsSome, IsSomeAnd, length, option_map};
+ghost use Rattle.jt_value.specs.declared.limits.TheConstants.{ANSWER_LIMIT};
 ghost use Rattle.jt_value.specs.Octets.{AreOctets};
 ghost use Rattle.jt_outside.specs.Link.{wire_of};
 ghost use Rattle.jt_platform.specs.Hub.{opening_of};
 ghost use Rattle.jt_session.specs.TurnLaw.{IsNew};
 ghost use Rattle.jt_session.specs.Hearing.{IsSamePass};
-ghost use Rattle.jt_session.specs.Serving.{Answers, Converses, Serves, ServesUpTo};
+ghost use Rattle.jt_session.specs.Serving.{AnswersRead, Converses, Serves, ServesUpTo};
 
 use crate::counts::Counts;
 use crate::end::{End, Fed};
@@ -18,15 +19,10 @@ use jt_platform::{Hub, Request};
 use jt_store::Keeper;
 use jt_stream::law_frames;
 use jt_turn::{Pass, Turn};
+use jt_value::limits::{INPUT_LIMIT, READ_LIMIT};
 use jt_value::{Buffer, Memory};
 use std::alloc::Global;
 use std::sync::Wait;
-
-/// The most octets that are taken from one link (this project's own).
-const MOST_OCTETS: u64 = 1 << 40;
-
-/// How many octets a read takes at most (this project's own).
-const PIECE: usize = 4096;
 
 /// After so many reads in a row that gave nothing a link is idle (this project's own).
 const MOST_QUIETS: u64 = 3;
@@ -55,12 +51,16 @@ fn answer<R: Wait, K: Link, P: Keeper>(
     requires waits { session.old.waiting ≡ None }
     requires on { session.old.over ≡ false }
     requires short { session.old.stream.place + length octets.now < 2 ^ 63 }
-    ensures answers { Answers (option_map (λ o. opening_of (P.tables o.start) (P.limit o.start) o.fleet o.secret) pass.old.opening) session.old session.new octets.now pass.old pass.new (wire_of K.inbound K.written K.faults link.old) (wire_of K.inbound K.written K.faults link.new) result.0 result.1 }
+    ensures answers { AnswersRead (option_map (λ o.
+        opening_of (P.tables o.start) (P.limit o.start) o.fleet o.secret) pass.old.opening)
+        session.old session.new octets.now pass.old pass.new
+        (wire_of K.inbound K.written K.faults link.old)
+        (wire_of K.inbound K.written K.faults link.new) result.0 result.1 }
     ensures same { IsSamePass pass.old pass.new }
     ensures on { result.1 ≡ None → session.new.over ≡ false }
     ensures waiting { session.new.waiting ≡ None }
     ensures place { session.new.stream.place ≤ session.old.stream.place + length octets.now }
-    ensures short { result.0 ≤ 4184 * length octets.now }
+    ensures short { result.0 ≤ ANSWER_LIMIT * length octets.now }
     ensures fit { AreOctets octets.now }
 {
     let mut out = Buffer::new(alloc);
@@ -91,17 +91,20 @@ fn converse<R: Wait, K: Link, P: Keeper>(
     requires opening { IsSome pass.old.opening }
     requires new { IsNew session.old }
     requires place { session.old.stream.place ≡ 0 }
-    requires octets { (1 ≤ octets) × (octets ≤ 2 ^ 40) }
-    ensures converses { Converses (option_map (λ o. opening_of (P.tables o.start) (P.limit o.start) o.fleet o.secret) pass.old.opening) octets session.old session.new pass.old pass.new (wire_of K.inbound K.written K.faults link.old) (wire_of K.inbound K.written K.faults link.new) result.read result.written result.end }
+    requires octets { (1 ≤ octets) × (octets ≤ INPUT_LIMIT) }
+    ensures converses { Converses (option_map (λ o.
+        opening_of (P.tables o.start) (P.limit o.start) o.fleet o.secret) pass.old.opening) octets
+        session.old session.new pass.old pass.new (wire_of K.inbound K.written K.faults link.old)
+        (wire_of K.inbound K.written K.faults link.new) result.read result.written result.end }
     ensures same { IsSamePass pass.old pass.new }
     ensures waiting { session.new.waiting ≡ None }
 {
-    let mut room = [0u8; PIECE];
+    let mut room = [0u8; READ_LIMIT];
     let mut read = 0;
     let mut written = 0;
     let mut quiets = 0;
     while read < octets {
-        let most = (octets - read).min(PIECE as u64) as usize;
+        let most = (octets - read).min(READ_LIMIT as u64) as usize;
         let piece = &mut room[..most];
         match link.read(piece) {
             LinkGot::Bytes(count) => {
@@ -146,8 +149,11 @@ fn serve_open<R: Wait, K: Link, P: Keeper>(
 ) -> Report
     requires turn { pass.old.turn ≡ turn.now }
     requires opening { IsSome pass.old.opening }
-    requires octets { (1 ≤ octets) × (octets ≤ 2 ^ 40) }
-    ensures serves { ServesUpTo (option_map (λ o. opening_of (P.tables o.start) (P.limit o.start) o.fleet o.secret) pass.old.opening) octets pass.old pass.new (wire_of K.inbound K.written K.faults link.old) (wire_of K.inbound K.written K.faults link.new) result }
+    requires octets { (1 ≤ octets) × (octets ≤ INPUT_LIMIT) }
+    ensures serves { ServesUpTo (option_map (λ o.
+        opening_of (P.tables o.start) (P.limit o.start) o.fleet o.secret) pass.old.opening) octets
+        pass.old pass.new (wire_of K.inbound K.written K.faults link.old)
+        (wire_of K.inbound K.written K.faults link.new) result }
     ensures same { IsSamePass pass.old pass.new }
 {
     law_frames();
@@ -195,9 +201,12 @@ pub fn serve_link_within<R: Wait, K: Link, P: Keeper>(
     requires turn { pass.turn ≡ turn.now }
     requires number { (1 ≤ pass.number) × IsSomeAnd pass.opening (λ o. pass.number ≤ o.reserved) }
     requires new { pass.mine ≡ [] }
-    requires octets { (1 ≤ octets) × (octets ≤ 2 ^ 40) }
+    requires octets { (1 ≤ octets) × (octets ≤ INPUT_LIMIT) }
     // What was taken, asked with the replies, and written, and why it ended.
-    ensures serves { Serves (option_map (λ o. opening_of (P.tables o.start) (P.limit o.start) o.fleet o.secret) pass.opening) octets pass result.1 (wire_of K.inbound K.written K.faults link.old) (wire_of K.inbound K.written K.faults link.new) result.0 }
+    ensures serves { Serves (option_map (λ o.
+        opening_of (P.tables o.start) (P.limit o.start) o.fleet o.secret) pass.opening) octets pass
+        result.1 (wire_of K.inbound K.written K.faults link.old)
+        (wire_of K.inbound K.written K.faults link.new) result.0 }
     ensures same { IsSamePass pass result.1 }
 {
     let report = serve_open(rt, alloc, link, turn, &mut pass, octets);
@@ -216,8 +225,11 @@ pub fn serve_link<R: Wait, K: Link, P: Keeper>(
     requires turn { pass.turn ≡ turn.now }
     requires number { (1 ≤ pass.number) × IsSomeAnd pass.opening (λ o. pass.number ≤ o.reserved) }
     requires new { pass.mine ≡ [] }
-    ensures serves { Serves (option_map (λ o. opening_of (P.tables o.start) (P.limit o.start) o.fleet o.secret) pass.opening) (2 ^ 40) pass result.1 (wire_of K.inbound K.written K.faults link.old) (wire_of K.inbound K.written K.faults link.new) result.0 }
+    ensures serves { Serves (option_map (λ o.
+        opening_of (P.tables o.start) (P.limit o.start) o.fleet o.secret) pass.opening) INPUT_LIMIT
+        pass result.1 (wire_of K.inbound K.written K.faults link.old)
+        (wire_of K.inbound K.written K.faults link.new) result.0 }
     ensures same { IsSamePass pass result.1 }
 {
-    serve_link_within(rt, alloc, link, turn, pass, MOST_OCTETS)
+    serve_link_within(rt, alloc, link, turn, pass, INPUT_LIMIT)
 }

@@ -1,11 +1,12 @@
 //! A session: items in, requests and answers out.
 
 ghost use Rattle.std.specs.Prelude.{◌≡◌, ◌≤◌, ◌<◌, ◌+◌, ◌*◌, ◌^◌, ◌↔◌, [], false, Some, None, IfOk, IfSome, IsSome, length, take};
+ghost use Rattle.jt_value.specs.declared.limits.TheConstants.{FRAME_LIMIT};
 ghost use Rattle.jt_escape.specs.Splitter.{StandsFor};
 ghost use Rattle.jt_session.specs.Talk.{start};
 ghost use Rattle.jt_session.specs.Replies.{HasRoomFor};
 ghost use Rattle.jt_session.specs.Sessions as sessions;
-ghost use Rattle.jt_session.specs.Sessions.{HasRoom, IsRepliedTo, LedTo, Takes, counts};
+ghost use Rattle.jt_session.specs.Sessions.{HasRoom, IsRepliedTo, LedTo, TakesUnasked, counts};
 ghost use Rattle.jt_session.specs.Steps.{GoesOn};
 ghost use Rattle.jt_session.specs.Waiting.{ends_by};
 
@@ -52,7 +53,7 @@ impl Model for Session {
 }
 
 fn fed_by(reply: &Reply) -> Fed
-    ensures { result ≡ sessions.fed_by reply.now }
+    ensures { result ≡ sessions.feed_end reply.now }
 {
     match reply {
         Reply::Fenced(other) => Fed::Stop(End::Fenced(*other)),
@@ -129,10 +130,11 @@ impl Session {
         ensures taken { result.0 ≤ length octets.now }
         ensures some { 0 < result.0 }
         ensures place { self.new.stream.place ≡ self.old.stream.place + result.0 }
-        ensures goes { GoesOn self.old self.new (take result.0 octets.now) out.old.items out.new.items }
+        ensures goes { GoesOn self.old self.new (take result.0 octets.now)
+            out.old.items out.new.items }
         ensures led { LedTo self.new result.1 }
         ensures room { HasRoom out.new.spare result.1 }
-        ensures bound { length out.new.items ≤ length out.old.items + 2092 }
+        ensures bound { length out.new.items ≤ length out.old.items + FRAME_LIMIT }
     {
         self.before = Snapshot::of(&self.kept);
         let (count, came) = read_item(self.alloc, &mut self.stream, &mut self.kept, octets, out);
@@ -162,10 +164,11 @@ impl Session {
         ensures more { result.1 ≡ Step.More → result.0 ≡ length octets.now }
         ensures place { self.new.stream.place ≡ self.old.stream.place + result.0 }
         // What was taken, asked of the items before and written.
-        ensures turns { Takes self.old self.new (take result.0 octets.now) out.old.items out.new.items }
+        ensures turns { TakesUnasked self.old self.new (take result.0 octets.now)
+            out.old.items out.new.items }
         ensures led { LedTo self.new result.1 }
         ensures room { HasRoom out.new.spare result.1 }
-        ensures bound { length out.new.items ≤ length out.old.items + 2092 * result.0 }
+        ensures bound { length out.new.items ≤ length out.old.items + FRAME_LIMIT * result.0 }
     {
         let mut taken = 0;
         while taken < octets.len() {
@@ -186,14 +189,15 @@ impl Session {
     pub fn reply(&mut self, reply: &Reply, out: &mut Buffer<u8>) -> Fed
         requires waits { IsSome self.old.waiting }
         requires on { self.old.over ≡ false }
-        requires room { 2092 ≤ out.old.spare }
+        requires room { FRAME_LIMIT ≤ out.old.spare }
         requires code { HasRoomFor reply.now }
-        ensures fed { result ≡ sessions.fed_by reply.now }
-        ensures turn { IfSome self.old.waiting (IsRepliedTo self.old self.new reply.now out.old.items out.new.items) }
+        ensures fed { result ≡ sessions.feed_end reply.now }
+        ensures turn { IfSome self.old.waiting
+            (IsRepliedTo self.old self.new reply.now out.old.items out.new.items) }
         ensures on { (result ≡ Fed.On) ↔ (self.new.over ≡ false) }
         ensures waiting { self.new.waiting ≡ None }
         ensures place { self.new.stream.place ≡ self.old.stream.place }
-        ensures bound { length out.new.items ≤ length out.old.items + 2092 }
+        ensures bound { length out.new.items ≤ length out.old.items + FRAME_LIMIT }
     {
         let Some(header) = self.waiting else {
             unreachable!();

@@ -1,12 +1,13 @@
 //! A keeper over a connection that was handed in.
 
 ghost use Rattle.std.specs.Prelude.{◌≡◌, None, true};
+ghost use Rattle.jt_value.specs.declared.limits.TheConstants.{ROW_LIMIT};
 
 use crate::answers::{added, answered, changed};
 use crate::keeping;
-use crate::rows::ROW_LIMIT;
 use jt_store::{Keeper, Registered, Row, StoreError};
 use jt_value::Phone;
+use jt_value::limits::ROW_LIMIT;
 use sqlite::{Alter, Connection};
 use std::alloc::Global;
 use std::marker::Model;
@@ -55,7 +56,7 @@ impl<S: Alter> AdoptedKeeper<Connection<S>> {
 impl<S: Alter> Keeper for AdoptedKeeper<Connection<S>> {
     ghost tables = { λ _. None };
 
-    ghost limit = { λ _. 1000000000 };
+    ghost limit = { λ _. ROW_LIMIT };
 
     ghost faults = { λ keeper. keeper };
 

@@ -1,11 +1,13 @@
 //! A vault over a connection that was handed in.
 
 ghost use Rattle.std.specs.Prelude.{◌≡◌, None, true};
+ghost use Rattle.jt_value.specs.declared.limits.TheConstants.{FIX_LIMIT};
 
 use crate::answers::{added, answered, changed};
-use crate::vaulting::{self, FIX_LIMIT};
+use crate::vaulting;
 use jt_position::Fix;
 use jt_store::{Loaded, StoreError, Unit, Vault};
+use jt_value::limits::FIX_LIMIT;
 use sqlite::{Alter, Connection};
 use std::alloc::Global;
 use std::marker::Model;
@@ -54,7 +56,7 @@ impl<S: Alter> AdoptedVault<Connection<S>> {
 impl<S: Alter> Vault for AdoptedVault<Connection<S>> {
     ghost holds = { λ _. None };
 
-    ghost limit = { λ _. 100000 };
+    ghost limit = { λ _. FIX_LIMIT };
 
     ghost faults = { λ vault. vault };
 

@@ -3,7 +3,7 @@
 ghost use Rattle.std.specs.Prelude.{◌≡◌, ◌≤◌, ◌-◌, ◌^◌, ℕ, List, None, Ok, IfOk, length, true};
 ghost use Rattle.jt_store.specs.Tables.{HasCause, IsSteady, Tables, Writes, WritesWithin};
 ghost use Rattle.jt_value.specs.Counts.{Rose};
-ghost use Rattle.jt_store.specs.Vaults.{Held, unsettled};
+ghost use Rattle.jt_store.specs.Vaults.{Held, pending_count};
 ghost use Rattle.jt_sql.specs.Untold.{IsNotFull};
 
 use crate::refused::Refused;
@@ -70,8 +70,9 @@ pub(crate) fn added(
     answer: Result<Adding, Refused>,
 ) -> Result<(), StoreError>
     requires range { faults.old ≤ 2 ^ 64 - 1 }
-    ensures tables { (key : List ℕ) → WritesWithin limit (λ (t : Tables). length (t.rows key)) None None None result }
-    ensures held { WritesWithin limit unsettled None None None result }
+    ensures tables { (key : List ℕ) →
+        WritesWithin limit (λ (t : Tables). length (t.rows key)) None None None result }
+    ensures held { WritesWithin limit pending_count None None None result }
     ensures range { faults.new ≤ 2 ^ 64 - 1 }
     ensures cause { HasCause faults.old faults.new result }
     ensures steady { IsSteady true true result }

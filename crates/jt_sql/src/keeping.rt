@@ -141,7 +141,8 @@ pub(crate) fn row_from<S: Alter>(
     phone: &Phone,
     number: u64,
 ) -> Result<Option<Row>, Refused>
-    ensures { IfOk result (λ found. IfSome found (λ row. (number ≤ row.number) × (row.number < 2 ^ 47))) }
+    ensures { IfOk result (λ found.
+        IfSome found (λ row. (number ≤ row.number) × (row.number < 2 ^ 47))) }
 {
     let mut work = begin(alloc, connection)?;
     let row = rows::from(&mut work, phone.digits.as_slice(), number)?;

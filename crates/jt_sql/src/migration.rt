@@ -6,9 +6,9 @@ ghost use Rattle.jt_store.specs.Tables.{MayAppend};
 
 use crate::phones::phone_of;
 use crate::refused::{Refused, refused_by};
-use crate::registrations;
-use crate::rows::{self, ROW_LIMIT};
+use crate::{registrations, rows};
 use jt_store::{NewPhone, OldPhone, Row, migrate};
+use jt_value::limits::ROW_LIMIT;
 use jt_value::{Edition, Phone, Seq};
 use sqlite::{Alter, Transaction, params};
 use std::alloc::Global;

@@ -4,25 +4,12 @@ ghost use Rattle.std.specs.Prelude.{◌≤◌, IfSome, IsTrue, length};
 ghost use Rattle.jt_store.specs.Vaults.{AreInOrder, IsUnit};
 
 use jt_store::Unit;
+use jt_value::ids::{BATCH, POSITION};
+use jt_value::limits::{BODY_LIMIT, CODE_LIMIT, SERIAL_WINDOW, UNIT_WINDOW};
 use jt_value::{Octets, gap};
 
-// The greatest gap of a unit from the mark, and of the serial behind it.
-const NEAR: u16 = 32_766;
-
-const FAR: u16 = 32_767;
-
-// The ids of a position and of a batch of positions.
-const POSITION: u16 = 0x0200;
-
-const BATCH: u16 = 0x0704;
-
-// The most octets of a body that fits one packet, and of a code.
-const BODY_LIMIT: usize = 1_023;
-
-const CODE_LIMIT: usize = 255;
-
 fn is_short(code: &Option<Octets>) -> bool
-    ensures { IsTrue result → IfSome code.now (λ octets. length octets ≤ 255) }
+    ensures { IsTrue result → IfSome code.now (λ octets. length octets ≤ CODE_LIMIT) }
 {
     match code {
         Some(octets) => octets.len() <= CODE_LIMIT,
@@ -45,17 +32,17 @@ pub(crate) fn are_in_order(mark: u16, next: u16, units: &[Unit], code: &Option<O
     let mut low = 1;
     for unit in units {
         let far = gap(mark, unit.serial);
-        if far < low || far > NEAR || !is_unit(unit) {
+        if far < low || far > UNIT_WINDOW || !is_unit(unit) {
             return false;
         }
         low = far + 1;
     }
     let behind = gap(mark, next);
-    low <= behind && behind <= FAR && is_short(code)
+    low <= behind && behind <= SERIAL_WINDOW && is_short(code)
 }
 
 /// Whether a unit may be formed whose serial is this one, so that it stays in order.
 pub(crate) fn may_form(mark: u16, next: u16, serial: u16) -> bool {
     let far = gap(mark, serial);
-    gap(mark, next) <= far && far <= NEAR
+    gap(mark, next) <= far && far <= UNIT_WINDOW
 }

@@ -6,12 +6,10 @@ use crate::answers::Adding;
 use crate::opening::found;
 use crate::refused::Refused;
 use jt_store::Row;
+use jt_value::limits::ROW_LIMIT;
 use jt_value::{Octets, Seq};
 use sqlite::{Alter, Transaction, params};
 use std::alloc::Global;
-
-/// How many rows a phone may have (this project's own limit).
-pub(crate) const ROW_LIMIT: u64 = 1_000_000_000;
 
 // Every number of a row is below this one, 2^47.
 const NUMBERS: u64 = 140_737_488_355_328;
@@ -107,7 +105,8 @@ pub(crate) fn from<S: Alter>(
     phone: &[u8],
     number: u64,
 ) -> Result<Option<Row>, Refused>
-    ensures { IfOk result (λ found. IfSome found (λ row. (number ≤ row.number) × (row.number < 2 ^ 47))) }
+    ensures { IfOk result (λ found.
+        IfSome found (λ row. (number ≤ row.number) × (row.number < 2 ^ 47))) }
 {
     match find(work, FROM, phone, number)? {
         Some(row) if row.number >= number => Ok(Some(row)),

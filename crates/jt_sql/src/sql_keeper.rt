@@ -1,13 +1,14 @@
 //! A keeper in a SQLite file.
 
 ghost use Rattle.std.specs.Prelude.{◌≡◌, None, true, IfOk};
+ghost use Rattle.jt_value.specs.declared.limits.TheConstants.{ROW_LIMIT};
 
 use crate::adopted_keeper::AdoptedKeeper;
 use crate::answers::{added, answered, changed};
 use crate::keeping;
 use crate::opening::{FileConnection, close, let_go, opened};
-use crate::rows::ROW_LIMIT;
 use jt_store::{Keeper, Registered, Row, StoreError};
+use jt_value::limits::ROW_LIMIT;
 use jt_value::{Memory, Phone};
 use sqlite::{Alter, Connection};
 use std::alloc::Global;
@@ -74,7 +75,7 @@ impl SqlKeeper<HostRuntime> {
 impl Keeper for SqlKeeper<HostRuntime> {
     ghost tables = { λ _. None };
 
-    ghost limit = { λ _. 1000000000 };
+    ghost limit = { λ _. ROW_LIMIT };
 
     ghost faults = { λ keeper. keeper };
 

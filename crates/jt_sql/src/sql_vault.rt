@@ -1,14 +1,16 @@
 //! A vault in a SQLite file.
 
 ghost use Rattle.std.specs.Prelude.{◌≡◌, None, true, IfOk};
+ghost use Rattle.jt_value.specs.declared.limits.TheConstants.{FIX_LIMIT};
 
 use crate::adopted_vault::AdoptedVault;
 use crate::answers::{added, answered, changed};
 use crate::opening::{FileConnection, close, let_go, opened};
-use crate::vaulting::{self, FIX_LIMIT};
+use crate::vaulting;
 use jt_position::Fix;
 use jt_store::{Loaded, StoreError, Unit, Vault};
 use jt_value::Memory;
+use jt_value::limits::FIX_LIMIT;
 use sqlite::{Alter, Connection};
 use std::alloc::Global;
 use std::marker::Model;
@@ -73,7 +75,7 @@ impl SqlVault<HostRuntime> {
 impl Vault for SqlVault<HostRuntime> {
     ghost holds = { λ _. None };
 
-    ghost limit = { λ _. 100000 };
+    ghost limit = { λ _. FIX_LIMIT };
 
     ghost faults = { λ vault. vault };
 

@@ -13,11 +13,9 @@ use crate::{fixes, units};
 use jt_position::Fix;
 use jt_store::{Loaded, Unit};
 use jt_value::Seq;
+use jt_value::limits::FIX_LIMIT;
 use sqlite::{Alter, Connection, Transaction};
 use std::alloc::Global;
-
-/// How many fixes may be recorded and not accepted (this project's own limit).
-pub(crate) const FIX_LIMIT: u64 = 100_000;
 
 const VERSION: i64 = 1;
 

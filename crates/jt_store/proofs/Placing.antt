@@ -9,16 +9,16 @@ use Rattle.jt_value.specs.declared.phone.Edition.TheVariants.{E2013, E2019}
 use Rattle.jt_store.specs.declared.migrating.OldPhone.{OldPhone}
 use Rattle.jt_store.specs.declared.migrating.Places.{Places}
 use Rattle.jt_store.specs.Migrating.{found, is_edition, is_of}
-use Rattle.jt_store.specs.Places.{first_place, noted, places_in, some_places, standing}
+use Rattle.jt_store.specs.Places.{first_place, with_row_place, places_in, some_places, standing}
 use Rattle.jt_store.proofs.Pairs.{same_octets}
 
 -- the places under one key change, and the others stay
-pub noted_there : (key q : List ℕ) (old : List ℕ → Option Places) (edition : Edition) (place : ℕ) (now : Places) → now ≡ noted (old key) edition place
-    → (new : Option Places) → new ≡ cond (bytes_eq key q) (Some now) (old q) → new ≡ (if same_key key q then Some (noted (old q) edition place) else old q)
+pub noted_there : (key q : List ℕ) (old : List ℕ → Option Places) (edition : Edition) (place : ℕ) (now : Places) → now ≡ with_row_place (old key) edition place
+    → (new : Option Places) → new ≡ cond (bytes_eq key q) (Some now) (old q) → new ≡ (if same_key key q then Some (with_row_place (old q) edition place) else old q)
 noted_there key q old edition place now is new e = e ∙ by_key (bytes_eq key q) refl
   where
-    by_key : (b : Bool) → bytes_eq key q ≡ b → cond b (Some now) (old q) ≡ (if b then Some (noted (old q) edition place) else old q)
-    by_key true same = ap Some (is ∙ ap (λ k. noted (old k) edition place) (same_octets key q same))
+    by_key : (b : Bool) → bytes_eq key q ≡ b → cond b (Some now) (old q) ≡ (if b then Some (with_row_place (old q) edition place) else old q)
+    by_key true same = ap Some (is ∙ ap (λ k. with_row_place (old k) edition place) (same_octets key q same))
     by_key false other = refl
 
 -- ---- one phone more
@@ -41,7 +41,7 @@ first_push edition key (x ∷ front) o = later (is_of edition key x) (first_push
     later false more = ap (option_map (λ n. n + 1)) more ∙ by_place (first_place edition key front) (is_of edition key o)
 
 both_push : (a b : Option ℕ) (n : ℕ) (e : Edition) (same : Bool)
-    → some_places (option_or a (if is_edition E2013 e && same then Some n else None)) (option_or b (if is_edition E2019 e && same then Some n else None)) ≡ (if same then Some (noted (some_places a b) e n) else some_places a b)
+    → some_places (option_or a (if is_edition E2013 e && same then Some n else None)) (option_or b (if is_edition E2019 e && same then Some n else None)) ≡ (if same then Some (with_row_place (some_places a b) e n) else some_places a b)
 both_push None None n E2013 true = refl
 both_push None None n E2013 false = refl
 both_push None None n E2019 true = refl
@@ -59,7 +59,7 @@ both_push (Some x) (Some y) n E2013 false = refl
 both_push (Some x) (Some y) n E2019 true = refl
 both_push (Some x) (Some y) n E2019 false = refl
 
-pub places_push : (front : List OldPhone) (o : OldPhone) (q : List ℕ) → places_in (front ++ o ∷ []) q ≡ (if same_key (key_of o.phone) q then Some (noted (places_in front q) o.phone.edition (length front)) else places_in front q)
+pub places_push : (front : List OldPhone) (o : OldPhone) (q : List ℕ) → places_in (front ++ o ∷ []) q ≡ (if same_key (key_of o.phone) q then Some (with_row_place (places_in front q) o.phone.edition (length front)) else places_in front q)
 places_push front o q =
     ap (λ p. some_places p (first_place E2019 q (front ++ o ∷ []))) (first_push E2013 q front o)
     ∙ ap (λ p. some_places (option_or (first_place E2013 q front) (if is_of E2013 q o then Some (length front) else None)) p) (first_push E2019 q front o)

@@ -10,7 +10,7 @@ use Rattle.jt_value.specs.Serials.{gap_of, serial_of}
 use Rattle.jt_store.specs.declared.unit.Unit.{Unit as OneUnit}
 use Rattle.jt_store.specs.Memory.{IsStock}
 use Rattle.jt_position.specs.Fixes.{fixes_of}
-use Rattle.jt_store.specs.Vaults.{Held, Forms, AreInOrder, Gaps, IsUnit, IsWhole, MayCommit, fixes_carried, fixes_in_units, formed, gap_after, held_by, last_serial, pending}
+use Rattle.jt_store.specs.Vaults.{Held, Forms, AreInOrder, Gaps, IsUnit, IsWhole, MayCommit, fixes_carried, fixes_in_units, formed_count, gap_after, held_by, last_serial, pending}
 
 -- ---- gaps
 
@@ -83,13 +83,13 @@ last_serial-push mark [] u = refl
 last_serial-push mark (x ∷ units) u = last_serial-push x.serial units u
 
 -- one unit more, of the next fixes
-fixes_formed : (h : Held) (u : OneUnit) → fixes_in_units h.units ≡ take (formed h) h.recorded → fixes_of (u.id, u.body) ≡ take u.count (drop (formed h) h.recorded)
-    → fixes_in_units (h.units ++ u ∷ []) ≡ take (formed h + u.count) h.recorded
+fixes_formed : (h : Held) (u : OneUnit) → fixes_in_units h.units ≡ take (formed_count h) h.recorded → fixes_of (u.id, u.body) ≡ take u.count (drop (formed_count h) h.recorded)
+    → fixes_in_units (h.units ++ u ∷ []) ≡ take (formed_count h + u.count) h.recorded
 fixes_formed h u are is =
     flat_map-append (λ (x : OneUnit). fixes_of (x.id, x.body)) h.units (u ∷ [])
     ∙ ap (λ (xs : List (List ℕ)). xs ++ (fixes_of (u.id, u.body) ++ [])) are
-    ∙ ap (λ (xs : List (List ℕ)). take (formed h) h.recorded ++ xs) (append-nil (fixes_of (u.id, u.body)) ∙ is)
-    ∙ sym (take-add (formed h) u.count h.recorded)
+    ∙ ap (λ (xs : List (List ℕ)). take (formed_count h) h.recorded ++ xs) (append-nil (fixes_of (u.id, u.body)) ∙ is)
+    ∙ sym (take-add (formed_count h) u.count h.recorded)
 
 pub stock_formed : (h : Held) (in_units accepted limit : ℕ) (u : OneUnit) → IsStock h in_units accepted limit → h.mark < 65536 → IsUnit u → MayCommit h u → IsStock (held_by (Forms u) h) (in_units + u.count) accepted limit
 stock_formed h in_units accepted limit u is m one may =

@@ -3,6 +3,7 @@ use Rattle.std.specs.Prelude.{ℕ, ◌≡◌, ◌≤◌, ◌↔◌, List, Option
 use Rattle.std.specs.Map.{lookup}
 use Rattle.std.specs.Option.{unwrap_or}
 use Rattle.std.specs.Str.{bytes_eq}
+use Rattle.jt_value.specs.declared.limits.TheConstants.{FIX_LIMIT}
 use Rattle.jt_value.specs.declared.phone.Phone.{Phone}
 use Rattle.jt_value.specs.declared.phone.Edition.TheVariants.{E2019}
 use Rattle.jt_store.specs.declared.calls.Calls.{Calls}
@@ -12,14 +13,14 @@ use Rattle.jt_store.specs.declared.row.Registered.{Registered}
 use Rattle.jt_store.specs.declared.row.Row.{Row}
 use Rattle.jt_store.specs.Tables.{Tables}
 use Rattle.jt_value.specs.Counts.{counted}
-use Rattle.jt_store.specs.Vaults.{Held, IsWhole, formed, settled, unsettled}
+use Rattle.jt_store.specs.Vaults.{Held, IsWhole, formed_count, accepted_count, pending_count}
 
 -- what a list of pairs has under some octets
 abbrev pub under : {T : Type 0} → List (List ℕ × T) → List ℕ → Option T
 under pairs key = lookup (bytes_eq key) pairs
 
 -- what a keeper in memory keeps: registrations and rows by the digits of phones, the limit, and which calls fail
-pub record Kept : Type 0 where
+pub record KeeperState : Type 0 where
   pub registered : List (List ℕ × Registered)
   pub rows : List (List ℕ × List Row)
   pub limit : ℕ
@@ -29,7 +30,7 @@ pub record Kept : Type 0 where
 abbrev pub list_under : {T : Type 0} → List (List ℕ × List T) → List ℕ → List T
 list_under pairs key = unwrap_or (under pairs key) []
 
-abbrev pub tables_of : Kept → Tables
+abbrev pub tables_of : KeeperState → Tables
 tables_of kept = record { registered = under kept.registered; rows = list_under kept.rows }
 
 -- the phone of 2019 with these digits
@@ -56,8 +57,8 @@ pub record Stock : Type 0 where
 
 -- what stays true of it, with how many fixes are in units and how many are accepted
 pub record IsStock (h : Held) (in_units accepted limit : ℕ) : Type 0 where
-  pub limit_fits : limit ≤ 100000
+  pub limit_fits : limit ≤ FIX_LIMIT
   pub whole : IsWhole h
-  pub in_units_is : in_units ≡ formed h
-  pub accepted_is : accepted ≡ settled h
-  pub few : unsettled h ≤ limit
+  pub in_units_is : in_units ≡ formed_count h
+  pub accepted_is : accepted ≡ accepted_count h
+  pub few : pending_count h ≤ limit

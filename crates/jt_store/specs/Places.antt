@@ -38,9 +38,9 @@ later_of None = None
 later_of (Some p) = p.later
 
 -- one place more
-abbrev pub noted : Option Places → Edition → ℕ → Places
-noted places E2013 n = record { earlier = option_or (earlier_of places) (Some n); later = later_of places }
-noted places E2019 n = record { earlier = earlier_of places; later = option_or (later_of places) (Some n) }
+abbrev pub with_row_place : Option Places → Edition → ℕ → Places
+with_row_place places E2013 n = record { earlier = option_or (earlier_of places) (Some n); later = later_of places }
+with_row_place places E2019 n = record { earlier = earlier_of places; later = option_or (later_of places) (Some n) }
 
 abbrev pub standing : List OldPhone → Option ℕ → Option OldPhone
 standing old None = None

@@ -15,9 +15,9 @@ pub record Tables : Type 0 where
   pub rows : List ℕ → List Row
 
 -- a fact of what a store holds, where it tells it
-abbrev pub Told : {H : Type 0} → Option H → (H → Type 0) → Type 0
-Told None P = Unit {0}
-Told (Some held) P = P held
+abbrev pub WhereKnown : {H : Type 0} → Option H → (H → Type 0) → Type 0
+WhereKnown None P = Unit {0}
+WhereKnown (Some held) P = P held
 
 -- ---- rows
 
@@ -120,7 +120,7 @@ IsSteady before now result = before ≡ false → (now ≡ false) × (IsErrOf re
 
 -- a call that reads: what is held stays, and the answer is so where it is told
 abbrev pub Reads : {H T : Type 0} → Option H → Option H → (H → T → Type 0) → Result T StoreError → Type 0
-Reads old now P (Ok x) = (now ≡ old) × Told old (λ held. P held x)
+Reads old now P (Ok x) = (now ≡ old) × WhereKnown old (λ held. P held x)
 Reads old now P (Err Failed) = now ≡ old
 Reads old now P (Err Memory) = now ≡ old
 Reads old now P (Err (Full l)) = ⊥
@@ -134,10 +134,10 @@ Writes old next now (Err (Full l)) = ⊥
 
 -- a call that writes where fewer than the limit are held: Full comes exactly where as many are
 abbrev pub WritesWithin : {H T : Type 0} → ℕ → (H → ℕ) → Option H → Option H → Option H → Result T StoreError → Type 0
-WritesWithin limit count old next now (Ok x) = (now ≡ next) × Told old (λ held. count held < limit)
+WritesWithin limit count old next now (Ok x) = (now ≡ next) × WhereKnown old (λ held. count held < limit)
 WritesWithin limit count old next now (Err Failed) = now ≡ old
 WritesWithin limit count old next now (Err Memory) = now ≡ old
-WritesWithin limit count old next now (Err (Full l)) = (now ≡ old) × (l ≡ limit) × Told old (λ held. count held ≡ limit)
+WritesWithin limit count old next now (Err (Full l)) = (now ≡ old) × (l ≡ limit) × WhereKnown old (λ held. count held ≡ limit)
 
 -- a call that puts a row at the end of a phone's
 abbrev pub Appends : {T : Type 0} → ℕ → List ℕ → Row → Option Tables → Option Tables → Result T StoreError → Type 0

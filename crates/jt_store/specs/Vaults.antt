@@ -3,7 +3,7 @@ use Rattle.std.specs.Prelude.{ℕ, ◌≡◌, ◌+◌, ◌-◌, ◌≤◌, ◌�
 use denote.Bor.{Bor}
 use Rattle.jt_value.specs.Serials.{gap_of, serial_of}
 use Rattle.jt_value.specs.declared.ids.TheConstants.{POSITION, BATCH}
-use Rattle.jt_value.specs.declared.limits.TheConstants.{BODY_LIMIT, CODE_LIMIT, UNIT_WINDOW}
+use Rattle.jt_value.specs.declared.limits.TheConstants.{BODY_LIMIT, CODE_LIMIT, NO_MARK, UNIT_WINDOW}
 use Rattle.jt_position.specs.Fixes.{fixes_of}
 use Rattle.jt_store.specs.declared.unit.Unit.{Unit as OneUnit}
 use Rattle.jt_store.specs.declared.unit.Loaded.{Loaded}
@@ -25,15 +25,15 @@ abbrev pub fixes_carried : List OneUnit → ℕ
 fixes_carried units = sum_by (λ u. u.count) units
 
 -- how many fixes are in units
-abbrev pub formed : Held → ℕ
-formed h = fixes_carried h.units
+abbrev pub formed_count : Held → ℕ
+formed_count h = fixes_carried h.units
 
 -- how many fixes are accepted, and how many are not
-abbrev pub settled : Held → ℕ
-settled h = fixes_carried (take h.accepted h.units)
+abbrev pub accepted_count : Held → ℕ
+accepted_count h = fixes_carried (take h.accepted h.units)
 
-abbrev pub unsettled : Held → ℕ
-unsettled h = length h.recorded - settled h
+abbrev pub pending_count : Held → ℕ
+pending_count h = length h.recorded - accepted_count h
 
 -- the units that are not accepted
 abbrev pub pending : Held → List OneUnit
@@ -75,21 +75,21 @@ fixes_in_units units = flat_map (λ (u : OneUnit). fixes_of (u.id, u.body)) unit
 -- is in order; and the units carry the first fixes recorded, as many as they count.
 pub record IsWhole (h : Held) : Type 0 where
   pub known : h.accepted ≤ length h.units
-  pub mark : h.mark ≡ last_serial 65535 (take h.accepted h.units)
+  pub mark : h.mark ≡ last_serial NO_MARK (take h.accepted h.units)
   pub order : AreInOrder h.mark h.next (pending h) h.code
-  pub enough : formed h ≤ length h.recorded
-  pub fixes : fixes_in_units h.units ≡ take (formed h) h.recorded
+  pub enough : formed_count h ≤ length h.recorded
+  pub fixes : fixes_in_units h.units ≡ take (formed_count h) h.recorded
 
 -- what a vault loads: the fixes that are in no unit, the units that are not accepted, mark, next and code, and how many fixes are
 -- recorded and accepted
 pub record IsLoaded (h : Held) (l : Loaded) : Type 0 where
-  pub fixes : l.fixes ≡ drop (formed h) h.recorded
+  pub fixes : l.fixes ≡ drop (formed_count h) h.recorded
   pub units : l.units ≡ pending h
   pub mark : l.mark ≡ h.mark
   pub next : l.next ≡ h.next
   pub code : l.code ≡ h.code
   pub recorded : l.recorded ≡ length h.recorded
-  pub accepted : l.accepted ≡ settled h
+  pub accepted : l.accepted ≡ accepted_count h
 
 -- a change of a vault
 pub data Change : Type 0 where
@@ -121,8 +121,8 @@ octets_of (Some code) = Some code.now
 
 -- a unit that may be formed: it carries the next fixes in order, and its serial is the next or a later one near enough to the mark
 pub record MayCommit (h : Held) (u : OneUnit) : Type 0 where
-  pub enough : formed h + u.count ≤ length h.recorded
-  pub fixes : fixes_of (u.id, u.body) ≡ take u.count (drop (formed h) h.recorded)
+  pub enough : formed_count h + u.count ≤ length h.recorded
+  pub fixes : fixes_of (u.id, u.body) ≡ take u.count (drop (formed_count h) h.recorded)
   pub from : gap_of h.mark h.next ≤ gap_of h.mark u.serial
   pub near : gap_of h.mark u.serial ≤ UNIT_WINDOW
 
@@ -132,4 +132,4 @@ Changes change old now result = Writes old (changed change old) now result
 
 -- a call that records a fix: Full comes exactly where as many as the limit are not accepted
 abbrev pub Records : {T : Type 0} → ℕ → List ℕ → Option Held → Option Held → Result T StoreError → Type 0
-Records limit fix old now result = WritesWithin limit unsettled old (changed (Notes fix) old) now result
+Records limit fix old now result = WritesWithin limit pending_count old (changed (Notes fix) old) now result

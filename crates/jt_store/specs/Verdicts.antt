@@ -42,6 +42,6 @@ pub record VerdictsNear : Type 0 where
   -- a number at most 32,766 above the last row's is new
   pub new : (rows : List Row) (last n id : ℕ) (body : List ℕ) (v : Verdict) → last_of rows ≡ Some last → last < n → n ≤ last + UNIT_WINDOW → IsVerdictOn rows (serial_of n) id body v → v ≡ New n
   -- a row at most 32,765 below the last one is repeated by a unit with its id and body
-  pub again : (rows : List Row) (last n id : ℕ) (body : List ℕ) (v : Verdict) → last_of rows ≡ Some last → n ≤ last → last ≤ n + 32765 → IsRow rows (row_of n id body) → IsVerdictOn rows (serial_of n) id body v → v ≡ Repeat n
+  pub again : (rows : List Row) (last n id : ℕ) (body : List ℕ) (v : Verdict) → last_of rows ≡ Some last → n ≤ last → last ≤ n + (UNIT_WINDOW - 1) → IsRow rows (row_of n id body) → IsVerdictOn rows (serial_of n) id body v → v ≡ Repeat n
   -- the units of a terminal have numbers that rise
   pub rise : (units : List OneUnit) (last : ℕ) → Rises (last + 1) (numbered (Some last) units)

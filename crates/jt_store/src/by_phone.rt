@@ -49,7 +49,8 @@ impl<T> ByPhone<T> {
     where
         T: Drop,
         ensures was { IfOk result (λ was. was ≡ under self.old key) }
-        ensures ok { OnOk result ((q : List ℕ) → under self.new q ≡ (if same_key key q then Some value else under self.old q)) }
+        ensures ok { OnOk result ((q : List ℕ) →
+            under self.new q ≡ (if same_key key q then Some value else under self.old q)) }
         ensures err { OnErr result (self.new ≡ self.old) }
     {
         let was = self.values.insert(Digits::of(&key), value)?;
@@ -59,7 +60,8 @@ impl<T> ByPhone<T> {
     /// Takes the value of a phone out.
     pub fn remove(&mut self, key: &Key) -> Option<T>
         ensures value { result ≡ under self.old key.now }
-        ensures others { (q : List ℕ) → under self.new q ≡ (if same_key key.now q then None else under self.old q) }
+        ensures others { (q : List ℕ) →
+            under self.new q ≡ (if same_key key.now q then None else under self.old q) }
     {
         self.values.remove(&Digits::of(key))
     }
@@ -70,7 +72,8 @@ impl<T> ByPhone<Seq<T>> {
     pub fn push(&mut self, alloc: Global, key: Key, item: T) -> Result<(), Memory>
     where
         T: Drop,
-        ensures ok { OnOk result ((q : List ℕ) → list_under self.new q ≡ list_under self.old q ++ (if same_key key q then item ∷ [] else [])) }
+        ensures ok { OnOk result ((q : List ℕ) → list_under self.new q
+            ≡ list_under self.old q ++ (if same_key key q then item ∷ [] else [])) }
         ensures err { OnErr result ((q : List ℕ) → list_under self.new q ≡ list_under self.old q) }
     {
         let digits = Digits::of(&key);

@@ -31,8 +31,10 @@ impl Calls {
 
     /// Counts a call. False where it is to fail, and then the fault is counted too.
     pub fn goes(&mut self) -> bool
-        ensures count { (self.new.count ≡ counted self.old.count) × (self.new.failing ≡ self.old.failing) }
-        ensures faults { self.new.faults ≡ (if result then self.old.faults else counted self.old.faults) }
+        ensures count { (self.new.count ≡ counted self.old.count)
+            × (self.new.failing ≡ self.old.failing) }
+        ensures faults { self.new.faults
+            ≡ (if result then self.old.faults else counted self.old.faults) }
         ensures later { self.old.faults ≤ self.new.faults }
         ensures rose { result ≡ false → Rose self.old.faults self.new.faults }
         ensures failed { (result ≡ false) ↔ Contains self.old.failing (counted self.old.count) }

@@ -1,8 +1,9 @@
 //! What keeps a platform's registrations and rows.
 
 ghost use Rattle.std.specs.Prelude.{◌≡◌, ◌<◌, ◌≤◌, ◌^◌, ℕ, Bool, None, Some, Option, IfOk, IfSome, OnOk};
+ghost use Rattle.jt_value.specs.declared.limits.TheConstants.{ROW_LIMIT};
 ghost use Rattle.jt_value.specs.Sameness.{key_of};
-ghost use Rattle.jt_store.specs.Tables.{Tables, Told, IsTrimmed, MayRegister, MayAppend, AreRows, AreNamedOnce, last_of, Finds, FindsFrom, plates, terminals, IsOwner, row_added, registered_set, Reads, Writes, Appends, HasCause, IsSteady};
+ghost use Rattle.jt_store.specs.Tables.{Tables, WhereKnown, IsTrimmed, MayRegister, MayAppend, AreRows, AreNamedOnce, last_of, Finds, FindsFrom, plates, terminals, IsOwner, row_added, registered_set, Reads, Writes, Appends, HasCause, IsSteady};
 
 use crate::error::StoreError;
 use crate::row::{Registered, Row};
@@ -28,19 +29,23 @@ pub trait Keeper {
 
     /// What the phone is registered with. None exactly where it is not registered.
     fn registered(&mut self, alloc: Global, phone: &Phone) -> Result<Option<Registered>, StoreError>
-        ensures answer { Reads (tables self.old) (tables self.new) (λ t found. found ≡ t.registered (key_of phone.now)) result }
-        ensures names { OnOk result (Told (tables self.old) (λ t. AreNamedOnce t.registered)) }
+        ensures answer { Reads (tables self.old) (tables self.new)
+            (λ t found. found ≡ t.registered (key_of phone.now)) result }
+        ensures names { OnOk result
+            (WhereKnown (tables self.old) (λ t. AreNamedOnce t.registered)) }
         ensures limit { limit self.new ≡ limit self.old }
-        ensures bound { limit self.old ≤ 1000000000 }
+        ensures bound { limit self.old ≤ ROW_LIMIT }
         ensures cause { HasCause (faults self.old) (faults self.new) result }
         ensures steady { IsSteady (may_fail self.old) (may_fail self.new) result };
 
     /// The phone of 2019 with the digits of the one that is registered with this plate. None exactly where none is.
     fn plate_owner(&mut self, alloc: Global, plate: &[u8]) -> Result<Option<Phone>, StoreError>
-        ensures answer { Reads (tables self.old) (tables self.new) (λ t found. IsOwner plates t.registered plate.now found) result }
-        ensures names { OnOk result (Told (tables self.old) (λ t. AreNamedOnce t.registered)) }
+        ensures answer { Reads (tables self.old) (tables self.new)
+            (λ t found. IsOwner plates t.registered plate.now found) result }
+        ensures names { OnOk result
+            (WhereKnown (tables self.old) (λ t. AreNamedOnce t.registered)) }
         ensures limit { limit self.new ≡ limit self.old }
-        ensures bound { limit self.old ≤ 1000000000 }
+        ensures bound { limit self.old ≤ ROW_LIMIT }
         ensures cause { HasCause (faults self.old) (faults self.new) result }
         ensures steady { IsSteady (may_fail self.old) (may_fail self.new) result };
 
@@ -50,10 +55,12 @@ pub trait Keeper {
         alloc: Global,
         terminal: &[u8],
     ) -> Result<Option<Phone>, StoreError>
-        ensures answer { Reads (tables self.old) (tables self.new) (λ t found. IsOwner terminals t.registered terminal.now found) result }
-        ensures names { OnOk result (Told (tables self.old) (λ t. AreNamedOnce t.registered)) }
+        ensures answer { Reads (tables self.old) (tables self.new)
+            (λ t found. IsOwner terminals t.registered terminal.now found) result }
+        ensures names { OnOk result
+            (WhereKnown (tables self.old) (λ t. AreNamedOnce t.registered)) }
         ensures limit { limit self.new ≡ limit self.old }
-        ensures bound { limit self.old ≤ 1000000000 }
+        ensures bound { limit self.old ≤ ROW_LIMIT }
         ensures cause { HasCause (faults self.old) (faults self.new) result }
         ensures steady { IsSteady (may_fail self.old) (may_fail self.new) result };
 
@@ -66,28 +73,34 @@ pub trait Keeper {
         registered: &Registered,
     ) -> Result<(), StoreError>
         requires trimmed { IsTrimmed registered.now.terminal }
-        requires may { Told (tables self.old) (λ t. MayRegister t.registered (key_of phone.now) registered.now) }
-        ensures answer { Writes (tables self.old) (registered_set (key_of phone.now) (Some registered.now) (tables self.old)) (tables self.new) result }
+        requires may { WhereKnown (tables self.old) (λ t.
+            MayRegister t.registered (key_of phone.now) registered.now) }
+        ensures answer { Writes (tables self.old)
+            (registered_set (key_of phone.now) (Some registered.now) (tables self.old))
+            (tables self.new) result }
         ensures limit { limit self.new ≡ limit self.old }
-        ensures bound { limit self.old ≤ 1000000000 }
+        ensures bound { limit self.old ≤ ROW_LIMIT }
         ensures cause { HasCause (faults self.old) (faults self.new) result }
         ensures steady { IsSteady (may_fail self.old) (may_fail self.new) result };
 
     /// Removes the phone's registration, if there is one. Its rows stay.
     fn unregister(&mut self, alloc: Global, phone: &Phone) -> Result<(), StoreError>
-        ensures answer { Writes (tables self.old) (registered_set (key_of phone.now) None (tables self.old)) (tables self.new) result }
+        ensures answer { Writes (tables self.old)
+            (registered_set (key_of phone.now) None (tables self.old)) (tables self.new) result }
         ensures limit { limit self.new ≡ limit self.old }
-        ensures bound { limit self.old ≤ 1000000000 }
+        ensures bound { limit self.old ≤ ROW_LIMIT }
         ensures cause { HasCause (faults self.old) (faults self.new) result }
         ensures steady { IsSteady (may_fail self.old) (may_fail self.new) result };
 
     /// The number of the phone's last row. None exactly where it has no row.
     fn last(&mut self, alloc: Global, phone: &Phone) -> Result<Option<u64>, StoreError>
-        ensures answer { Reads (tables self.old) (tables self.new) (λ t last. last ≡ last_of (t.rows (key_of phone.now))) result }
+        ensures answer { Reads (tables self.old) (tables self.new)
+            (λ t last. last ≡ last_of (t.rows (key_of phone.now))) result }
         ensures low { IfOk result (λ last. IfSome last (λ n. n < 2 ^ 47)) }
-        ensures rows { Told (tables self.old) (λ t. AreRows (limit self.old) (t.rows (key_of phone.now))) }
+        ensures rows { WhereKnown (tables self.old) (λ t.
+            AreRows (limit self.old) (t.rows (key_of phone.now))) }
         ensures limit { limit self.new ≡ limit self.old }
-        ensures bound { limit self.old ≤ 1000000000 }
+        ensures bound { limit self.old ≤ ROW_LIMIT }
         ensures cause { HasCause (faults self.old) (faults self.new) result }
         ensures steady { IsSteady (may_fail self.old) (may_fail self.new) result };
 
@@ -98,10 +111,12 @@ pub trait Keeper {
         phone: &Phone,
         number: u64,
     ) -> Result<Option<Row>, StoreError>
-        ensures answer { Reads (tables self.old) (tables self.new) (λ t found. Finds (t.rows (key_of phone.now)) number found) result }
-        ensures rows { Told (tables self.old) (λ t. AreRows (limit self.old) (t.rows (key_of phone.now))) }
+        ensures answer { Reads (tables self.old) (tables self.new)
+            (λ t found. Finds (t.rows (key_of phone.now)) number found) result }
+        ensures rows { WhereKnown (tables self.old) (λ t.
+            AreRows (limit self.old) (t.rows (key_of phone.now))) }
         ensures limit { limit self.new ≡ limit self.old }
-        ensures bound { limit self.old ≤ 1000000000 }
+        ensures bound { limit self.old ≤ ROW_LIMIT }
         ensures cause { HasCause (faults self.old) (faults self.new) result }
         ensures steady { IsSteady (may_fail self.old) (may_fail self.new) result };
 
@@ -112,21 +127,26 @@ pub trait Keeper {
         phone: &Phone,
         number: u64,
     ) -> Result<Option<Row>, StoreError>
-        ensures answer { Reads (tables self.old) (tables self.new) (λ t found. FindsFrom (t.rows (key_of phone.now)) number found) result }
-        ensures within { IfOk result (λ found. IfSome found (λ row. (number ≤ row.number) × (row.number < 2 ^ 47))) }
-        ensures rows { Told (tables self.old) (λ t. AreRows (limit self.old) (t.rows (key_of phone.now))) }
+        ensures answer { Reads (tables self.old) (tables self.new)
+            (λ t found. FindsFrom (t.rows (key_of phone.now)) number found) result }
+        ensures within { IfOk result (λ found.
+            IfSome found (λ row. (number ≤ row.number) × (row.number < 2 ^ 47))) }
+        ensures rows { WhereKnown (tables self.old) (λ t.
+            AreRows (limit self.old) (t.rows (key_of phone.now))) }
         ensures limit { limit self.new ≡ limit self.old }
-        ensures bound { limit self.old ≤ 1000000000 }
+        ensures bound { limit self.old ≤ ROW_LIMIT }
         ensures cause { HasCause (faults self.old) (faults self.new) result }
         ensures steady { IsSteady (may_fail self.old) (may_fail self.new) result };
 
     /// Puts a row at the end of the phone's. The first number is below 65,536, each other 1 to 131,071 above the last.
     /// Full comes exactly where the phone has as many rows as the limit, and has the limit.
     fn append(&mut self, alloc: Global, phone: &Phone, row: &Row) -> Result<(), StoreError>
-        requires { Told (tables self.old) (λ t. MayAppend (last_of (t.rows (key_of phone.now))) row.now.number) }
-        ensures answer { Appends (limit self.old) (key_of phone.now) row.now (tables self.old) (tables self.new) result }
+        requires { WhereKnown (tables self.old) (λ t.
+            MayAppend (last_of (t.rows (key_of phone.now))) row.now.number) }
+        ensures answer { Appends (limit self.old) (key_of phone.now) row.now
+            (tables self.old) (tables self.new) result }
         ensures limit { limit self.new ≡ limit self.old }
-        ensures bound { limit self.old ≤ 1000000000 }
+        ensures bound { limit self.old ≤ ROW_LIMIT }
         ensures cause { HasCause (faults self.old) (faults self.new) result }
         ensures steady { IsSteady (may_fail self.old) (may_fail self.new) result };
 }

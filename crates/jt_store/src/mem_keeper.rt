@@ -1,6 +1,7 @@
 //! A keeper in memory, with a list of the calls that fail.
 
 ghost use Rattle.std.specs.Prelude.{◌≡◌, ◌<◌, ◌≤◌, ◌^◌, None, Some, [], IfOk, IfSome, OnOk, option_copied};
+ghost use Rattle.jt_value.specs.declared.limits.TheConstants.{ROW_LIMIT};
 ghost use Rattle.jt_value.specs.Sameness.{key_of};
 ghost use Rattle.jt_store.specs.Memory.{is_listed, list_under, owner_of, tables_of, InOrder};
 ghost use Rattle.jt_store.specs.Tables.{AreNamedOnce, AreRows, Appends, Finds, FindsFrom, HasCause, IsOwner, IsSteady, IsTrimmed, MayAppend, MayRegister, Reads, Writes, last_of, plates, registered_set, terminals};
@@ -27,22 +28,28 @@ pub struct MemKeeper {
 
 impl Model for MemKeeper {
     ghost use Rattle.std.specs.Prelude.{◌≤◌, List, ℕ};
-    ghost use Rattle.jt_store.specs.Memory.{list_under, Kept};
+    ghost use Rattle.jt_store.specs.Memory.{list_under, KeeperState};
     ghost use Rattle.jt_store.specs.Tables.{AreRows};
+    ghost use Rattle.jt_value.specs.declared.limits.TheConstants.{ROW_LIMIT};
 
-    ghost Value = { Kept };
+    ghost Value = { KeeperState };
 
     ghost view = { λ keeper. record { registered = keeper.registry; rows = keeper.rows; limit = keeper.limit; calls = keeper.calls } };
 
-    ghost invariant = { λ keeper. (keeper.limit ≤ 1000000000) × ((key : List ℕ) → AreRows keeper.limit (list_under keeper.rows key)) };
+    ghost invariant = { λ keeper. (keeper.limit ≤ ROW_LIMIT) × ((key : List ℕ) → AreRows keeper.limit (list_under keeper.rows key)) };
 }
 
 impl MemKeeper {
     /// Nothing kept, and no memory taken. A phone may have so many rows, at most 1,000,000,000. `failing` has the
     /// numbers of the calls that fail; the number stays at 2^64 - 1 once it is there.
     pub fn new(alloc: Global, limit: u64, failing: Seq<u64>) -> MemKeeper
-        requires { limit ≤ 1000000000 }
-        ensures { result ≡ record { registered = []; rows = []; limit = limit; calls = record { failing = failing; count = 0; faults = 0 } } }
+        requires { limit ≤ ROW_LIMIT }
+        ensures { result ≡ record {
+          registered = [];
+          rows = [];
+          limit = limit;
+          calls = record { failing = failing; count = 0; faults = 0 };
+        } }
     {
         MemKeeper {
             registry: Registry::new(alloc),
@@ -107,12 +114,14 @@ impl Keeper for MemKeeper {
     ghost may_fail = { λ keeper. is_listed keeper.calls.failing };
 
     fn registered(&mut self, alloc: Global, phone: &Phone) -> Result<Option<Registered>, StoreError>
-        ensures answer { Reads (Some (tables_of self.old)) (Some (tables_of self.new)) (λ t found. found ≡ t.registered (key_of phone.now)) result }
+        ensures answer { Reads (Some (tables_of self.old)) (Some (tables_of self.new))
+            (λ t found. found ≡ t.registered (key_of phone.now)) result }
         ensures names { OnOk result (AreNamedOnce (tables_of self.old).registered) }
         ensures limit { self.new.limit ≡ self.old.limit }
-        ensures bound { self.old.limit ≤ 1000000000 }
+        ensures bound { self.old.limit ≤ ROW_LIMIT }
         ensures cause { HasCause self.old.calls.faults self.new.calls.faults result }
-        ensures steady { IsSteady (is_listed self.old.calls.failing) (is_listed self.new.calls.failing) result }
+        ensures steady { IsSteady (is_listed self.old.calls.failing)
+            (is_listed self.new.calls.failing) result }
         ensures in_order { InOrder self.old.calls self.new.calls result }
     {
         if !self.calls.goes() {
@@ -123,12 +132,14 @@ impl Keeper for MemKeeper {
     }
 
     fn plate_owner(&mut self, _alloc: Global, plate: &[u8]) -> Result<Option<Phone>, StoreError>
-        ensures answer { Reads (Some (tables_of self.old)) (Some (tables_of self.new)) (λ t found. IsOwner plates t.registered plate.now found) result }
+        ensures answer { Reads (Some (tables_of self.old)) (Some (tables_of self.new))
+            (λ t found. IsOwner plates t.registered plate.now found) result }
         ensures names { OnOk result (AreNamedOnce (tables_of self.old).registered) }
         ensures limit { self.new.limit ≡ self.old.limit }
-        ensures bound { self.old.limit ≤ 1000000000 }
+        ensures bound { self.old.limit ≤ ROW_LIMIT }
         ensures cause { HasCause self.old.calls.faults self.new.calls.faults result }
-        ensures steady { IsSteady (is_listed self.old.calls.failing) (is_listed self.new.calls.failing) result }
+        ensures steady { IsSteady (is_listed self.old.calls.failing)
+            (is_listed self.new.calls.failing) result }
         ensures in_order { InOrder self.old.calls self.new.calls result }
     {
         if !self.calls.goes() {
@@ -142,12 +153,14 @@ impl Keeper for MemKeeper {
         _alloc: Global,
         terminal: &[u8],
     ) -> Result<Option<Phone>, StoreError>
-        ensures answer { Reads (Some (tables_of self.old)) (Some (tables_of self.new)) (λ t found. IsOwner terminals t.registered terminal.now found) result }
+        ensures answer { Reads (Some (tables_of self.old)) (Some (tables_of self.new))
+            (λ t found. IsOwner terminals t.registered terminal.now found) result }
         ensures names { OnOk result (AreNamedOnce (tables_of self.old).registered) }
         ensures limit { self.new.limit ≡ self.old.limit }
-        ensures bound { self.old.limit ≤ 1000000000 }
+        ensures bound { self.old.limit ≤ ROW_LIMIT }
         ensures cause { HasCause self.old.calls.faults self.new.calls.faults result }
-        ensures steady { IsSteady (is_listed self.old.calls.failing) (is_listed self.new.calls.failing) result }
+        ensures steady { IsSteady (is_listed self.old.calls.failing)
+            (is_listed self.new.calls.failing) result }
         ensures in_order { InOrder self.old.calls self.new.calls result }
     {
         if !self.calls.goes() {
@@ -163,12 +176,16 @@ impl Keeper for MemKeeper {
         registered: &Registered,
     ) -> Result<(), StoreError>
         requires trimmed { IsTrimmed registered.now.terminal }
-        requires may { MayRegister (tables_of self.old).registered (key_of phone.now) registered.now }
-        ensures answer { Writes (Some (tables_of self.old)) (registered_set (key_of phone.now) (Some registered.now) (Some (tables_of self.old))) (Some (tables_of self.new)) result }
+        requires may { MayRegister (tables_of self.old).registered (key_of phone.now)
+            registered.now }
+        ensures answer { Writes (Some (tables_of self.old))
+            (registered_set (key_of phone.now) (Some registered.now) (Some (tables_of self.old)))
+            (Some (tables_of self.new)) result }
         ensures limit { self.new.limit ≡ self.old.limit }
-        ensures bound { self.old.limit ≤ 1000000000 }
+        ensures bound { self.old.limit ≤ ROW_LIMIT }
         ensures cause { HasCause self.old.calls.faults self.new.calls.faults result }
-        ensures steady { IsSteady (is_listed self.old.calls.failing) (is_listed self.new.calls.failing) result }
+        ensures steady { IsSteady (is_listed self.old.calls.failing)
+            (is_listed self.new.calls.failing) result }
         ensures in_order { InOrder self.old.calls self.new.calls result }
     {
         if !self.calls.goes() {
@@ -179,11 +196,14 @@ impl Keeper for MemKeeper {
     }
 
     fn unregister(&mut self, _alloc: Global, phone: &Phone) -> Result<(), StoreError>
-        ensures answer { Writes (Some (tables_of self.old)) (registered_set (key_of phone.now) None (Some (tables_of self.old))) (Some (tables_of self.new)) result }
+        ensures answer { Writes (Some (tables_of self.old))
+            (registered_set (key_of phone.now) None (Some (tables_of self.old)))
+            (Some (tables_of self.new)) result }
         ensures limit { self.new.limit ≡ self.old.limit }
-        ensures bound { self.old.limit ≤ 1000000000 }
+        ensures bound { self.old.limit ≤ ROW_LIMIT }
         ensures cause { HasCause self.old.calls.faults self.new.calls.faults result }
-        ensures steady { IsSteady (is_listed self.old.calls.failing) (is_listed self.new.calls.failing) result }
+        ensures steady { IsSteady (is_listed self.old.calls.failing)
+            (is_listed self.new.calls.failing) result }
         ensures in_order { InOrder self.old.calls self.new.calls result }
     {
         if !self.calls.goes() {
@@ -194,13 +214,15 @@ impl Keeper for MemKeeper {
     }
 
     fn last(&mut self, _alloc: Global, phone: &Phone) -> Result<Option<u64>, StoreError>
-        ensures answer { Reads (Some (tables_of self.old)) (Some (tables_of self.new)) (λ t last. last ≡ last_of (t.rows (key_of phone.now))) result }
+        ensures answer { Reads (Some (tables_of self.old)) (Some (tables_of self.new))
+            (λ t last. last ≡ last_of (t.rows (key_of phone.now))) result }
         ensures low { IfOk result (λ last. IfSome last (λ n. n < 2 ^ 47)) }
         ensures rows { AreRows self.old.limit ((tables_of self.old).rows (key_of phone.now)) }
         ensures limit { self.new.limit ≡ self.old.limit }
-        ensures bound { self.old.limit ≤ 1000000000 }
+        ensures bound { self.old.limit ≤ ROW_LIMIT }
         ensures cause { HasCause self.old.calls.faults self.new.calls.faults result }
-        ensures steady { IsSteady (is_listed self.old.calls.failing) (is_listed self.new.calls.failing) result }
+        ensures steady { IsSteady (is_listed self.old.calls.failing)
+            (is_listed self.new.calls.failing) result }
         ensures in_order { InOrder self.old.calls self.new.calls result }
     {
         if !self.calls.goes() {
@@ -215,12 +237,14 @@ impl Keeper for MemKeeper {
         phone: &Phone,
         number: u64,
     ) -> Result<Option<Row>, StoreError>
-        ensures answer { Reads (Some (tables_of self.old)) (Some (tables_of self.new)) (λ t found. Finds (t.rows (key_of phone.now)) number found) result }
+        ensures answer { Reads (Some (tables_of self.old)) (Some (tables_of self.new))
+            (λ t found. Finds (t.rows (key_of phone.now)) number found) result }
         ensures rows { AreRows self.old.limit ((tables_of self.old).rows (key_of phone.now)) }
         ensures limit { self.new.limit ≡ self.old.limit }
-        ensures bound { self.old.limit ≤ 1000000000 }
+        ensures bound { self.old.limit ≤ ROW_LIMIT }
         ensures cause { HasCause self.old.calls.faults self.new.calls.faults result }
-        ensures steady { IsSteady (is_listed self.old.calls.failing) (is_listed self.new.calls.failing) result }
+        ensures steady { IsSteady (is_listed self.old.calls.failing)
+            (is_listed self.new.calls.failing) result }
         ensures in_order { InOrder self.old.calls self.new.calls result }
     {
         if !self.calls.goes() {
@@ -236,13 +260,16 @@ impl Keeper for MemKeeper {
         phone: &Phone,
         number: u64,
     ) -> Result<Option<Row>, StoreError>
-        ensures answer { Reads (Some (tables_of self.old)) (Some (tables_of self.new)) (λ t found. FindsFrom (t.rows (key_of phone.now)) number found) result }
-        ensures within { IfOk result (λ found. IfSome found (λ row. (number ≤ row.number) × (row.number < 2 ^ 47))) }
+        ensures answer { Reads (Some (tables_of self.old)) (Some (tables_of self.new))
+            (λ t found. FindsFrom (t.rows (key_of phone.now)) number found) result }
+        ensures within { IfOk result (λ found.
+            IfSome found (λ row. (number ≤ row.number) × (row.number < 2 ^ 47))) }
         ensures rows { AreRows self.old.limit ((tables_of self.old).rows (key_of phone.now)) }
         ensures limit { self.new.limit ≡ self.old.limit }
-        ensures bound { self.old.limit ≤ 1000000000 }
+        ensures bound { self.old.limit ≤ ROW_LIMIT }
         ensures cause { HasCause self.old.calls.faults self.new.calls.faults result }
-        ensures steady { IsSteady (is_listed self.old.calls.failing) (is_listed self.new.calls.failing) result }
+        ensures steady { IsSteady (is_listed self.old.calls.failing)
+            (is_listed self.new.calls.failing) result }
         ensures in_order { InOrder self.old.calls self.new.calls result }
     {
         if !self.calls.goes() {
@@ -253,12 +280,15 @@ impl Keeper for MemKeeper {
     }
 
     fn append(&mut self, alloc: Global, phone: &Phone, row: &Row) -> Result<(), StoreError>
-        requires { MayAppend (last_of ((tables_of self.old).rows (key_of phone.now))) row.now.number }
-        ensures answer { Appends self.old.limit (key_of phone.now) row.now (Some (tables_of self.old)) (Some (tables_of self.new)) result }
+        requires { MayAppend (last_of ((tables_of self.old).rows (key_of phone.now)))
+            row.now.number }
+        ensures answer { Appends self.old.limit (key_of phone.now) row.now
+            (Some (tables_of self.old)) (Some (tables_of self.new)) result }
         ensures limit { self.new.limit ≡ self.old.limit }
-        ensures bound { self.old.limit ≤ 1000000000 }
+        ensures bound { self.old.limit ≤ ROW_LIMIT }
         ensures cause { HasCause self.old.calls.faults self.new.calls.faults result }
-        ensures steady { IsSteady (is_listed self.old.calls.failing) (is_listed self.new.calls.failing) result }
+        ensures steady { IsSteady (is_listed self.old.calls.failing)
+            (is_listed self.new.calls.failing) result }
         ensures in_order { InOrder self.old.calls self.new.calls result }
     {
         if !self.calls.goes() {

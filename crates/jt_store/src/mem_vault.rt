@@ -1,6 +1,7 @@
 //! A vault in memory, with a list of the calls that fail.
 
 ghost use Rattle.std.specs.Prelude.{◌≡◌, ◌<◌, ◌≤◌, None, Some, [], IfOk, IfSome, length};
+ghost use Rattle.jt_value.specs.declared.limits.TheConstants.{CODE_LIMIT, FIX_LIMIT};
 ghost use Rattle.jt_store.specs.Memory.{is_listed, InOrder};
 ghost use Rattle.jt_store.specs.Tables.{HasCause, IsSteady, Reads};
 ghost use Rattle.jt_store.specs.Vaults.{Accepts, AreInOrder, Changes, Forms, IsLoaded, IsUnit, IsWhole, MayCommit, Records, Sets, octets_of};
@@ -10,12 +11,10 @@ use crate::error::StoreError;
 use crate::unit::{Loaded, Unit, copy_slice};
 use crate::vault::Vault;
 use jt_position::Fix;
+use jt_value::limits::NO_MARK;
 use jt_value::{Memory, Octets, Seq};
 use std::alloc::Global;
 use std::marker::Model;
-
-/// The mark of a vault whose terminal has no accepted unit.
-const NO_MARK: u16 = 65_535;
 
 /// Keeps everything and tells it, and fails exactly the calls whose numbers are listed, counted from 1.
 #[derive(Drop)]
@@ -47,8 +46,19 @@ impl MemVault {
     /// Nothing kept, and no memory taken. So many fixes, at most 100,000, may be recorded and not accepted. `failing`
     /// has the numbers of the calls that fail; the number stays at 2^64 - 1 once it is there.
     pub fn new(alloc: Global, limit: u64, failing: Seq<u64>) -> MemVault
-        requires { limit ≤ 100000 }
-        ensures { result ≡ record { held = record { recorded = []; units = []; accepted = 0; mark = 65535; next = 0; code = None }; limit = limit; calls = record { failing = failing; count = 0; faults = 0 } } }
+        requires { limit ≤ FIX_LIMIT }
+        ensures { result ≡ record {
+          held = record {
+            recorded = [];
+            units = [];
+            accepted = 0;
+            mark = NO_MARK;
+            next = 0;
+            code = None;
+          };
+          limit = limit;
+          calls = record { failing = failing; count = 0; faults = 0 };
+        } }
     {
         MemVault {
             fixes: Seq::new(alloc),
@@ -62,6 +72,13 @@ impl MemVault {
             limit,
             calls: Calls::new(failing),
         }
+    }
+
+    /// How many units are accepted.
+    pub fn accepted(&self) -> usize
+        ensures { result ≡ self.now.held.accepted }
+    {
+        self.accepted
     }
 }
 
@@ -96,12 +113,14 @@ impl Vault for MemVault {
 
     fn load(&mut self, alloc: Global) -> Result<Loaded, StoreError>
         ensures answer { Reads (Some self.old.held) (Some self.new.held) IsLoaded result }
-        ensures order { IfOk result (λ loaded. AreInOrder loaded.mark loaded.next loaded.units loaded.code) }
+        ensures order { IfOk result (λ loaded.
+            AreInOrder loaded.mark loaded.next loaded.units loaded.code) }
         ensures whole { IsWhole self.old.held }
         ensures limit { self.new.limit ≡ self.old.limit }
-        ensures bound { self.old.limit ≤ 100000 }
+        ensures bound { self.old.limit ≤ FIX_LIMIT }
         ensures cause { HasCause self.old.calls.faults self.new.calls.faults result }
-        ensures steady { IsSteady (is_listed self.old.calls.failing) (is_listed self.new.calls.failing) result }
+        ensures steady { IsSteady (is_listed self.old.calls.failing)
+            (is_listed self.new.calls.failing) result }
         ensures in_order { InOrder self.old.calls self.new.calls result }
     {
         if !self.calls.goes() {
@@ -122,11 +141,13 @@ impl Vault for MemVault {
     }
 
     fn note_fix(&mut self, _alloc: Global, fix: &Fix) -> Result<(), StoreError>
-        ensures answer { Records self.old.limit fix.now (Some self.old.held) (Some self.new.held) result }
+        ensures answer { Records self.old.limit fix.now
+            (Some self.old.held) (Some self.new.held) result }
         ensures limit { self.new.limit ≡ self.old.limit }
-        ensures bound { self.old.limit ≤ 100000 }
+        ensures bound { self.old.limit ≤ FIX_LIMIT }
         ensures cause { HasCause self.old.calls.faults self.new.calls.faults result }
-        ensures steady { IsSteady (is_listed self.old.calls.failing) (is_listed self.new.calls.failing) result }
+        ensures steady { IsSteady (is_listed self.old.calls.failing)
+            (is_listed self.new.calls.failing) result }
         ensures in_order { InOrder self.old.calls self.new.calls result }
     {
         if !self.calls.goes() {
@@ -145,9 +166,10 @@ impl Vault for MemVault {
         requires may { MayCommit self.old.held unit.now }
         ensures answer { Changes (Forms unit.now) (Some self.old.held) (Some self.new.held) result }
         ensures limit { self.new.limit ≡ self.old.limit }
-        ensures bound { self.old.limit ≤ 100000 }
+        ensures bound { self.old.limit ≤ FIX_LIMIT }
         ensures cause { HasCause self.old.calls.faults self.new.calls.faults result }
-        ensures steady { IsSteady (is_listed self.old.calls.failing) (is_listed self.new.calls.failing) result }
+        ensures steady { IsSteady (is_listed self.old.calls.failing)
+            (is_listed self.new.calls.failing) result }
         ensures in_order { InOrder self.old.calls self.new.calls result }
     {
         if !self.calls.goes() {
@@ -165,9 +187,10 @@ impl Vault for MemVault {
         requires { self.old.held.accepted < length self.old.held.units }
         ensures answer { Changes Accepts (Some self.old.held) (Some self.new.held) result }
         ensures limit { self.new.limit ≡ self.old.limit }
-        ensures bound { self.old.limit ≤ 100000 }
+        ensures bound { self.old.limit ≤ FIX_LIMIT }
         ensures cause { HasCause self.old.calls.faults self.new.calls.faults result }
-        ensures steady { IsSteady (is_listed self.old.calls.failing) (is_listed self.new.calls.failing) result }
+        ensures steady { IsSteady (is_listed self.old.calls.failing)
+            (is_listed self.new.calls.failing) result }
         ensures in_order { InOrder self.old.calls self.new.calls result }
     {
         if !self.calls.goes() {
@@ -185,12 +208,14 @@ impl Vault for MemVault {
     }
 
     fn set_code(&mut self, alloc: Global, code: Option<&[u8]>) -> Result<(), StoreError>
-        requires { IfSome (octets_of code) (λ octets. length octets ≤ 255) }
-        ensures answer { Changes (Sets (octets_of code.entry)) (Some self.old.held) (Some self.new.held) result }
+        requires { IfSome (octets_of code) (λ octets. length octets ≤ CODE_LIMIT) }
+        ensures answer { Changes (Sets (octets_of code.entry))
+            (Some self.old.held) (Some self.new.held) result }
         ensures limit { self.new.limit ≡ self.old.limit }
-        ensures bound { self.old.limit ≤ 100000 }
+        ensures bound { self.old.limit ≤ FIX_LIMIT }
         ensures cause { HasCause self.old.calls.faults self.new.calls.faults result }
-        ensures steady { IsSteady (is_listed self.old.calls.failing) (is_listed self.new.calls.failing) result }
+        ensures steady { IsSteady (is_listed self.old.calls.failing)
+            (is_listed self.new.calls.failing) result }
         ensures in_order { InOrder self.old.calls self.new.calls result }
     {
         if !self.calls.goes() {

@@ -2,10 +2,11 @@
 
 ghost use Rattle.std.specs.Prelude.{◌≡◌, ◌<◌, ◌≤◌, ◌^◌, ◌↔◌, ℕ, List, None, Some, All, IfOk, IfSome, IsTrue, OnOk, option_copied, if◌then◌else◌};
 ghost use Rattle.std.specs.Option.{option_or};
+ghost use Rattle.jt_value.specs.declared.limits.TheConstants.{ROW_LIMIT};
 ghost use Rattle.jt_value.specs.Sameness.{key_of, same_key};
 ghost use Rattle.jt_store.specs.Memory.{under};
 ghost use Rattle.jt_store.specs.Migrating.{AreAppended, Migrates};
-ghost use Rattle.jt_store.specs.Places.{IsNumbered, IsStored, Moves, TakesAllIn, TakesIn, noted, places_in, standing};
+ghost use Rattle.jt_store.specs.Places.{IsNumbered, IsStored, Moves, TakesAllIn, TakesIn, with_row_place, places_in, standing};
 ghost use Rattle.jt_store.specs.Tables.{AreRows, Rises, last_of};
 
 use crate::by_phone::Key;
@@ -50,7 +51,7 @@ pub struct Places {
 /// of 2013. The limit is at most 1,000,000,000; Full comes exactly where a phone would have more rows. The rows' numbers
 /// are such as `append` asks for. It never answers Failed.
 pub fn migrate(alloc: Global, old: &Seq<OldPhone>, limit: u64) -> Result<Seq<NewPhone>, StoreError>
-    requires limit { limit ≤ 1000000000 }
+    requires limit { limit ≤ ROW_LIMIT }
     requires rows { All (λ o. AreAppended None o.rows) old.now }
     ensures answer { Migrates limit old.now result }
 {
@@ -83,8 +84,10 @@ fn gather(alloc: Global, old: &[OldPhone]) -> Result<BTreeMap<Key, Places>, Memo
 
 // Notes the place of one more phone.
 fn note(places: &mut BTreeMap<Key, Places>, phone: &Phone, place: usize) -> Result<(), Memory>
-    ensures { OnOk result ((q : List ℕ) → under places.new.entries q
-        ≡ (if same_key (key_of phone.now) q then Some (noted (under places.old.entries q) phone.now.edition place) else under places.old.entries q)) }
+    ensures { OnOk result
+        ((q : List ℕ) → under places.new.entries q ≡ (if same_key (key_of phone.now) q
+        then Some (with_row_place (under places.old.entries q) phone.now.edition place)
+        else under places.old.entries q)) }
 {
     let now = with_place(places.get(&phone.digits).copied(), phone.edition, place);
     places.insert(phone.digits, now)?;
@@ -93,7 +96,7 @@ fn note(places: &mut BTreeMap<Key, Places>, phone: &Phone, place: usize) -> Resu
 
 // The places with one more. The first of an edition stays.
 fn with_place(places: Option<Places>, edition: Edition, place: usize) -> Places
-    ensures { result ≡ noted places edition place }
+    ensures { result ≡ with_row_place places edition place }
 {
     let (earlier, later) = match places {
         Some(places) => (places.earlier, places.later),
@@ -128,11 +131,12 @@ fn move_phone(
     later: Option<&OldPhone>,
     limit: u64,
 ) -> Result<NewPhone, StoreError>
-    requires limit { limit ≤ 1000000000 }
+    requires limit { limit ≤ ROW_LIMIT }
     requires there { option_copied earlier ≡ None → option_copied later ≡ None → ⊥ }
     requires earlier { IfSome (option_copied earlier) (λ o. AreAppended None o.rows) }
     requires later { IfSome (option_copied later) (λ o. AreAppended None o.rows) }
-    ensures answer { Moves limit digits (option_copied earlier.entry) (option_copied later.entry) result }
+    ensures answer { Moves limit digits (option_copied earlier.entry)
+        (option_copied later.entry) result }
 {
     match (earlier, later) {
         (Some(earlier), Some(later)) => join(alloc, digits, earlier, later, limit),
@@ -166,7 +170,7 @@ fn join(
     later: &OldPhone,
     limit: u64,
 ) -> Result<NewPhone, StoreError>
-    requires limit { limit ≤ 1000000000 }
+    requires limit { limit ≤ ROW_LIMIT }
     requires rows { AreAppended None earlier.now.rows }
     ensures { Moves limit digits (Some earlier.now) (Some later.now) result }
 {
@@ -190,7 +194,7 @@ fn take_all_in(
     more: &[Row],
     limit: u64,
 ) -> Result<(), StoreError>
-    requires limit { limit ≤ 1000000000 }
+    requires limit { limit ≤ ROW_LIMIT }
     requires rows { AreRows limit rows.old }
     ensures { TakesAllIn limit rows.old rows.new more.now result }
 {
@@ -202,7 +206,7 @@ fn take_all_in(
 
 // Takes a row as a unit over the rows so far.
 fn take_in(alloc: Global, rows: &mut Seq<Row>, row: &Row, limit: u64) -> Result<(), StoreError>
-    requires limit { limit ≤ 1000000000 }
+    requires limit { limit ≤ ROW_LIMIT }
     requires rows { AreRows limit rows.old }
     ensures { TakesIn limit rows.old rows.new row.now result }
 {

@@ -43,7 +43,8 @@ impl Names {
 
     /// Sets the phone of a name.
     pub fn set(&mut self, alloc: Global, name: &[u8], key: Key) -> Result<(), Memory>
-        ensures ok { OnOk result ((q : List ℕ) → under self.new q ≡ (if bytes_eq name.now q then Some key else under self.old q)) }
+        ensures ok { OnOk result ((q : List ℕ) →
+            under self.new q ≡ (if bytes_eq name.now q then Some key else under self.old q)) }
         ensures err { OnErr result (self.new ≡ self.old) }
     {
         let name = Vec::from_slice(alloc, name)?;
@@ -53,7 +54,8 @@ impl Names {
 
     /// Takes a name out.
     pub fn remove(&mut self, name: &[u8])
-        ensures { (q : List ℕ) → under self.new q ≡ (if bytes_eq name.now q then None else under self.old q) }
+        ensures { (q : List ℕ) →
+            under self.new q ≡ (if bytes_eq name.now q then None else under self.old q) }
     {
         let _ = self.phones.remove(name);
     }

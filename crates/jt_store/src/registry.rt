@@ -76,7 +76,8 @@ impl Registry {
     pub fn set(&mut self, alloc: Global, key: Key, registered: &Registered) -> Result<(), Memory>
         requires trimmed { IsTrimmed registered.now.terminal }
         requires may { MayRegister (under self.old) key registered.now }
-        ensures ok { OnOk result ((q : List ℕ) → under self.new q ≡ (if same_key key q then Some registered.now else under self.old q)) }
+        ensures ok { OnOk result ((q : List ℕ) →
+            under self.new q ≡ (if same_key key q then Some registered.now else under self.old q)) }
         ensures err { OnErr result (self.new ≡ self.old) }
     {
         if let Some(was) = self.put(alloc, key, registered)? {
@@ -87,7 +88,8 @@ impl Registry {
 
     /// Takes the registration of a phone out.
     pub fn remove(&mut self, key: &Key)
-        ensures { (q : List ℕ) → under self.new q ≡ (if same_key key.now q then None else under self.old q) }
+        ensures { (q : List ℕ) →
+            under self.new q ≡ (if same_key key.now q then None else under self.old q) }
     {
         if let Some(was) = self.take(key) {
             self.forget(&was);
@@ -141,7 +143,8 @@ impl Registry {
     ) -> Result<Option<Registered>, Memory>
         requires trimmed { IsTrimmed registered.now.terminal }
         requires may { MayRegister (under self.old) key registered.now }
-        ensures ok { OnOk result ((q : List ℕ) → under self.new q ≡ (if same_key key q then Some registered.now else under self.old q)) }
+        ensures ok { OnOk result ((q : List ℕ) →
+            under self.new q ≡ (if same_key key q then Some registered.now else under self.old q)) }
         ensures err { OnErr result (self.new ≡ self.old) }
     {
         let copy = copy_registered(alloc, registered)?;
@@ -154,7 +157,8 @@ impl Registry {
 
     // Takes a registration out, and answers it.
     fn take(&mut self, key: &Key) -> Option<Registered>
-        ensures { (q : List ℕ) → under self.new q ≡ (if same_key key.now q then None else under self.old q) }
+        ensures { (q : List ℕ) →
+            under self.new q ≡ (if same_key key.now q then None else under self.old q) }
     {
         self.registered.remove(key)
     }

@@ -1,7 +1,8 @@
 //! What keeps a terminal's fixes and units.
 
 ghost use Rattle.std.specs.Prelude.{◌≡◌, ◌<◌, ◌≤◌, ℕ, Bool, Option, IfOk, IfSome, length};
-ghost use Rattle.jt_store.specs.Tables.{HasCause, IsSteady, Reads, Told};
+ghost use Rattle.jt_value.specs.declared.limits.TheConstants.{CODE_LIMIT, FIX_LIMIT};
+ghost use Rattle.jt_store.specs.Tables.{HasCause, IsSteady, Reads, WhereKnown};
 ghost use Rattle.jt_store.specs.Vaults.{Accepts, AreInOrder, Changes, Forms, Held, IsLoaded, IsUnit, IsWhole, MayCommit, Records, Sets, octets_of};
 
 use crate::error::StoreError;
@@ -31,10 +32,11 @@ pub trait Vault {
     /// serial of the last one accepted.
     fn load(&mut self, alloc: Global) -> Result<Loaded, StoreError>
         ensures answer { Reads (holds self.old) (holds self.new) IsLoaded result }
-        ensures order { IfOk result (λ loaded. AreInOrder loaded.mark loaded.next loaded.units loaded.code) }
-        ensures whole { Told (holds self.old) IsWhole }
+        ensures order { IfOk result (λ loaded.
+            AreInOrder loaded.mark loaded.next loaded.units loaded.code) }
+        ensures whole { WhereKnown (holds self.old) IsWhole }
         ensures limit { limit self.new ≡ limit self.old }
-        ensures bound { limit self.old ≤ 100000 }
+        ensures bound { limit self.old ≤ FIX_LIMIT }
         ensures cause { HasCause (faults self.old) (faults self.new) result }
         ensures steady { IsSteady (may_fail self.old) (may_fail self.new) result };
 
@@ -43,7 +45,7 @@ pub trait Vault {
     fn note_fix(&mut self, alloc: Global, fix: &Fix) -> Result<(), StoreError>
         ensures answer { Records (limit self.old) fix.now (holds self.old) (holds self.new) result }
         ensures limit { limit self.new ≡ limit self.old }
-        ensures bound { limit self.old ≤ 100000 }
+        ensures bound { limit self.old ≤ FIX_LIMIT }
         ensures cause { HasCause (faults self.old) (faults self.new) result }
         ensures steady { IsSteady (may_fail self.old) (may_fail self.new) result };
 
@@ -51,28 +53,29 @@ pub trait Vault {
     /// most 32,766. The serial behind it is then next.
     fn form(&mut self, alloc: Global, unit: &Unit) -> Result<(), StoreError>
         requires unit { IsUnit unit.now }
-        requires may { Told (holds self.old) (λ held. MayCommit held unit.now) }
+        requires may { WhereKnown (holds self.old) (λ held. MayCommit held unit.now) }
         ensures answer { Changes (Forms unit.now) (holds self.old) (holds self.new) result }
         ensures limit { limit self.new ≡ limit self.old }
-        ensures bound { limit self.old ≤ 100000 }
+        ensures bound { limit self.old ≤ FIX_LIMIT }
         ensures cause { HasCause (faults self.old) (faults self.new) result }
         ensures steady { IsSteady (may_fail self.old) (may_fail self.new) result };
 
     /// The oldest unit that is not accepted becomes accepted, and mark its serial.
     fn accept(&mut self, alloc: Global) -> Result<(), StoreError>
-        requires { Told (holds self.old) (λ held. held.accepted < length held.units) }
+        requires { WhereKnown (holds self.old) (λ held. held.accepted < length held.units) }
         ensures answer { Changes Accepts (holds self.old) (holds self.new) result }
         ensures limit { limit self.new ≡ limit self.old }
-        ensures bound { limit self.old ≤ 100000 }
+        ensures bound { limit self.old ≤ FIX_LIMIT }
         ensures cause { HasCause (faults self.old) (faults self.new) result }
         ensures steady { IsSteady (may_fail self.old) (may_fail self.new) result };
 
     /// Sets the platform's code, of at most 255 octets, or removes it.
     fn set_code(&mut self, alloc: Global, code: Option<&[u8]>) -> Result<(), StoreError>
-        requires { IfSome (octets_of code) (λ octets. length octets ≤ 255) }
-        ensures answer { Changes (Sets (octets_of code.entry)) (holds self.old) (holds self.new) result }
+        requires { IfSome (octets_of code) (λ octets. length octets ≤ CODE_LIMIT) }
+        ensures answer { Changes (Sets (octets_of code.entry))
+            (holds self.old) (holds self.new) result }
         ensures limit { limit self.new ≡ limit self.old }
-        ensures bound { limit self.old ≤ 100000 }
+        ensures bound { limit self.old ≤ FIX_LIMIT }
         ensures cause { HasCause (faults self.old) (faults self.new) result }
         ensures steady { IsSteady (may_fail self.old) (may_fail self.new) result };
 }

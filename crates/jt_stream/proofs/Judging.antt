@@ -13,8 +13,8 @@ use Rattle.jt_header.specs.Content.{Content}
 use Rattle.jt_header.specs.Fields.{header_at, body_at}
 use Rattle.jt_header.specs.Law.{IsOneOrTheOther, IsNeverBoth, IsOneContent, IsReadBack}
 use Rattle.jt_header.specs.Reason.{reason}
-use Rattle.jt_stream.specs.Item.{Item, Frame, Refused, placed, IsItemOf, AreItemsOf, Items, item_of, item_at, all_items}
-use Rattle.jt_stream.specs.Unplaced.{Unplaced, Message, fault, judged, unplaced, of_content, of_event, items}
+use Rattle.jt_stream.specs.Item.{Item, Frame, Refused, refusal_in_frame, IsItemOf, AreItemsOf, Items, item_of, item_at, all_items}
+use Rattle.jt_stream.specs.Unplaced.{Unplaced, Message, fault, content_item, unplaced, of_content, of_event, items}
 
 -- ---- one item an event
 
@@ -31,7 +31,7 @@ item_same never one (Whole opened content) (Frame p h body) (Frame q g other) x 
 item_same never one (Whole opened content) (Frame p h body) (Refused r) x y = absurd (never content (h, body, x.1) (y.0, y.1))
 item_same never one (Whole opened content) (Refused r) (Frame p h body) x y = absurd (never content (h, body, y.1) (x.0, x.1))
 item_same never one (Whole opened content) (Refused r) (Refused s) x y =
-    ap Refused (x.2 ∙ ap (placed opened) (some_same content x.0 y.0 x.1 y.1) ∙ sym y.2)
+    ap Refused (x.2 ∙ ap (refusal_in_frame opened) (some_same content x.0 y.0 x.1 y.1) ∙ sym y.2)
 item_same never one (event.Refused refusal) (Frame p h body) b x y = absurd x
 item_same never one (event.Refused refusal) (Refused r) (Frame p h body) x y = absurd y
 item_same never one (event.Refused refusal) (Refused r) (Refused s) x y = ap Refused (x ∙ sym y)
@@ -58,7 +58,7 @@ item_for : IsOneOrTheOther → (event : Event) → HasOctets event → (item : I
 item_for either (Whole opened content) has =
     elim (either content has) [
       | inl is ↦ (Frame opened is.0 is.1, (refl, is.2))
-      | inr why ↦ (Refused (placed opened why.0), (why.0, why.1, refl))
+      | inr why ↦ (Refused (refusal_in_frame opened why.0), (why.0, why.1, refl))
     ]
 item_for either (event.Refused refusal) has = (Refused refusal, refl)
 
@@ -74,11 +74,11 @@ items_for either (event ∷ events) all =
 pub message : IsReadBack → (h : Header) (body content : List ℕ) → Content h body content → of_content content ≡ Message h body
 message back h body content is =
     let read = back h body content is in
-    ap (judged content) read.no_reason ∙ cc (read.header, read.body_is)
+    ap (content_item content) read.no_reason ∙ cc (read.header, read.body_is)
 
 item-unplaced : IsReadBack → (event : Event) (item : Item) → IsItemOf event item → unplaced item ≡ of_event event
 item-unplaced back (Whole opened content) (Frame place h body) is = sym (message back h body content is.1)
-item-unplaced back (Whole opened content) (Refused refusal) is = ap fault is.2 ∙ sym (ap (judged content) is.1)
+item-unplaced back (Whole opened content) (Refused refusal) is = ap fault is.2 ∙ sym (ap (content_item content) is.1)
 item-unplaced back (event.Refused refusal) (Frame place h body) is = absurd is
 item-unplaced back (event.Refused refusal) (Refused same) is = ap fault is
 

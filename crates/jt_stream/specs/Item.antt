@@ -16,15 +16,15 @@ pub data Item : Type 0 where
   Refused : Refusal → Item
 
 -- what is refused in a content, as refused in the frame that opens at this place
-abbrev pub placed : ℕ → Refusal → Refusal
-placed place refusal = record { at = place; inside = refusal.inside; why = refusal.why }
+abbrev pub refusal_in_frame : ℕ → Refusal → Refusal
+refusal_in_frame place refusal = record { at = place; inside = refusal.inside; why = refusal.why }
 
 -- A whole content is a message, or there is a first reason against it, and both stand at the opening flag. What the cut
 -- into frames refuses stays refused.
 abbrev pub IsItemOf : Event → Item → Type 0
 IsItemOf (event.Whole opened content) (Frame place header body) = (place ≡ opened) × Content header body content
 IsItemOf (event.Whole opened content) (Refused refusal) =
-    (inner : Refusal) × (reason content ≡ Some inner) × (refusal ≡ placed opened inner)
+    (inner : Refusal) × (reason content ≡ Some inner) × (refusal ≡ refusal_in_frame opened inner)
 IsItemOf (event.Refused refusal) (Frame place header body) = ⊥
 IsItemOf (event.Refused refusal) (Refused same) = same ≡ refusal
 
@@ -44,7 +44,7 @@ pub record Items (stream : List ℕ) (items : List Item) : Type 0 where
 -- what a content with this reason against it, or none, is in the frame that opens at this place
 abbrev pub item_at : ℕ → List ℕ → Option Refusal → Item
 item_at opened content None = Frame opened (header_at content) (body_at content)
-item_at opened content (Some refusal) = Refused (placed opened refusal)
+item_at opened content (Some refusal) = Refused (refusal_in_frame opened refusal)
 
 abbrev pub item_of : Event → Item
 item_of (event.Whole opened content) = item_at opened content (reason content)

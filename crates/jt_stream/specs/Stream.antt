@@ -41,7 +41,7 @@ abbrev pub IsSilentInPlace : State → List ℕ → Type 0
 IsSilentInPlace old octets = AddsNothing Continues old octets
 
 -- the items that an answer tells of the splitter that the call left
-abbrev pub told : StreamItem → State → List Item
-told answer.More state = []
-told answer.Frame state = Frame state.opened (header_at state.content) (body_at state.content) ∷ []
-told (answer.Refused refusal) state = Refused refusal ∷ []
+abbrev pub stream_items : StreamItem → State → List Item
+stream_items answer.More state = []
+stream_items answer.Frame state = Frame state.opened (header_at state.content) (body_at state.content) ∷ []
+stream_items (answer.Refused refusal) state = Refused refusal ∷ []

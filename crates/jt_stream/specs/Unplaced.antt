@@ -24,13 +24,13 @@ abbrev pub unplaced : Item → Unplaced
 unplaced (item.Frame place header body) = Message header body
 unplaced (item.Refused refusal) = fault refusal
 
-abbrev pub judged : List ℕ → Option Refusal → Unplaced
-judged content None = Message (header_at content) (body_at content)
-judged content (Some refusal) = fault refusal
+abbrev pub content_item : List ℕ → Option Refusal → Unplaced
+content_item content None = Message (header_at content) (body_at content)
+content_item content (Some refusal) = fault refusal
 
 -- what a content is: a message, or the first reason against it
 abbrev pub of_content : List ℕ → Unplaced
-of_content content = judged content (reason content)
+of_content content = content_item content (reason content)
 
 abbrev pub of_event : Event → Unplaced
 of_event (Whole opened content) = of_content content

@@ -15,7 +15,8 @@ use jt_header::law_of_contents;
 /// Each stream of octets has exactly one list of items.
 pub fn law_one_list()
     ensures some { (stream : List ℕ) → AreOctets stream → (list : List Item) × Items stream list }
-    ensures one { (stream : List ℕ) (list other : List Item) → Items stream list → Items stream other → list ≡ other }
+    ensures one { (stream : List ℕ) (list other : List Item) → Items stream list →
+        Items stream other → list ≡ other }
 {
     jt_escape::law_one_list();
     jt_escape::law_octets();
@@ -24,7 +25,8 @@ pub fn law_one_list()
 
 /// Without their places, the items of a stream are a function of the stream.
 pub fn law_items()
-    ensures { (stream : List ℕ) (list : List Item) → Items stream list → map unplaced list ≡ items stream }
+    ensures { (stream : List ℕ) (list : List Item) → Items stream list →
+        map unplaced list ≡ items stream }
 {
     jt_escape::law_one_list();
     law_of_contents();
@@ -34,7 +36,8 @@ pub fn law_items()
 pub fn law_front()
     ensures placed { (front rest : List ℕ) (list all : List Item) →
         Items front list → Items (front ++ rest) all → (more : List Item) × (all ≡ list ++ more) }
-    ensures unplaced { (front rest : List ℕ) → (more : List Unplaced) × (items (front ++ rest) ≡ items front ++ more) }
+    ensures unplaced { (front rest : List ℕ) →
+        (more : List Unplaced) × (items (front ++ rest) ≡ items front ++ more) }
 {
     jt_escape::law_one_list();
     jt_escape::law_front();
@@ -43,7 +46,8 @@ pub fn law_front()
 
 /// One more octet completes one item at most.
 pub fn law_one_octet()
-    ensures { (stream : List ℕ) (octet : ℕ) → length (items (stream ++ octet ∷ [])) ≤ length (items stream) + 1 }
+    ensures { (stream : List ℕ) (octet : ℕ) →
+        length (items (stream ++ octet ∷ [])) ≤ length (items stream) + 1 }
 {
     jt_escape::law_one_list();
     jt_escape::law_one_octet();
@@ -63,9 +67,11 @@ pub fn law_frames()
 
 /// With their places, too, the items of a stream are a function of the stream, and those of its front come first.
 pub fn law_all_items()
-    ensures only { (stream : List ℕ) (list : List Item) → Items stream list → list ≡ all_items stream }
+    ensures only { (stream : List ℕ) (list : List Item) → Items stream list →
+        list ≡ all_items stream }
     ensures held { (stream : List ℕ) → AreOctets stream → Items stream (all_items stream) }
-    ensures front { (front rest : List ℕ) → (more : List Item) × (all_items (front ++ rest) ≡ all_items front ++ more) }
+    ensures front { (front rest : List ℕ) →
+        (more : List Item) × (all_items (front ++ rest) ≡ all_items front ++ more) }
 {
     jt_escape::law_one_list();
     jt_escape::law_front();

@@ -3,13 +3,14 @@
 ghost use Rattle.std.specs.Prelude.{◌≡◌, ◌<◌, ◌≤◌, ◌+◌, ◌^◌, [], ◌∷◌, ◌++◌, ◌↔◌, List, ℕ, false, length, take, Some, None, IsTrue, IsSome, IfSome, IfOk, IfErr};
 ghost use Rattle.std.specs.Option.{ForSome};
 ghost use Rattle.std.specs.Result.{ForOk};
+ghost use Rattle.jt_value.specs.declared.limits.TheConstants.{CONTENT_LIMIT};
 ghost use Rattle.jt_escape.specs.Span.{Ends, Whole};
-ghost use Rattle.jt_escape.specs.Splitter.{StandsFor, Continues, lent, told_in_place};
+ghost use Rattle.jt_escape.specs.Splitter.{StandsFor, Continues, lent, split_events_in_place};
 ghost use Rattle.jt_header.specs.Content.{Content};
 ghost use Rattle.jt_header.specs.Reason.{Reads};
-ghost use Rattle.jt_stream.specs.Item.{Item, Frame, Refused, placed, AreItemsOf};
+ghost use Rattle.jt_stream.specs.Item.{Item, Frame, Refused, refusal_in_frame, AreItemsOf};
 ghost use Rattle.jt_stream.specs.Message.{IsMessage, completed};
-ghost use Rattle.jt_stream.specs.Stream.{Gains, GainsInPlace, IsSilent, IsSilentInPlace, told};
+ghost use Rattle.jt_stream.specs.Stream.{Gains, GainsInPlace, IsSilent, IsSilentInPlace, stream_items};
 
 use jt_escape::{Split, Splitter};
 use jt_header::{Header, read_header};
@@ -59,8 +60,8 @@ impl Model for Stream {
 }
 
 /// What is refused in the content of the frame that opens at this place, as it is refused in the stream.
-pub fn placed(opened: u64, refusal: Refusal) -> Refusal
-    ensures { result ≡ placed opened refusal }
+pub fn refusal_in_frame(opened: u64, refusal: Refusal) -> Refusal
+    ensures { result ≡ refusal_in_frame opened refusal }
 {
     Refusal {
         at: opened,
@@ -73,7 +74,8 @@ pub fn placed(opened: u64, refusal: Refusal) -> Refusal
 fn judge(splitter: &Splitter) -> Result<Message, Refusal>
     ensures items { AreItemsOf (Whole splitter.now.opened splitter.now.content ∷ [])
         (completed (Some result) splitter.now) }
-    ensures message { ForOk result (λ message. IsMessage message.header message.start splitter.now.content) }
+    ensures message { ForOk result (λ message.
+        IsMessage message.header message.start splitter.now.content) }
 {
     let content = splitter.content();
     match read_header(content) {
@@ -81,7 +83,7 @@ fn judge(splitter: &Splitter) -> Result<Message, Refusal>
             header,
             start: content.len() - 1 - body.len(),
         }),
-        Err(refusal) => Err(placed(splitter.opened(), refusal)),
+        Err(refusal) => Err(refusal_in_frame(splitter.opened(), refusal)),
     }
 }
 
@@ -91,11 +93,14 @@ fn take(splitter: &mut Splitter, piece: &[u8]) -> (usize, Option<Result<Message,
     ensures taken { result.0 ≤ length piece.now }
     ensures some { 0 < length piece.now → 0 < result.0 }
     ensures place { splitter.new.place ≡ splitter.old.place + result.0 }
-    ensures items { Gains splitter.old splitter.new (take result.0 piece.now) (completed result.1 splitter.new) }
-    ensures in_place { GainsInPlace splitter.old splitter.new (take result.0 piece.now) (completed result.1 splitter.new) }
+    ensures items { Gains splitter.old splitter.new (take result.0 piece.now)
+        (completed result.1 splitter.new) }
+    ensures in_place { GainsInPlace splitter.old splitter.new (take result.0 piece.now)
+        (completed result.1 splitter.new) }
     ensures more { result.1 ≡ None → result.0 ≡ length piece.now }
     ensures first { (count : ℕ) → count < result.0 → IsSilent splitter.old (take count piece.now) }
-    ensures first_in_place { (count : ℕ) → count < result.0 → IsSilentInPlace splitter.old (take count piece.now) }
+    ensures first_in_place { (count : ℕ) → count < result.0 →
+        IsSilentInPlace splitter.old (take count piece.now) }
     ensures message { ForSome result.1 (λ judged. ForOk judged
         (λ message. IsMessage message.header message.start splitter.new.content)) }
 {
@@ -128,14 +133,17 @@ impl Stream {
         ensures taken { result.0 ≤ length piece.now }
         ensures some { 0 < length piece.now → 0 < result.0 }
         ensures place { self.new.splitter.place ≡ self.old.splitter.place + result.0 }
-        ensures items { Gains self.old.splitter self.new.splitter (take result.0 piece.now) (told result.1 self.new.splitter) }
+        ensures items { Gains self.old.splitter self.new.splitter (take result.0 piece.now)
+            (stream_items result.1 self.new.splitter) }
         // The same also holds after `take_in_place`.
-        ensures in_place { GainsInPlace self.old.splitter self.new.splitter (take result.0 piece.now)
-            (told result.1 self.new.splitter) }
+        ensures in_place { GainsInPlace self.old.splitter self.new.splitter
+            (take result.0 piece.now) (stream_items result.1 self.new.splitter) }
         ensures more { result.1 ≡ StreamItem.More → result.0 ≡ length piece.now }
         // No octet past the first that completes an item is taken.
-        ensures first { (count : ℕ) → count < result.0 → IsSilent self.old.splitter (take count piece.now) }
-        ensures first_in_place { (count : ℕ) → count < result.0 → IsSilentInPlace self.old.splitter (take count piece.now) }
+        ensures first { (count : ℕ) → count < result.0 →
+            IsSilent self.old.splitter (take count piece.now) }
+        ensures first_in_place { (count : ℕ) → count < result.0 →
+            IsSilentInPlace self.old.splitter (take count piece.now) }
         ensures found { IsTrue self.new.found ↔ (result.1 ≡ StreamItem.Frame) }
     {
         let (taken, judged) = take(&mut self.splitter, piece);
@@ -155,9 +163,11 @@ impl Stream {
     pub fn frame(&self) -> Option<(u64, Header, &[u8])>
         ensures some { IsSome result ↔ IsTrue self.now.found }
         ensures place { IfSome result (λ frame. frame.0 ≡ self.now.splitter.opened) }
-        ensures message { IfSome result (λ frame. Content frame.1 frame.2.now self.now.splitter.content) }
+        ensures message { IfSome result (λ frame.
+            Content frame.1 frame.2.now self.now.splitter.content) }
         // So the header and the body are those of the item that was told.
-        ensures fields { IfSome result (λ frame. Reads self.now.splitter.content frame.1 frame.2.now) }
+        ensures fields { IfSome result (λ frame.
+            Reads self.now.splitter.content frame.1 frame.2.now) }
     {
         let message = self.message?;
         let content = self.splitter.content();
@@ -178,12 +188,15 @@ impl Stream {
             Continues self.new.splitter (stream ++ take result.0 piece.now) }
         // The items of a content are those of `frame_in`.
         ensures items { (items : List Item) →
-            AreItemsOf (told_in_place result.1 self.new.splitter (take result.0 piece.now)) items →
+            AreItemsOf (split_events_in_place result.1 self.new.splitter (take result.0 piece.now))
+            items →
             GainsInPlace self.old.splitter self.new.splitter (take result.0 piece.now) items }
         ensures more { result.1 ≡ Split.More → result.0 ≡ length piece.now }
         // No octet past the first that completes an item is taken.
-        ensures first { (count : ℕ) → count < result.0 → IsSilentInPlace self.old.splitter (take count piece.now) }
-        ensures content { result.1 ≡ Split.Content → length (lent self.new.splitter (take result.0 piece.now)) ≤ 1045 }
+        ensures first { (count : ℕ) → count < result.0 →
+            IsSilentInPlace self.old.splitter (take count piece.now) }
+        ensures content { result.1 ≡ Split.Content →
+            length (lent self.new.splitter (take result.0 piece.now)) ≤ CONTENT_LIMIT }
         ensures found { self.new.found ≡ false }
     {
         self.message = None;
@@ -195,7 +208,7 @@ impl Stream {
     /// the offset in the content.
     #[inline(always)]
     pub fn frame_in<'a>(&'a self, taken: &'a [u8]) -> Result<(u64, Header, &'a [u8]), Refusal>
-        requires { length (lent self.now.splitter taken.now) ≤ 1045 }
+        requires { length (lent self.now.splitter taken.now) ≤ CONTENT_LIMIT }
         ensures item { IfOk result (λ frame. AreItemsOf
             (Whole self.now.splitter.opened (lent self.now.splitter taken.now) ∷ [])
             (Frame frame.0 frame.1 frame.2.now ∷ [])) }
@@ -204,13 +217,15 @@ impl Stream {
             (Refused refusal ∷ [])) }
         // So the place, the header and the body are these.
         ensures place { IfOk result (λ frame. frame.0 ≡ self.now.splitter.opened) }
-        ensures message { IfOk result (λ frame. Content frame.1 frame.2.now (lent self.now.splitter taken.now)) }
-        ensures fields { IfOk result (λ frame. Reads (lent self.now.splitter taken.now) frame.1 frame.2.now) }
+        ensures message { IfOk result (λ frame.
+            Content frame.1 frame.2.now (lent self.now.splitter taken.now)) }
+        ensures fields { IfOk result (λ frame.
+            Reads (lent self.now.splitter taken.now) frame.1 frame.2.now) }
     {
         let opened = self.splitter.opened();
         match read_header(self.splitter.content_in(taken)) {
             Ok((header, body)) => Ok((opened, header, body)),
-            Err(refusal) => Err(placed(opened, refusal)),
+            Err(refusal) => Err(refusal_in_frame(opened, refusal)),
         }
     }
 
@@ -218,7 +233,8 @@ impl Stream {
     pub fn finish(&self) -> Option<Refusal>
         ensures end { (stream : List ℕ) → StandsFor self.now.splitter stream → Ends stream result }
         // The same also holds after `take_in_place`.
-        ensures in_place { (stream : List ℕ) → Continues self.now.splitter stream → Ends stream result }
+        ensures in_place { (stream : List ℕ) → Continues self.now.splitter stream →
+            Ends stream result }
     {
         self.splitter.finish()
     }

@@ -7,27 +7,27 @@ use Rattle.std.proofs.lemmas.Bool.{cond-true, eq-eqb, both_ways}
 use Rattle.jt_subpacket.specs.declared.key.PartKey.{PartKey}
 use Rattle.jt_subpacket.specs.declared.taken.Fate.{Fate}
 use Rattle.jt_subpacket.specs.declared.taken.Fate.TheVariants.{Whole, Resend}
-use Rattle.jt_subpacket.specs.Partials.{Partial, Pieces, joined, missing, with_piece}
-use Rattle.jt_subpacket.specs.Fates.{told, unfinished}
-use Rattle.jt_subpacket.specs.Steps.{Answers, IsPartial, joined_beside, left_there, missing_beside}
+use Rattle.jt_subpacket.specs.Partials.{Partial, Pieces, octets_joined, missing, with_piece}
+use Rattle.jt_subpacket.specs.Fates.{packet_fate, unfinished}
+use Rattle.jt_subpacket.specs.Steps.{AnswersPacket, IsPartial, joined_beside, left_there, missing_beside}
 use Rattle.jt_subpacket.proofs.Maps.{missing_with, joined_with}
 use Rattle.jt_subpacket.proofs.Missing.{not_nil, same_beside}
 
 -- the last packet asks for those that are missing once it is there
 pub asks : (key : PartKey) (p : Partial) (number : ℕ) (numbers : List ℕ) → key ≡ p.key → number ≡ key.total → numbers ≡ missing_beside p.key.total p.pieces number
     → (body : List ℕ) → Resend key.first numbers ≡ unfinished p.key number p.pieces (with_piece p.pieces number body)
-asks key p number numbers same is told body =
+asks key p number numbers same is packet_fate body =
     let last : eqb number p.key.total ≡ true = eq-eqb number p.key.total (is ∙ ap (λ (k : PartKey). k.total) same) in
     ap (λ (k : PartKey). Resend k.first numbers) same
-    ∙ ap (Resend p.key.first) (told ∙ sym (missing_with p.key.total p.pieces number body))
+    ∙ ap (Resend p.key.first) (packet_fate ∙ sym (missing_with p.key.total p.pieces number body))
     ∙ sym (cond-true (eqb number p.key.total) _ _ last)
 
 -- ---- a packet of a message that is begun
 
-told_none : (key : PartKey) (number : ℕ) (was now : Pieces) (ms : List ℕ) → ms ≡ [] → told key number was now ms ≡ Whole key.id key.first (joined key.total now)
-told_none key number was now ms e = ap (told key number was now) e
+told_none : (key : PartKey) (number : ℕ) (was now : Pieces) (ms : List ℕ) → ms ≡ [] → packet_fate key number was now ms ≡ Whole key.id key.first (octets_joined key.total now)
+told_none key number was now ms e = ap (packet_fate key number was now) e
 
-pub told_some : (key : PartKey) (number : ℕ) (was now : Pieces) (ms : List ℕ) → (ms ≡ [] → ⊥) → told key number was now ms ≡ unfinished key number was now
+pub told_some : (key : PartKey) (number : ℕ) (was now : Pieces) (ms : List ℕ) → (ms ≡ [] → ⊥) → packet_fate key number was now ms ≡ unfinished key number was now
 told_some key number was now [] some = absurd (some refl)
 told_some key number was now (n ∷ ns) some = refl
 
@@ -39,7 +39,7 @@ there_some ps place p (n ∷ ns) some = refl
 pub stays : (ps : List Partial) (place : ℕ) (p : Partial) (number : ℕ) (body : List ℕ) (fate : Fate) (new : Partial) (completed : Bool)
     → (IsTrue completed → missing_beside p.key.total p.pieces number ≡ []) × (missing_beside p.key.total p.pieces number ≡ [] → IsTrue completed) → completed ≡ false
     → fate ≡ unfinished p.key number p.pieces (with_piece p.pieces number body) → new ≡ record { key = p.key; pieces = with_piece p.pieces number body }
-    → Answers ps place number body fate (slice_set ps place new) p
+    → AnswersPacket ps place number body fate (slice_set ps place new) p
 stays ps place p number body fate new completed iff off fate_is new_is =
     let some : missing p.key.total (with_piece p.pieces number body) ≡ [] → ⊥ = λ e. both_ways completed off (iff.1 (sym (missing_with p.key.total p.pieces number body) ∙ e)) in
     record {
@@ -55,7 +55,7 @@ absent p number true is kept none = let whole = kept.count in let less = kept.un
 pub goes : (ps : List Partial) (place : ℕ) (p : Partial) (number : ℕ) (body octets : List ℕ) (key : PartKey) (now : List Partial) (completed : Bool)
     → IsPartial p → (IsTrue completed → missing_beside p.key.total p.pieces number ≡ []) × (missing_beside p.key.total p.pieces number ≡ [] → IsTrue completed) → completed ≡ true
     → key ≡ p.key → octets ≡ joined_beside p.key.total p.pieces number body → now ≡ remove ps place
-    → Answers ps place number body (Whole key.id key.first octets) now p
+    → AnswersPacket ps place number body (Whole key.id key.first octets) now p
 goes ps place p number body octets key now completed kept iff on same joins new =
     let none = iff.0 on in
     let nil : missing p.key.total (with_piece p.pieces number body) ≡ [] = missing_with p.key.total p.pieces number body ∙ none in

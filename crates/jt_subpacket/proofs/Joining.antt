@@ -14,8 +14,8 @@ use Rattle.jt_subpacket.specs.declared.key.PartKey.{PartKey}
 use Rattle.jt_subpacket.specs.declared.taken.Fate.{Fate}
 use Rattle.jt_subpacket.specs.declared.taken.Fate.TheVariants.{TooMany, Whole, Resend, Repeat, Kept}
 use Rattle.jt_subpacket.specs.Parts.{Message}
-use Rattle.jt_subpacket.specs.Partials.{Partial, Pieces, first_serial, joined, key_of, kept_of, missing, numbers, piece, same_key, updated, with_piece, without}
-use Rattle.jt_subpacket.specs.Fates.{Taken, begins, goes_on, left, left_over, taken_as, taken_by, taken_by_fields, taken_in, told, unfinished}
+use Rattle.jt_subpacket.specs.Partials.{Partial, Pieces, first_serial, octets_joined, key_of, kept_of, missing, numbers, piece, same_key, with_pieces, with_piece, without}
+use Rattle.jt_subpacket.specs.Fates.{Taken, begins, goes_on, left, left_over, taken_as, taken_by, taken_by_fields, taken_in, packet_fate, unfinished}
 use Rattle.jt_subpacket.specs.Joining.{AreAllThere, IsJoinedOnce, IsKey, IsNamedByItsPackets, IsPacketOf, IsWhole, fate_after, number_in, number_of, whole_body}
 use Rattle.jt_subpacket.proofs.Maps.{get_put}
 use Rattle.jt_subpacket.proofs.Missing.{passing_more}
@@ -99,7 +99,7 @@ module _ (octets : ℕ → List ℕ) where
   there_nil : (total : ℕ) (packets : List Message) (m : Pieces) → AreOf octets packets m → AreAllThere total packets → missing total m ≡ []
   there_nil total packets m are all = all_nil (contains_key m) total (λ n low high. contains_is packets m are n ∙ all n low high)
 
-  joined_same : (m : Pieces) (total : ℕ) → ((n : ℕ) → 1 ≤ n → n ≤ total → piece m n ≡ octets n) → joined total m ≡ whole_body total octets
+  joined_same : (m : Pieces) (total : ℕ) → ((n : ℕ) → 1 ≤ n → n ≤ total → piece m n ≡ octets n) → octets_joined total m ≡ whole_body total octets
   joined_same m zero same = refl
   joined_same m (suc k) same =
       flat_map-append (piece m) (numbers k) (suc k ∷ [])
@@ -107,7 +107,7 @@ module _ (octets : ℕ → List ℕ) where
       ∙ ap (λ xs. whole_body k octets ++ (xs ++ [])) (same (suc k) (omega arith) (omega arith))
       ∙ sym (flat_map-append octets (numbers k) (suc k ∷ []))
 
-  joined_there : (total : ℕ) (packets : List Message) (m : Pieces) → AreOf octets packets m → AreAllThere total packets → joined total m ≡ whole_body total octets
+  joined_there : (total : ℕ) (packets : List Message) (m : Pieces) → AreOf octets packets m → AreAllThere total packets → octets_joined total m ≡ whole_body total octets
   joined_there total packets m are all =
       joined_same m total (λ n low high. ap (λ (o : Option (List ℕ)). unwrap_or o []) (are n) ∙ piece_if (has packets n) (octets n) (all n low high))
 
@@ -142,17 +142,17 @@ module _ (key : PartKey) where
   push_without [] m e = cond-true (same_key key key) _ _ same_self
   push_without (p ∷ ps) m e = let parts = none_later p ps e in cond-false (same_key p.key key) _ _ parts.0 ∙ ap (λ l. p ∷ l) (push_without ps m parts.1)
 
-  updated_kept : (ps : List Partial) (was m : Pieces) → kept_of key ps ≡ Some was → (kept_of key (updated key m ps) ≡ Some m) × (without key (updated key m ps) ≡ without key ps)
+  updated_kept : (ps : List Partial) (was m : Pieces) → kept_of key ps ≡ Some was → (kept_of key (with_pieces key m ps) ≡ Some m) × (without key (with_pieces key m ps) ≡ without key ps)
   updated_kept [] was m e = absurd (none-some was e)
   updated_kept (p ∷ ps) was m e =
       elim (cases_Bool (same_key p.key key)) [
         | inl same ↦
-            let is : updated key m (p ∷ ps) ≡ record { key = p.key; pieces = m } ∷ ps = cond-true (same_key p.key key) _ _ same in (
+            let is : with_pieces key m (p ∷ ps) ≡ record { key = p.key; pieces = m } ∷ ps = cond-true (same_key p.key key) _ _ same in (
               ap (kept_of key) is ∙ cond-true (same_key p.key key) _ _ same,
               ap (without key) is ∙ cond-true (same_key p.key key) ps _ same ∙ sym (cond-true (same_key p.key key) ps _ same),
             )
         | inr apart ↦
-            let is : updated key m (p ∷ ps) ≡ p ∷ updated key m ps = cond-false (same_key p.key key) _ _ apart in
+            let is : with_pieces key m (p ∷ ps) ≡ p ∷ with_pieces key m ps = cond-false (same_key p.key key) _ _ apart in
             let rest = updated_kept ps was m (sym (cond-false (same_key p.key key) _ _ apart) ∙ e) in (
               ap (kept_of key) is ∙ cond-false (same_key p.key key) _ _ apart ∙ rest.0,
               ap (without key) is ∙ cond-false (same_key p.key key) _ _ apart ∙ ap (λ l. p ∷ l) rest.1 ∙ sym (cond-false (same_key p.key key) _ _ apart),
@@ -175,7 +175,7 @@ not_whole key number was now =
     cond_both (eqb number key.total) _ _ (λ (f : Fate). IsWhole f → ⊥) (λ _ w. resend_apart _ _ _ _ _ w.3) (λ _.
     cond_both (contains_key was number) _ _ (λ (f : Fate). IsWhole f → ⊥) (λ _ w. repeat_apart _ _ _ w.3) (λ _ w. kept_apart _ _ _ w.3))
 
-left_some : (key : PartKey) (now : Pieces) (ps : List Partial) (ms : List ℕ) → (ms ≡ [] → ⊥) → left key now ms ps ≡ updated key now ps
+left_some : (key : PartKey) (now : Pieces) (ps : List Partial) (ms : List ℕ) → (ms ≡ [] → ⊥) → left key now ms ps ≡ with_pieces key now ps
 left_some key now ps [] some = absurd (some refl)
 left_some key now ps (n ∷ ns) some = refl
 
@@ -207,12 +207,12 @@ module _ (key : PartKey) (octets : ℕ → List ℕ) where
       record {
         whole = λ all.
             let nil : missing key.total now ≡ [] = there_nil octets key.total (q ∷ packets) now are all in (
-              ap (told key n was now) nil ∙ ap (Whole key.id key.first) (joined_there octets key.total (q ∷ packets) now are all),
+              ap (packet_fate key n was now) nil ∙ ap (Whole key.id key.first) (joined_there octets key.total (q ∷ packets) now are all),
               ap (λ ms. kept_of key (left key now ms ps)) nil ∙ holds.one,
             );
         before = λ some.
             let more : missing key.total now ≡ [] → ⊥ = λ nil. some (nil_there octets key.total (q ∷ packets) now are nil) in
-            let stays : left key now (missing key.total now) ps ≡ updated key now ps = left_some key now ps (missing key.total now) more in (
+            let stays : left key now (missing key.total now) ps ≡ with_pieces key now ps = left_some key now ps (missing key.total now) more in (
               λ w. not_whole key n was now (subst IsWhole (told_some key n was now (missing key.total now) more) w),
               record {
                 pieces = λ k. ap (λ l. get (unwrap_or (kept_of key l) empty) k) stays ∙ ap (λ (o : Option Pieces). get (unwrap_or o empty) k) kept.0 ∙ are k;
@@ -373,7 +373,7 @@ module _ (id serial : ℕ) (whole : List ℕ) where
   names_none : (key : PartKey) (number : ℕ) (was now : Pieces) → Names key (unfinished key number was now)
   names_none key number was now e = absurd (not_whole key number was now (id, serial, whole, e))
 
-  names_told : (key : PartKey) (number : ℕ) (was now : Pieces) (ms : List ℕ) → Names key (told key number was now ms)
+  names_told : (key : PartKey) (number : ℕ) (was now : Pieces) (ms : List ℕ) → Names key (packet_fate key number was now ms)
   names_told key number was now [] e = whole_parts key.id key.first id serial _ whole e
   names_told key number was now (n ∷ ns) e = names_none key number was now e
 

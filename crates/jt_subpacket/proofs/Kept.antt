@@ -12,7 +12,7 @@ use Rattle.std.proofs.lemmas.Option.{same_Some, none-some}
 use Rattle.jt_header.specs.declared.header.Header.{Header}
 use Rattle.jt_header.specs.declared.header.Packet.{Packet}
 use Rattle.jt_subpacket.specs.declared.key.PartKey.{PartKey}
-use Rattle.jt_subpacket.specs.Partials.{IsBounded, Partial, Pieces, all_octets_kept, joined, key_of, kept_of, missing, numbers, octets_kept, piece, same_key, updated, with_piece, without}
+use Rattle.jt_subpacket.specs.Partials.{IsBounded, Partial, Pieces, all_octets_kept, octets_joined, key_of, kept_of, missing, numbers, octets_kept, piece, same_key, with_pieces, with_piece, without}
 use Rattle.jt_subpacket.specs.Fates.{Taken, begins, goes_on, left, taken_as, taken_in}
 use Rattle.jt_subpacket.specs.Steps.{AreKept, IsPartial}
 use Rattle.jt_subpacket.proofs.Maps.{get_put, missing_with}
@@ -127,19 +127,19 @@ module _ (key : PartKey) where
   length_without [] = omega arith
   length_without (p ∷ ps) = let rest = length_without ps in length_cond (same_key p.key key) ps (p ∷ without key ps) (suc (length ps)) (omega arith) (omega arith)
 
-  each_updated : (now : Pieces) → IsPartial (record { key = key; pieces = now }) → (ps : List Partial) → Each ps → Each (updated key now ps)
+  each_updated : (now : Pieces) → IsPartial (record { key = key; pieces = now }) → (ps : List Partial) → Each ps → Each (with_pieces key now ps)
   each_updated now kept [] each = each
   each_updated now kept (p ∷ ps) each =
       elim (cases_Bool (same_key p.key key)) [
-        | inl same ↦ subst Each (sym (cond-true (same_key p.key key) (record { key = p.key; pieces = now } ∷ ps) (p ∷ updated key now ps) same))
+        | inl same ↦ subst Each (sym (cond-true (same_key p.key key) (record { key = p.key; pieces = now } ∷ ps) (p ∷ with_pieces key now ps) same))
             (each_cons _ ps (subst (λ (k : PartKey). IsPartial (record { key = k; pieces = now })) (sym (same_key_is p.key key same)) kept) (each_tail p ps each))
-        | inr apart ↦ subst Each (sym (cond-false (same_key p.key key) (record { key = p.key; pieces = now } ∷ ps) (p ∷ updated key now ps) apart))
-            (each_cons p (updated key now ps) (each zero p refl) (each_updated now kept ps (each_tail p ps each)))
+        | inr apart ↦ subst Each (sym (cond-false (same_key p.key key) (record { key = p.key; pieces = now } ∷ ps) (p ∷ with_pieces key now ps) apart))
+            (each_cons p (with_pieces key now ps) (each zero p refl) (each_updated now kept ps (each_tail p ps each)))
       ]
 
-  length_updated : (now : Pieces) (ps : List Partial) → length (updated key now ps) ≤ length ps
+  length_updated : (now : Pieces) (ps : List Partial) → length (with_pieces key now ps) ≤ length ps
   length_updated now [] = omega arith
-  length_updated now (p ∷ ps) = let rest = length_updated now ps in length_cond (same_key p.key key) (record { key = p.key; pieces = now } ∷ ps) (p ∷ updated key now ps) (suc (length ps)) (omega arith) (omega arith)
+  length_updated now (p ∷ ps) = let rest = length_updated now ps in length_cond (same_key p.key key) (record { key = p.key; pieces = now } ∷ ps) (p ∷ with_pieces key now ps) (suc (length ps)) (omega arith) (omega arith)
 
   pub kept_partial : (ps : List Partial) (was : Pieces) → Each ps → kept_of key ps ≡ Some was → IsPartial (record { key = key; pieces = was })
   kept_partial [] was each e = absurd (none-some was e)
@@ -199,10 +199,10 @@ length_piece : (o : Option (List ℕ)) → ((octets : List ℕ) → o ≡ Some o
 length_piece None short = omega arith
 length_piece (Some octets) short = short octets refl
 
-pub length_joined : (m : Pieces) (n : ℕ) → ((number : ℕ) (octets : List ℕ) → get m number ≡ Some octets → length octets ≤ 1023) → length (joined n m) ≤ n * 1023
+pub length_joined : (m : Pieces) (n : ℕ) → ((number : ℕ) (octets : List ℕ) → get m number ≡ Some octets → length octets ≤ 1023) → length (octets_joined n m) ≤ n * 1023
 length_joined m zero short = omega arith
 length_joined m (suc n) short =
-    let split = ap length (flat_map-append (piece m) (numbers n) (suc n ∷ []) ∙ ap (λ xs. joined n m ++ xs) (append-nil (piece m (suc n)))) ∙ length-append (joined n m) (piece m (suc n)) in
+    let split = ap length (flat_map-append (piece m) (numbers n) (suc n ∷ []) ∙ ap (λ xs. octets_joined n m ++ xs) (append-nil (piece m (suc n)))) ∙ length-append (octets_joined n m) (piece m (suc n)) in
     omega (arith, split, length_joined m n short, length_piece (get m (suc n)) (short (suc n)))
 
 octets_bound : (p : Partial) → IsPartial p → octets_kept p ≤ 261888

@@ -6,7 +6,7 @@ use Rattle.jt_header.specs.declared.header.Header.{Header}
 use Rattle.jt_header.specs.declared.header.Packet.{Packet}
 use Rattle.jt_subpacket.specs.declared.key.PartKey.{PartKey}
 use Rattle.jt_subpacket.specs.Partials.{Partial, Pieces, key_of, kept_of, missing, with_piece}
-use Rattle.jt_subpacket.specs.Fates.{IsWithinLimits, Taken, taken_as, taken_in, told, unfinished}
+use Rattle.jt_subpacket.specs.Fates.{IsWithinLimits, Taken, taken_as, taken_in, packet_fate, unfinished}
 use Rattle.jt_subpacket.specs.Steps.{AreKept}
 use Rattle.jt_subpacket.proofs.Maps.{has_with}
 use Rattle.jt_subpacket.proofs.Kept.{AreSound, kept_partial, length_joined, none_in, sound_empty, sound_of, sound_with}
@@ -29,7 +29,7 @@ within_unfinished key number was now few =
 few_missing : (key : PartKey) (m : Pieces) (number : ℕ) (body : List ℕ) → key.total ≤ 256 → AreSound key.total (with_piece m number body) → length (missing key.total (with_piece m number body)) ≤ 255
 few_missing key m number body few sound = let count = sound.count in omega (arith, some_kept m number body)
 
-within_told : (key : PartKey) (number : ℕ) (was : Pieces) (body : List ℕ) (ms : List ℕ) → key.total ≤ 256 → AreSound key.total (with_piece was number body) → IsWithinLimits (told key number was (with_piece was number body) ms)
+within_told : (key : PartKey) (number : ℕ) (was : Pieces) (body : List ℕ) (ms : List ℕ) → key.total ≤ 256 → AreSound key.total (with_piece was number body) → IsWithinLimits (packet_fate key number was (with_piece was number body) ms)
 within_told key number was body [] few sound = omega (arith, length_joined (with_piece was number body) key.total sound.short)
 within_told key number was body (n ∷ ns) few sound = within_unfinished key number was (with_piece was number body) (few_missing key was number body few sound)
 

@@ -11,7 +11,7 @@ use Rattle.std.proofs.lemmas.Bool.{eqb-true, cases_Bool, cond-true, cond-false}
 use Rattle.std.proofs.lemmas.Bool.Decides.{nat_tests}
 use Rattle.jt_value.proofs.FiniteMaps.{under, get_is, len_is}
 use Rattle.jt_subpacket.specs.declared.key.PartKey.{PartKey}
-use Rattle.jt_subpacket.specs.Partials.{Partial, Pieces, numbers, missing, piece, joined, with_piece}
+use Rattle.jt_subpacket.specs.Partials.{Partial, Pieces, numbers, missing, piece, octets_joined, with_piece}
 use Rattle.jt_subpacket.specs.Steps.{has_beside, missing_beside, joined_beside}
 
 -- ---- one piece more
@@ -71,9 +71,9 @@ piece_put true body before = refl
 piece_put false body before = refl
 
 -- the octets of a message that this packet completes
-pub joined_with : (total : ℕ) (m : Pieces) (number : ℕ) (body : List ℕ) → contains_key m number ≡ false → joined total (with_piece m number body) ≡ joined_beside total m number body
+pub joined_with : (total : ℕ) (m : Pieces) (number : ℕ) (body : List ℕ) → contains_key m number ≡ false → octets_joined total (with_piece m number body) ≡ joined_beside total m number body
 joined_with total m number body none =
-    ap (λ (p : Pieces). joined total p) (cond-false (contains_key m number) m (insert m number body) none)
+    ap (λ (p : Pieces). octets_joined total p) (cond-false (contains_key m number) m (insert m number body) none)
     ∙ ap (λ (f : ℕ → List ℕ). flat_map f (numbers total)) (λ i other. let same = ap (λ (o : Option (List ℕ)). unwrap_or o []) (get_put m number body other) ∙ piece_put (eqb other number) body (get m other) in same i)
 
 -- ---- what the calls of a partial message answer

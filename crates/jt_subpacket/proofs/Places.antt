@@ -8,9 +8,9 @@ use Rattle.jt_header.specs.declared.header.Header.{Header}
 use Rattle.jt_header.specs.declared.header.Packet.{Packet}
 use Rattle.jt_subpacket.specs.declared.key.PartKey.{PartKey}
 use Rattle.jt_subpacket.specs.declared.taken.Fate.{Fate}
-use Rattle.jt_subpacket.specs.Partials.{Partial, Pieces, key_of, kept_of, missing, same_key, updated, with_piece, without}
-use Rattle.jt_subpacket.specs.Fates.{Taken, begins, goes_on, left, taken_as, taken_in, told}
-use Rattle.jt_subpacket.specs.Steps.{Answers, AreKept, IsPartial, left_there}
+use Rattle.jt_subpacket.specs.Partials.{Partial, Pieces, key_of, kept_of, missing, same_key, with_pieces, with_piece, without}
+use Rattle.jt_subpacket.specs.Fates.{Taken, begins, goes_on, left, taken_as, taken_in, packet_fate}
+use Rattle.jt_subpacket.specs.Steps.{AnswersPacket, AreKept, IsPartial, left_there}
 
 pub same_key_is : (a b : PartKey) → same_key a b ≡ true → a ≡ b
 same_key_is a b e =
@@ -27,7 +27,7 @@ pub record At (key : PartKey) (ps : List Partial) (place : ℕ) : Type 0 where
   pub there : slice_get ps place ≡ Some message
   pub same : message.key ≡ key
   pub kept : kept_of key ps ≡ Some message.pieces
-  pub update : (pieces : Pieces) → updated key pieces ps ≡ slice_set ps place (record { key = message.key; pieces = pieces })
+  pub update : (pieces : Pieces) → with_pieces key pieces ps ≡ slice_set ps place (record { key = message.key; pieces = pieces })
   pub out : without key ps ≡ remove ps place
 
 module _ (key : PartKey) where
@@ -102,23 +102,23 @@ pub record Told (answer : Taken) (dropped : Option PartKey) (fate : Fate) (now :
   pub fate_is : fate ≡ answer.fate
   pub now_is : now ≡ answer.partial
 
-went_on : (ps : List Partial) (key : PartKey) (number : ℕ) (body : List ℕ) (place : ℕ) (fate : Fate) (now : List Partial) (a : At key ps place) → Answers ps place number body fate now a.message → Told (goes_on ps key number body a.message.pieces) None fate now
+went_on : (ps : List Partial) (key : PartKey) (number : ℕ) (body : List ℕ) (place : ℕ) (fate : Fate) (now : List Partial) (a : At key ps place) → AnswersPacket ps place number body fate now a.message → Told (goes_on ps key number body a.message.pieces) None fate now
 went_on ps key number body place fate now a answers =
     let p = a.message in
     let after = with_piece p.pieces number body in
     record {
       dropped_is = refl;
-      fate_is = answers.fate_is ∙ ap (λ (k : PartKey). told k number p.pieces after (missing k.total after)) a.same;
+      fate_is = answers.fate_is ∙ ap (λ (k : PartKey). packet_fate k number p.pieces after (missing k.total after)) a.same;
       now_is = answers.now_is ∙ left_is key ps place a after (missing p.key.total after) ∙ ap (λ (k : PartKey). left key after (missing k.total after) ps) a.same;
     }
 
 pub goes_on_told : (ps : List Partial) (h : Header) (body : List ℕ) (packet : Packet) (key : PartKey) (place : ℕ) (fate : Fate) (now : List Partial)
     → packet.total ≤ 256 → (packet.total ≡ 1 → ⊥) → key ≡ key_of h packet → position (λ p. same_key p.key key) ps ≡ Some place
-    → IfSome (slice_get ps place) (Answers ps place packet.number body fate now) → Told (taken_as ps h body packet) None fate now
+    → IfSome (slice_get ps place) (AnswersPacket ps place packet.number body fate now) → Told (taken_as ps h body packet) None fate now
 goes_on_told ps h body packet key place fate now few several same at answers =
     let k = key_of h packet in
     let a : At k ps place = subst (λ (q : PartKey). At q ps place) same (at_place key ps place at) in
-    let told_in : Told (goes_on ps k packet.number body a.message.pieces) None fate now = went_on ps k packet.number body place fate now a (subst (λ o. IfSome o (Answers ps place packet.number body fate now)) a.there answers) in
+    let told_in : Told (goes_on ps k packet.number body a.message.pieces) None fate now = went_on ps k packet.number body place fate now a (subst (λ o. IfSome o (AnswersPacket ps place packet.number body fate now)) a.there answers) in
     subst (λ answer. Told answer None fate now) (sym (reach ps h body packet few several ∙ ap (taken_in ps k packet.number body) a.kept)) told_in
 
 pub begins_told : (ps : List Partial) (h : Header) (body : List ℕ) (packet : Packet) (key : PartKey)

@@ -2,13 +2,14 @@
 use Rattle.std.specs.Prelude.{◌≤◌, ℕ, ◌==◌, nat_lt, if◌then◌else◌, List, [], ◌∷◌, ◌++◌, length, drop, Option, None, Some, slice_get}
 use Rattle.std.specs.FinMap.{empty, contains_key}
 use Rattle.std.specs.Option.{option_map}
+use Rattle.jt_value.specs.declared.limits.TheConstants.{OCTET_COUNT_LIMIT}
 use Rattle.jt_header.specs.declared.header.Header.{Header}
 use Rattle.jt_header.specs.declared.header.Packet.{Packet}
 use Rattle.jt_subpacket.specs.declared.key.PartKey.{PartKey}
 use Rattle.jt_subpacket.specs.declared.taken.Fate.{Fate}
 use Rattle.jt_subpacket.specs.declared.taken.Fate.TheVariants.{TooMany, Whole, Resend, Repeat, Kept}
 use Rattle.jt_subpacket.specs.Parts.{Message}
-use Rattle.jt_subpacket.specs.Partials.{Partial, Pieces, key_of, kept_of, updated, without, with_piece, missing, joined}
+use Rattle.jt_subpacket.specs.Partials.{Partial, Pieces, key_of, kept_of, with_pieces, without, with_piece, missing, octets_joined}
 
 -- the most packets of a message, and the most partial messages
 abbrev pub packet_limit : ℕ
@@ -32,18 +33,18 @@ unfinished key number was now =
     else Kept
 
 -- Of a message that is begun, octets under a new number are kept. Once all numbers are there the message is whole, and gone.
-abbrev pub told : PartKey → ℕ → Pieces → Pieces → List ℕ → Fate
-told key number was now [] = Whole key.id key.first (joined key.total now)
-told key number was now (n ∷ ns) = unfinished key number was now
+abbrev pub packet_fate : PartKey → ℕ → Pieces → Pieces → List ℕ → Fate
+packet_fate key number was now [] = Whole key.id key.first (octets_joined key.total now)
+packet_fate key number was now (n ∷ ns) = unfinished key number was now
 
 abbrev pub left : PartKey → Pieces → List ℕ → List Partial → List Partial
 left key now [] ps = without key ps
-left key now (n ∷ ns) ps = updated key now ps
+left key now (n ∷ ns) ps = with_pieces key now ps
 
 abbrev pub goes_on : List Partial → PartKey → ℕ → List ℕ → Pieces → Taken
 goes_on ps key number body was =
     let now = with_piece was number body in
-    record { dropped = None; fate = told key number was now (missing key.total now); partial = left key now (missing key.total now) ps }
+    record { dropped = None; fate = packet_fate key number was now (missing key.total now); partial = left key now (missing key.total now) ps }
 
 -- A message that is not begun begins, and where four stand the one that began first is dropped.
 abbrev pub begins : List Partial → PartKey → ℕ → List ℕ → Taken
@@ -85,7 +86,7 @@ left_by packets = left_over [] packets
 -- a whole message has at most 261,888 octets, and at most 255 numbers are missing
 abbrev pub IsWithinLimits : Fate → Type 0
 IsWithinLimits (Whole id serial body) = length body ≤ 261888
-IsWithinLimits (Resend first missing) = length missing ≤ 255
+IsWithinLimits (Resend first missing) = length missing ≤ OCTET_COUNT_LIMIT
 IsWithinLimits (TooMany total) = Unit {0}
 IsWithinLimits Repeat = Unit {0}
 IsWithinLimits Kept = Unit {0}

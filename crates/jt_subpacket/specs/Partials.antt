@@ -42,8 +42,8 @@ abbrev pub piece : Pieces → ℕ → List ℕ
 piece pieces number = unwrap_or (get pieces number) []
 
 -- the octets under the numbers up to the total, one after the other
-abbrev pub joined : ℕ → Pieces → List ℕ
-joined total pieces = flat_map (piece pieces) (numbers total)
+abbrev pub octets_joined : ℕ → Pieces → List ℕ
+octets_joined total pieces = flat_map (piece pieces) (numbers total)
 
 -- octets that are kept are never replaced
 abbrev pub with_piece : Pieces → ℕ → List ℕ → Pieces
@@ -55,9 +55,9 @@ kept_of key [] = None
 kept_of key (p ∷ ps) = if same_key p.key key then Some p.pieces else kept_of key ps
 
 -- the partial messages with other octets kept of one of them
-abbrev pub updated : PartKey → Pieces → List Partial → List Partial
-updated key pieces [] = []
-updated key pieces (p ∷ ps) = if same_key p.key key then record { key = p.key; pieces = pieces } ∷ ps else p ∷ updated key pieces ps
+abbrev pub with_pieces : PartKey → Pieces → List Partial → List Partial
+with_pieces key pieces [] = []
+with_pieces key pieces (p ∷ ps) = if same_key p.key key then record { key = p.key; pieces = pieces } ∷ ps else p ∷ with_pieces key pieces ps
 
 -- the partial messages without one of them
 abbrev pub without : PartKey → List Partial → List Partial
@@ -66,7 +66,7 @@ without key (p ∷ ps) = if same_key p.key key then ps else p ∷ without key ps
 
 -- how many octets are kept of a message
 abbrev pub octets_kept : Partial → ℕ
-octets_kept p = length (joined p.key.total p.pieces)
+octets_kept p = length (octets_joined p.key.total p.pieces)
 
 abbrev pub all_octets_kept : List Partial → ℕ
 all_octets_kept [] = 0

@@ -1,11 +1,12 @@
 -- The packets of a message, as the standard's subpackets have them. To be believed.
 use Rattle.std.specs.Prelude.{◌≡◌, ℕ, ◌+◌, ◌-◌, ◌<◌, ◌≤◌, ◌%◌, List, [], ◌∷◌, length, None, Some, IfSome, slice_get}
 use Rattle.std.specs.List.{flat_map}
+use Rattle.jt_value.specs.declared.limits.TheConstants.{BODY_LIMIT}
 use Rattle.jt_header.specs.declared.header.Header.{Header}
 
 -- the most octets of a packet's body
 abbrev pub packet_octets : ℕ
-packet_octets = 1023
+packet_octets = BODY_LIMIT
 
 -- a header and a body
 abbrev pub Message : Type 0

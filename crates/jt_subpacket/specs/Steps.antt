@@ -3,17 +3,18 @@
 use Rattle.std.specs.Prelude.{◌≡◌, ℕ, zero, suc, ◌+◌, ◌*◌, ◌≤◌, ◌<◌, ◌/◌, nat_le, None, Bool, ◌==◌, ◌||◌, not, if◌then◌else◌, List, [], ◌∷◌, ◌++◌, length, take, drop, Some, slice_get, slice_set}
 use Rattle.std.specs.FinMap.{get, len, contains_key}
 use Rattle.std.specs.List.{filter, flat_map, remove}
+use Rattle.jt_value.specs.declared.limits.TheConstants.{BODY_LIMIT}
 use Rattle.jt_header.specs.declared.header.Header.{Header}
 use Rattle.jt_subpacket.specs.Parts.{Message, packet_header, packet_octets}
 use Rattle.jt_subpacket.specs.Partials.{Partial, Pieces, HasNumbers, missing, numbers, piece, with_piece}
-use Rattle.jt_subpacket.specs.Fates.{told}
+use Rattle.jt_subpacket.specs.Fates.{packet_fate}
 use Rattle.jt_subpacket.specs.declared.taken.Fate.{Fate}
 
 -- ---- split
 
 -- the piece of a body that a packet has
 abbrev pub piece_of : List ℕ → ℕ → List ℕ
-piece_of body place = take 1023 (drop (place * 1023) body)
+piece_of body place = take BODY_LIMIT (drop (place * BODY_LIMIT) body)
 
 -- the first packets of a message
 abbrev pub front : Header → ℕ → List ℕ → ℕ → List Message
@@ -24,7 +25,7 @@ front h total body (suc place) = front h total body place ++ (packet_header h to
 abbrev pub packets_of : Header → List ℕ → List Message
 packets_of h body =
     if nat_le (length body) packet_octets then (record h { packet = None }, body) ∷ []
-    else front h ((length body + 1022) / 1023) body ((length body + 1022) / 1023)
+    else front h ((length body + (BODY_LIMIT - 1)) / BODY_LIMIT) body ((length body + (BODY_LIMIT - 1)) / BODY_LIMIT)
 
 -- ---- what is kept of a message
 
@@ -50,7 +51,7 @@ pub record IsPartial (p : Partial) : Type 0 where
   pub count : len p.pieces + length (missing p.key.total p.pieces) ≡ p.key.total
   pub unfinished : len p.pieces < p.key.total
   pub own : HasNumbers p
-  pub short : (number : ℕ) (octets : List ℕ) → get p.pieces number ≡ Some octets → length octets ≤ 1023
+  pub short : (number : ℕ) (octets : List ℕ) → get p.pieces number ≡ Some octets → length octets ≤ BODY_LIMIT
 
 -- what holds of all that an assembler keeps
 pub record AreKept (ps : List Partial) : Type 0 where
@@ -63,7 +64,7 @@ pub record AreKept (ps : List Partial) : Type 0 where
 abbrev pub fate_at : Partial → ℕ → List ℕ → Fate
 fate_at p number body =
     let now = with_piece p.pieces number body in
-    told p.key number p.pieces now (missing p.key.total now)
+    packet_fate p.key number p.pieces now (missing p.key.total now)
 
 -- the partial messages with another at a place, or none there
 abbrev pub left_there : List Partial → ℕ → Partial → List ℕ → List Partial
@@ -77,6 +78,6 @@ left_at ps place p number body =
     left_there ps place (record { key = p.key; pieces = now }) (missing p.key.total now)
 
 -- a packet of this partial message was told this fate, and these messages were left
-pub record Answers (ps : List Partial) (place number : ℕ) (body : List ℕ) (fate : Fate) (now : List Partial) (p : Partial) : Type 0 where
+pub record AnswersPacket (ps : List Partial) (place number : ℕ) (body : List ℕ) (fate : Fate) (now : List Partial) (p : Partial) : Type 0 where
   pub fate_is : fate ≡ fate_at p number body
   pub now_is : now ≡ left_at ps place p number body

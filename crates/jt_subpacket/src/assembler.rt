@@ -2,11 +2,12 @@
 
 ghost use Rattle.std.specs.Prelude.{◌≡◌, ◌≤◌, ◌<◌, List, [], ◌∷◌, length, slice_get, IfOk, IfSome, IsSome, OnOk, OnErr};
 ghost use Rattle.std.specs.List.{position};
+ghost use Rattle.jt_value.specs.declared.limits.TheConstants.{BODY_LIMIT};
 ghost use Rattle.jt_header.specs.Content.{IsPacket};
 ghost use Rattle.jt_subpacket.specs.Parts.{Message};
 ghost use Rattle.jt_subpacket.specs.Partials.{IsBounded, Partial, same_key};
 ghost use Rattle.jt_subpacket.specs.Fates.{IsWithinLimits, begins, left_by, taken_as, taken_by};
-ghost use Rattle.jt_subpacket.specs.Steps.{Answers, AreKept, IsPartial};
+ghost use Rattle.jt_subpacket.specs.Steps.{AnswersPacket, AreKept, IsPartial};
 
 use crate::key::PartKey;
 use crate::partial::PartialMessage;
@@ -64,9 +65,12 @@ fn begin(
     body: &[u8],
 ) -> Result<Taken, Memory>
     requires { length partials.old.items ≤ 4 }
-    ensures dropped { IfOk result (λ taken. taken.dropped ≡ (begins partials.old.items key number body.now).dropped) }
-    ensures fate { IfOk result (λ taken. taken.fate ≡ (begins partials.old.items key number body.now).fate) }
-    ensures ok { OnOk result (partials.new.items ≡ (begins partials.old.items key number body.now).partial) }
+    ensures dropped { IfOk result (λ taken.
+        taken.dropped ≡ (begins partials.old.items key number body.now).dropped) }
+    ensures fate { IfOk result (λ taken.
+        taken.fate ≡ (begins partials.old.items key number body.now).fate) }
+    ensures ok { OnOk result
+        (partials.new.items ≡ (begins partials.old.items key number body.now).partial) }
     ensures err { OnErr result (partials.new.items ≡ partials.old.items) }
 {
     let mut partial = PartialMessage::new(alloc, key);
@@ -94,8 +98,10 @@ fn go_on(
     body: &[u8],
 ) -> Result<Fate, Memory>
     requires place { place < length partials.old.items }
-    requires kept { (p : Partial) → slice_get partials.old.items place ≡ Some p → IsPartial p × (1 ≤ number) × (number ≤ p.key.total) }
-    ensures ok { IfOk result (λ fate. IfSome (slice_get partials.old.items place) (Answers partials.old.items place number body.now fate partials.new.items)) }
+    requires kept { (p : Partial) → slice_get partials.old.items place ≡ Some p →
+        IsPartial p × (1 ≤ number) × (number ≤ p.key.total) }
+    ensures ok { IfOk result (λ fate. IfSome (slice_get partials.old.items place)
+        (AnswersPacket partials.old.items place number body.now fate partials.new.items)) }
     ensures err { OnErr result (partials.new.items ≡ partials.old.items) }
 {
     let partial = &mut partials[place];
@@ -128,9 +134,12 @@ fn take_in(
     requires kept { AreKept partials.old.items }
     requires low { 1 ≤ packet.number }
     requires high { packet.number ≤ packet.total }
-    ensures dropped { IfOk result (λ taken. taken.dropped ≡ (taken_as partials.old.items header.now body.now packet).dropped) }
-    ensures fate { IfOk result (λ taken. taken.fate ≡ (taken_as partials.old.items header.now body.now packet).fate) }
-    ensures ok { OnOk result (partials.new.items ≡ (taken_as partials.old.items header.now body.now packet).partial) }
+    ensures dropped { IfOk result (λ taken.
+        taken.dropped ≡ (taken_as partials.old.items header.now body.now packet).dropped) }
+    ensures fate { IfOk result (λ taken.
+        taken.fate ≡ (taken_as partials.old.items header.now body.now packet).fate) }
+    ensures ok { OnOk result
+        (partials.new.items ≡ (taken_as partials.old.items header.now body.now packet).partial) }
     ensures err { OnErr result (partials.new.items ≡ partials.old.items) }
 {
     if packet.total > MOST_PACKETS {
@@ -187,9 +196,11 @@ impl Assembler {
     pub fn take(&mut self, header: &Header, body: &[u8]) -> Result<Taken, Memory>
         requires some { IsSome header.now.packet }
         requires packet { IsPacket header.now.packet }
-        requires short { length body.now ≤ 1023 }
-        ensures dropped { IfOk result (λ taken. taken.dropped ≡ (taken_by self.old header.now body.now).dropped) }
-        ensures fate { IfOk result (λ taken. taken.fate ≡ (taken_by self.old header.now body.now).fate) }
+        requires short { length body.now ≤ BODY_LIMIT }
+        ensures dropped { IfOk result (λ taken.
+            taken.dropped ≡ (taken_by self.old header.now body.now).dropped) }
+        ensures fate { IfOk result (λ taken.
+            taken.fate ≡ (taken_by self.old header.now body.now).fate) }
         ensures partial { OnOk result (self.new ≡ (taken_by self.old header.now body.now).partial) }
         // What it stood for, and what it stands for now: the packets taken so far, the newest first.
         ensures packets { (packets : List Message) → self.old ≡ left_by packets

@@ -86,7 +86,8 @@ impl PartialMessage {
 
     // The numbers that are missing once this one is there, upwards.
     fn missing_beside(&self, alloc: Global, number: u16) -> Result<Seq<u16>, Memory>
-        ensures { IfOk result (λ missing. missing ≡ missing_beside self.now.key.total self.now.pieces number) }
+        ensures { IfOk result (λ missing.
+            missing ≡ missing_beside self.now.key.total self.now.pieces number) }
     {
         let mut missing = Seq::new(alloc);
         for before in 0..self.key.total {
@@ -100,7 +101,8 @@ impl PartialMessage {
 
     /// The body of the message, with these octets under this number.
     pub fn joined_beside(&self, alloc: Global, number: u16, body: &[u8]) -> Result<Octets, Memory>
-        ensures { IfOk result (λ whole. whole ≡ joined_beside self.now.key.total self.now.pieces number body.now) }
+        ensures { IfOk result (λ whole.
+            whole ≡ joined_beside self.now.key.total self.now.pieces number body.now) }
     {
         let mut whole = Vec::new(alloc);
         for before in 0..self.key.total {
@@ -117,8 +119,8 @@ impl PartialMessage {
 
     // What a packet is told with which the message is not whole.
     fn told(&self, alloc: Global, number: u16) -> Result<Fate, Memory>
-        ensures { (body : List ℕ) → IfOk result (λ fate. fate
-            ≡ unfinished self.now.key number self.now.pieces (with_piece self.now.pieces number body)) }
+        ensures { (body : List ℕ) → IfOk result (λ fate. fate ≡ unfinished self.now.key number
+            self.now.pieces (with_piece self.now.pieces number body)) }
     {
         if number == self.key.total {
             return Ok(Fate::Resend {
@@ -134,7 +136,8 @@ impl PartialMessage {
 
     // Keeps octets under a number, if none are kept there.
     fn put(&mut self, alloc: Global, number: u16, body: &[u8]) -> Result<(), Memory>
-        ensures ok { OnOk result (self.new ≡ record { key = self.old.key; pieces = with_piece self.old.pieces number body.now }) }
+        ensures ok { OnOk result (self.new
+            ≡ record { key = self.old.key; pieces = with_piece self.old.pieces number body.now }) }
         ensures err { OnErr result (self.new ≡ self.old) }
     {
         if self.has(number) {
@@ -147,9 +150,10 @@ impl PartialMessage {
 
     /// Keeps a packet with which the message is not whole, and says what it is told. After Memory the message is as before.
     pub fn keep(&mut self, alloc: Global, number: u16, body: &[u8]) -> Result<Fate, Memory>
-        ensures fate { IfOk result (λ fate. fate
-            ≡ unfinished self.old.key number self.old.pieces (with_piece self.old.pieces number body.now)) }
-        ensures ok { OnOk result (self.new ≡ record { key = self.old.key; pieces = with_piece self.old.pieces number body.now }) }
+        ensures fate { IfOk result (λ fate. fate ≡ unfinished self.old.key number self.old.pieces
+            (with_piece self.old.pieces number body.now)) }
+        ensures ok { OnOk result (self.new
+            ≡ record { key = self.old.key; pieces = with_piece self.old.pieces number body.now }) }
         ensures err { OnErr result (self.new ≡ self.old) }
     {
         let fate = self.told(alloc, number)?;

@@ -72,7 +72,7 @@ fn packet_header(header: &Header, total: u16, place: u16) -> Header
 
 // The piece of a body that the packet at a place has.
 fn piece_of(body: &[u8], place: u16) -> &[u8]
-    requires { place * 1023 < length body.now }
+    requires { place * BODY_LIMIT < length body.now }
     ensures { result.now ≡ piece_of body.now place }
 {
     let start = place as usize * PACKET_OCTETS;
@@ -87,7 +87,7 @@ fn in_packets(
     body: &[u8],
     total: u16,
 ) -> Result<Seq<(Header, Octets)>, Memory>
-    requires enough { (place : ℕ) → place < total → place * 1023 < length body.now }
+    requires enough { (place : ℕ) → place < total → place * BODY_LIMIT < length body.now }
     ensures { IfOk result (λ packets. packets ≡ front header.now total body.now total) }
 {
     let mut packets = Vec::with_capacity(alloc, total as usize)?;

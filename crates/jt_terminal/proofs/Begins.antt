@@ -8,15 +8,15 @@ use Rattle.jt_position.specs.Fixes.{IsFix, fixes_of}
 use Rattle.jt_store.specs.declared.row.Row.{Row}
 use Rattle.jt_store.specs.declared.unit.Unit.{Unit as OneUnit}
 use Rattle.jt_store.specs.declared.unit.Loaded.{Loaded}
-use Rattle.jt_store.specs.Tables.{Told}
+use Rattle.jt_store.specs.Tables.{WhereKnown}
 use Rattle.jt_store.specs.Verdicts.{number_after, numbered}
-use Rattle.jt_store.specs.Vaults.{Held, AreInOrder, IsLoaded, IsWhole, fixes_in_units, formed, last_serial, settled}
+use Rattle.jt_store.specs.Vaults.{Held, AreInOrder, IsLoaded, IsWhole, fixes_in_units, formed_count, last_serial, accepted_count}
 use Rattle.jt_terminal_rule.specs.declared.settings.Settings.{Settings}
 use Rattle.jt_terminal_rule.specs.Messages.{AreSettings}
 use Rattle.jt_store.specs.Units.{fixes_in, past, past_accepted}
-use Rattle.jt_terminal_rule.specs.Rule.{started}
+use Rattle.jt_terminal_rule.specs.Rule.{start_state}
 use Rattle.jt_terminal_rule.specs.Machines.{Agrees, AreSerials, mark_of}
-use Rattle.jt_terminal_steps.specs.Running.{Counts, IsSound}
+use Rattle.jt_terminal_steps.specs.Running.{CountsAsVault, IsSound}
 use Rattle.jt_terminal_rule.proofs.Accepting.{row_in, serial_is}
 use Rattle.jt_terminal_rule.proofs.Filling.{none_is_end}
 use Rattle.jt_terminal_rule.proofs.Measuring.{drop_from, take_upto}
@@ -50,7 +50,7 @@ short_count : (n m : ℕ) → n ≡ m → n < 2 ^ 64 → n ≡ min m (2 ^ 64 - 1
 short_count n m e lt = grind arith
 
 -- what was loaded agrees with what is held
-agrees_started : (h : Held) (settings : Settings) (l : Loaded) → IsWhole h → IsLoaded h l → AreInOrder l.mark l.next l.units l.code → l.mark < 65536 → l.next < 65536 → All IsFix l.fixes → Agrees h (started settings l)
+agrees_started : (h : Held) (settings : Settings) (l : Loaded) → IsWhole h → IsLoaded h l → AreInOrder l.mark l.next l.units l.code → l.mark < 65536 → l.next < 65536 → All IsFix l.fixes → Agrees h (start_state settings l)
 agrees_started h settings l w is order mark next are =
     let next_is = is.next in
     let mark_is = is.mark in
@@ -66,14 +66,14 @@ agrees_started h settings l w is order mark next are =
       next_small = omega (arith, next_is, next);
       next_behind = omega (arith, behind, gaps);
       next_held = omega (arith, gaps);
-      fixes = sym (take-append-drop (formed h) h.recorded) ∙ (ap (λ (fs : List (List ℕ)). fs ++ drop (formed h) h.recorded) (sym (fixes_are None h.units ∙ w.fixes)) ∙ ap (λ (fs : List (List ℕ)). fixes_in (numbered None h.units) ++ fs) (sym is.fixes));
-      formed = let len = ap (λ (fs : List (List ℕ)). length fs) is.fixes ∙ length-drop (formed h) h.recorded in omega (arith, len, enough);
+      fixes = sym (take-append-drop (formed_count h) h.recorded) ∙ (ap (λ (fs : List (List ℕ)). fs ++ drop (formed_count h) h.recorded) (sym (fixes_are None h.units ∙ w.fixes)) ∙ ap (λ (fs : List (List ℕ)). fixes_in (numbered None h.units) ++ fs) (sym is.fixes));
+      formed = let len = ap (λ (fs : List (List ℕ)). length fs) is.fixes ∙ length-drop (formed_count h) h.recorded in omega (arith, len, enough);
       are_fixes = are;
       code = sym is.code;
     }
 
-pub sound_started : (held : Option Held) (settings : Settings) (l : Loaded) → AreSettings settings → Told held IsWhole → Told held (λ h. IsLoaded h l) → AreInOrder l.mark l.next l.units l.code → AreSerials l.units → All IsFix l.fixes
-    → l.mark < 65536 → l.next < 65536 → l.recorded < 2 ^ 64 → l.accepted < 2 ^ 64 → HasOctets (started settings l).params → IsSound held (started settings l)
+pub sound_started : (held : Option Held) (settings : Settings) (l : Loaded) → AreSettings settings → WhereKnown held IsWhole → WhereKnown held (λ h. IsLoaded h l) → AreInOrder l.mark l.next l.units l.code → AreSerials l.units → All IsFix l.fixes
+    → l.mark < 65536 → l.next < 65536 → l.recorded < 2 ^ 64 → l.accepted < 2 ^ 64 → HasOctets (start_state settings l).params → IsSound held (start_state settings l)
 sound_started held settings l good whole is order serials are mark next recorded accepted octets = record {
   good = good;
   order = record { order = order; serials = serials; phase = tt; mark = mark; next = next; sent = omega arith };
@@ -82,6 +82,6 @@ sound_started held settings l good whole is order serials are mark next recorded
   agrees = by held whole is;
 }
   where
-    by : (told : Option Held) → Told told IsWhole → Told told (λ h. IsLoaded h l) → Told told (λ h. Agrees h (started settings l) × Counts h (started settings l))
+    by : (told : Option Held) → WhereKnown told IsWhole → WhereKnown told (λ h. IsLoaded h l) → WhereKnown told (λ h. Agrees h (start_state settings l) × CountsAsVault h (start_state settings l))
     by None w i = tt
-    by (Some h) w i = (agrees_started h settings l w i order mark next are, record { recorded = short_count l.recorded (length h.recorded) i.recorded recorded; accepted = short_count l.accepted (settled h) i.accepted accepted })
+    by (Some h) w i = (agrees_started h settings l w i order mark next are, record { recorded = short_count l.recorded (length h.recorded) i.recorded recorded; accepted = short_count l.accepted (accepted_count h) i.accepted accepted })

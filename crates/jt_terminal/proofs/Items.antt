@@ -10,7 +10,7 @@ use Rattle.jt_escape.specs.Scan.{State as Splitting}
 use Rattle.jt_escape.specs.Splitter.{StandsFor}
 use Rattle.jt_stream.specs.Item.{Item, Items}
 use Rattle.jt_value.specs.declared.refusal.Refusal.{Refusal}
-use Rattle.jt_stream.specs.Stream.{Gains, told}
+use Rattle.jt_stream.specs.Stream.{Gains, stream_items}
 use Rattle.jt_stream.specs.declared.stream.StreamItem.{StreamItem}
 use Rattle.jt_stream.specs.declared.stream.StreamItem.TheVariants as answer
 use Rattle.jt_stream.specs.Unplaced.{Unplaced, Fault, items, unplaced}
@@ -21,7 +21,7 @@ use Rattle.jt_terminal_rule.specs.declared.state.GiveUp.{GiveUp}
 use Rattle.jt_terminal_rule.specs.Rule.{Heard, Step, Ruled, and_then, stays}
 use Rattle.jt_terminal_steps.specs.AfterError.{AllTablesOrNone, AreSameTables, CutLists, Lists, lists_of}
 use Rattle.jt_terminal_steps.specs.Running.{CutShort, Ran}
-use Rattle.jt_terminal.specs.Line.{StandsForLine, TablesOfFirst, fed, fed_items, goes_on, goes_on_unless, hears, kept_behind, kept_by, more_unless, new_items, of_item, partial_of, told_at, told_items, told_one}
+use Rattle.jt_terminal.specs.Line.{StandsForLine, TablesOfFirst, rule_at_octets, rule_at_items, then_unless_over, then_unless, rule_at, kept_behind, kept_by, more_unless, new_items, of_item, partial_of, places_at_octets, places_at_items, place_at}
 use Rattle.jt_terminal.specs.Feeding.{Brings, HasFed, HasFedFront, Scene, WasCut, message_at, scene}
 use Rattle.jt_terminal_steps.proofs.Chaining.{cut_then, ran_then}
 use Rattle.jt_terminal_steps.proofs.Leaving.{HasItsLists, lists_then, tables_on}
@@ -39,71 +39,71 @@ then_assoc r f g =
     ap (λ (steps : List Step). record { state = (g mid.state).state; steps = steps; end = (g mid.state).end }) (sym (append_assoc r.steps mid.steps (g mid.state).steps))
 
 -- goes on, by the end of what came before
-on_end : (r : Ruled) (e : Option GiveUp) (more : State → Ruled) → r.end ≡ e → goes_on r more ≡ goes_on_unless e r more
-on_end r e more is = ap (λ (x : Option GiveUp). goes_on_unless x r more) is
+on_end : (r : Ruled) (e : Option GiveUp) (more : State → Ruled) → r.end ≡ e → then_unless_over r more ≡ then_unless e r more
+on_end r e more is = ap (λ (x : Option GiveUp). then_unless x r more) is
 
 inner : (r mid : Ruled) (g : State → Ruled) (e : Option GiveUp) → mid.end ≡ e
-    → (record { state = (goes_on_unless e mid g).state; steps = r.steps ++ (goes_on_unless e mid g).steps; end = (goes_on_unless e mid g).end })
-    ≡ goes_on_unless e (record { state = mid.state; steps = r.steps ++ mid.steps; end = mid.end }) g
+    → (record { state = (then_unless e mid g).state; steps = r.steps ++ (then_unless e mid g).steps; end = (then_unless e mid g).end })
+    ≡ then_unless e (record { state = mid.state; steps = r.steps ++ mid.steps; end = mid.end }) g
 inner r mid g None is = ap (λ (steps : List Step). record { state = (g mid.state).state; steps = steps; end = (g mid.state).end }) (sym (append_assoc r.steps mid.steps (g mid.state).steps))
 inner r mid g (Some cause) is = refl
 
 outer : (r : Ruled) (f g : State → Ruled) (e : Option GiveUp) → r.end ≡ e
-    → goes_on_unless e r (λ t. goes_on (f t) g) ≡ goes_on (goes_on_unless e r f) g
+    → then_unless e r (λ t. then_unless_over (f t) g) ≡ then_unless_over (then_unless e r f) g
 outer r f g None is = inner r (f r.state) g (f r.state).end refl
 outer r f g (Some cause) is = sym (on_end r (Some cause) g is)
 
-pub fed_append : (s : State) (partial : List Partial) (xs ys : List Unplaced) → fed_items s partial (xs ++ ys) ≡ goes_on (fed_items s partial xs) (λ t. fed_items t (kept_behind partial xs) ys)
+pub fed_append : (s : State) (partial : List Partial) (xs ys : List Unplaced) → rule_at_items s partial (xs ++ ys) ≡ then_unless_over (rule_at_items s partial xs) (λ t. rule_at_items t (kept_behind partial xs) ys)
 fed_append s partial [] ys = refl
 fed_append s partial (x ∷ xs) ys =
-    let r = hears s (of_item partial x) in
-    let f = λ (t : State). fed_items t (kept_by partial x) xs in
-    let g = λ (t : State). fed_items t (kept_behind (kept_by partial x) xs) ys in
-    ap (λ (h : State → Ruled). goes_on r h) (λ i t. fed_append t (kept_by partial x) xs ys i) ∙ outer r f g r.end refl
+    let r = rule_at s (of_item partial x) in
+    let f = λ (t : State). rule_at_items t (kept_by partial x) xs in
+    let g = λ (t : State). rule_at_items t (kept_behind (kept_by partial x) xs) ys in
+    ap (λ (h : State → Ruled). then_unless_over r h) (λ i t. fed_append t (kept_by partial x) xs ys i) ∙ outer r f g r.end refl
 
 told_outer : (s : State) (partial : List Partial) (xs ys : List Unplaced) (r : Ruled) (e : Option GiveUp) → r.end ≡ e
-    → more_unless e (told_items r.state partial xs ++ more_unless (fed_items r.state partial xs).end (told_items (fed_items r.state partial xs).state (kept_behind partial xs) ys))
-    ≡ more_unless e (told_items r.state partial xs) ++ more_unless (goes_on_unless e r (λ t. fed_items t partial xs)).end (told_items (goes_on_unless e r (λ t. fed_items t partial xs)).state (kept_behind partial xs) ys)
+    → more_unless e (places_at_items r.state partial xs ++ more_unless (rule_at_items r.state partial xs).end (places_at_items (rule_at_items r.state partial xs).state (kept_behind partial xs) ys))
+    ≡ more_unless e (places_at_items r.state partial xs) ++ more_unless (then_unless e r (λ t. rule_at_items t partial xs)).end (places_at_items (then_unless e r (λ t. rule_at_items t partial xs)).state (kept_behind partial xs) ys)
 told_outer s partial xs ys r None is = refl
-told_outer s partial xs ys r (Some cause) is = ap (λ (e : Option GiveUp). more_unless e (told_items r.state (kept_behind partial xs) ys)) (sym is)
+told_outer s partial xs ys r (Some cause) is = ap (λ (e : Option GiveUp). more_unless e (places_at_items r.state (kept_behind partial xs) ys)) (sym is)
 
 pub told_append : (s : State) (partial : List Partial) (xs ys : List Unplaced)
-    → told_items s partial (xs ++ ys) ≡ told_items s partial xs ++ more_unless (fed_items s partial xs).end (told_items (fed_items s partial xs).state (kept_behind partial xs) ys)
+    → places_at_items s partial (xs ++ ys) ≡ places_at_items s partial xs ++ more_unless (rule_at_items s partial xs).end (places_at_items (rule_at_items s partial xs).state (kept_behind partial xs) ys)
 told_append s partial [] ys = refl
 told_append s partial (x ∷ xs) ys =
-    let r = hears s (of_item partial x) in
-    let one = option_to_list (told_one s (of_item partial x)) in
+    let r = rule_at s (of_item partial x) in
+    let one = option_to_list (place_at s (of_item partial x)) in
     let next = kept_by partial x in
     ap (λ (more : List ℕ). one ++ more_unless r.end more) (told_append r.state next xs ys)
     ∙ (ap (λ (more : List ℕ). one ++ more) (told_outer s next xs ys r r.end refl)
-    ∙ sym (append_assoc one (more_unless r.end (told_items r.state next xs)) (more_unless (goes_on r (λ t. fed_items t next xs)).end (told_items (goes_on r (λ t. fed_items t next xs)).state (kept_behind next xs) ys))))
+    ∙ sym (append_assoc one (more_unless r.end (places_at_items r.state next xs)) (more_unless (then_unless_over r (λ t. rule_at_items t next xs)).end (places_at_items (then_unless_over r (λ t. rule_at_items t next xs)).state (kept_behind next xs) ys))))
 
 -- ---- a front at which the terminal gave up, or did not
 
 -- nothing more is done behind the item at which it gave up
-pub fed_ended : (s : State) (partial : List Partial) (xs ys : List Unplaced) (cause : GiveUp) → (fed_items s partial xs).end ≡ Some cause → fed_items s partial (xs ++ ys) ≡ fed_items s partial xs
-fed_ended s partial xs ys cause is = fed_append s partial xs ys ∙ on_end (fed_items s partial xs) (Some cause) (λ t. fed_items t (kept_behind partial xs) ys) is
+pub fed_ended : (s : State) (partial : List Partial) (xs ys : List Unplaced) (cause : GiveUp) → (rule_at_items s partial xs).end ≡ Some cause → rule_at_items s partial (xs ++ ys) ≡ rule_at_items s partial xs
+fed_ended s partial xs ys cause is = fed_append s partial xs ys ∙ on_end (rule_at_items s partial xs) (Some cause) (λ t. rule_at_items t (kept_behind partial xs) ys) is
 
-pub fed_more : (s : State) (partial : List Partial) (xs ys : List Unplaced) → (fed_items s partial xs).end ≡ None → fed_items s partial (xs ++ ys) ≡ and_then (fed_items s partial xs) (λ t. fed_items t (kept_behind partial xs) ys)
-fed_more s partial xs ys is = fed_append s partial xs ys ∙ on_end (fed_items s partial xs) None (λ t. fed_items t (kept_behind partial xs) ys) is
+pub fed_more : (s : State) (partial : List Partial) (xs ys : List Unplaced) → (rule_at_items s partial xs).end ≡ None → rule_at_items s partial (xs ++ ys) ≡ and_then (rule_at_items s partial xs) (λ t. rule_at_items t (kept_behind partial xs) ys)
+fed_more s partial xs ys is = fed_append s partial xs ys ∙ on_end (rule_at_items s partial xs) None (λ t. rule_at_items t (kept_behind partial xs) ys) is
 
-told_ended : (s : State) (partial : List Partial) (xs ys : List Unplaced) (cause : GiveUp) → (fed_items s partial xs).end ≡ Some cause → told_items s partial (xs ++ ys) ≡ told_items s partial xs
+told_ended : (s : State) (partial : List Partial) (xs ys : List Unplaced) (cause : GiveUp) → (rule_at_items s partial xs).end ≡ Some cause → places_at_items s partial (xs ++ ys) ≡ places_at_items s partial xs
 told_ended s partial xs ys cause is =
-    let more = told_items (fed_items s partial xs).state (kept_behind partial xs) ys in
-    told_append s partial xs ys ∙ (ap (λ (e : Option GiveUp). told_items s partial xs ++ more_unless e more) is ∙ append-nil (told_items s partial xs))
+    let more = places_at_items (rule_at_items s partial xs).state (kept_behind partial xs) ys in
+    told_append s partial xs ys ∙ (ap (λ (e : Option GiveUp). places_at_items s partial xs ++ more_unless e more) is ∙ append-nil (places_at_items s partial xs))
 
-told_more : (s : State) (partial : List Partial) (xs ys : List Unplaced) → (fed_items s partial xs).end ≡ None
-    → told_items s partial (xs ++ ys) ≡ told_items s partial xs ++ told_items (fed_items s partial xs).state (kept_behind partial xs) ys
+told_more : (s : State) (partial : List Partial) (xs ys : List Unplaced) → (rule_at_items s partial xs).end ≡ None
+    → places_at_items s partial (xs ++ ys) ≡ places_at_items s partial xs ++ places_at_items (rule_at_items s partial xs).state (kept_behind partial xs) ys
 told_more s partial xs ys is =
-    let more = told_items (fed_items s partial xs).state (kept_behind partial xs) ys in
-    told_append s partial xs ys ∙ ap (λ (e : Option GiveUp). told_items s partial xs ++ more_unless e more) is
+    let more = places_at_items (rule_at_items s partial xs).state (kept_behind partial xs) ys in
+    told_append s partial xs ys ∙ ap (λ (e : Option GiveUp). places_at_items s partial xs ++ more_unless e more) is
 
 -- steps of a front that were cut short are steps of the whole that were
-first_steps : (s : State) (partial : List Partial) (xs ys : List Unplaced) (e : Option GiveUp) → (fed_items s partial xs).end ≡ e → (rest : List Step) × (fed_items s partial (xs ++ ys)).steps ≡ (fed_items s partial xs).steps ++ rest
+first_steps : (s : State) (partial : List Partial) (xs ys : List Unplaced) (e : Option GiveUp) → (rule_at_items s partial xs).end ≡ e → (rest : List Step) × (rule_at_items s partial (xs ++ ys)).steps ≡ (rule_at_items s partial xs).steps ++ rest
 first_steps s partial xs ys None is =
-    let more = fed_items (fed_items s partial xs).state (kept_behind partial xs) ys in
+    let more = rule_at_items (rule_at_items s partial xs).state (kept_behind partial xs) ys in
     (more.steps, ap (λ (r : Ruled). r.steps) (fed_more s partial xs ys is))
-first_steps s partial xs ys (Some cause) is = ([], ap (λ (r : Ruled). r.steps) (fed_ended s partial xs ys cause is) ∙ sym (append-nil (fed_items s partial xs).steps))
+first_steps s partial xs ys (Some cause) is = ([], ap (λ (r : Ruled). r.steps) (fed_ended s partial xs ys cause is) ∙ sym (append-nil (rule_at_items s partial xs).steps))
 
 cut_on : (steps all rest : List Step) (old now : Option Held) → all ≡ steps ++ rest → CutShort steps old now → CutShort all old now
 cut_on steps all rest old now is cut = record {
@@ -113,14 +113,14 @@ cut_on steps all rest old now is cut = record {
   held = cut.held;
 }
 
-pub cut_of_front : (s : State) (partial : List Partial) (xs ys : List Unplaced) (old now : Option Held) → CutShort (fed_items s partial xs).steps old now → CutShort (fed_items s partial (xs ++ ys)).steps old now
+pub cut_of_front : (s : State) (partial : List Partial) (xs ys : List Unplaced) (old now : Option Held) → CutShort (rule_at_items s partial xs).steps old now → CutShort (rule_at_items s partial (xs ++ ys)).steps old now
 cut_of_front s partial xs ys old now cut =
-    let more = first_steps s partial xs ys (fed_items s partial xs).end refl in
-    cut_on (fed_items s partial xs).steps (fed_items s partial (xs ++ ys)).steps more.0 old now more.1 cut
+    let more = first_steps s partial xs ys (rule_at_items s partial xs).end refl in
+    cut_on (rule_at_items s partial xs).steps (rule_at_items s partial (xs ++ ys)).steps more.0 old now more.1 cut
 
-pub lists_of_front : (s : State) (partial : List Partial) (xs ys : List Unplaced) (old now : Lists) → CutLists (fed_items s partial xs).steps old now → CutLists (fed_items s partial (xs ++ ys)).steps old now
+pub lists_of_front : (s : State) (partial : List Partial) (xs ys : List Unplaced) (old now : Lists) → CutLists (rule_at_items s partial xs).steps old now → CutLists (rule_at_items s partial (xs ++ ys)).steps old now
 lists_of_front s partial xs ys old now cut =
-    let more = first_steps s partial xs ys (fed_items s partial xs).end refl in
+    let more = first_steps s partial xs ys (rule_at_items s partial xs).end refl in
     record {
       done = cut.done;
       left = cut.left ++ more.0;
@@ -148,14 +148,14 @@ brings_gained some unplaced_are old new octets gained gains seen are stands =
       gains.stands seen stands,
     )
 
-pub frame_brings : HasItems → AreItems → (old new : Splitting) (octets : List ℕ) (item : StreamItem) → item ≡ answer.Frame → Gains old new octets (told item new) → Brings old new octets (message_at new.content ∷ [])
-frame_brings some unplaced_are old new octets item is gains = brings_gained some unplaced_are old new octets (told answer.Frame new) (subst (λ i. Gains old new octets (told i new)) is gains)
+pub frame_brings : HasItems → AreItems → (old new : Splitting) (octets : List ℕ) (item : StreamItem) → item ≡ answer.Frame → Gains old new octets (stream_items item new) → Brings old new octets (message_at new.content ∷ [])
+frame_brings some unplaced_are old new octets item is gains = brings_gained some unplaced_are old new octets (stream_items answer.Frame new) (subst (λ i. Gains old new octets (stream_items i new)) is gains)
 
-pub refused_brings : HasItems → AreItems → (old new : Splitting) (octets : List ℕ) (item : StreamItem) (refusal : Refusal) → item ≡ answer.Refused refusal → Gains old new octets (told item new) → Brings old new octets (Fault refusal.inside refusal.why ∷ [])
-refused_brings some unplaced_are old new octets item refusal is gains = brings_gained some unplaced_are old new octets (told (answer.Refused refusal) new) (subst (λ i. Gains old new octets (told i new)) is gains)
+pub refused_brings : HasItems → AreItems → (old new : Splitting) (octets : List ℕ) (item : StreamItem) (refusal : Refusal) → item ≡ answer.Refused refusal → Gains old new octets (stream_items item new) → Brings old new octets (Fault refusal.inside refusal.why ∷ [])
+refused_brings some unplaced_are old new octets item refusal is gains = brings_gained some unplaced_are old new octets (stream_items (answer.Refused refusal) new) (subst (λ i. Gains old new octets (stream_items i new)) is gains)
 
-pub more_brings : HasItems → AreItems → (old new : Splitting) (octets : List ℕ) (item : StreamItem) → item ≡ answer.More → Gains old new octets (told item new) → Brings old new octets []
-more_brings some unplaced_are old new octets item is gains = brings_gained some unplaced_are old new octets [] (subst (λ i. Gains old new octets (told i new)) is gains)
+pub more_brings : HasItems → AreItems → (old new : Splitting) (octets : List ℕ) (item : StreamItem) → item ≡ answer.More → Gains old new octets (stream_items item new) → Brings old new octets []
+more_brings some unplaced_are old new octets item is gains = brings_gained some unplaced_are old new octets [] (subst (λ i. Gains old new octets (stream_items i new)) is gains)
 
 drop_front : {A : Type 0} (xs ys : List A) → drop (length xs) (xs ++ ys) ≡ ys
 drop_front [] ys = refl
@@ -177,76 +177,76 @@ new_are has_front old stream seen octets front back gone parts are stands brings
 
 -- ---- one item
 
-single_by : (r : Ruled) (e : Option GiveUp) → r.end ≡ e → goes_on_unless e r stays ≡ r
+single_by : (r : Ruled) (e : Option GiveUp) → r.end ≡ e → then_unless e r stays ≡ r
 single_by r None is = λ i. record { state = r.state; steps = append-nil r.steps i; end = sym is i }
 single_by r (Some cause) is = refl
 
-single : (r : Ruled) → goes_on r stays ≡ r
+single : (r : Ruled) → then_unless_over r stays ≡ r
 single r = single_by r r.end refl
 
 none_more : (e : Option GiveUp) → more_unless e [] ≡ []
 none_more None = refl
 none_more (Some cause) = refl
 
-lists_hears : (s : State) (x : Option Heard) → s.mark < 65536 → s.next < 65536 → HasItsLists s (hears s x)
+lists_hears : (s : State) (x : Option Heard) → s.mark < 65536 → s.next < 65536 → HasItsLists s (rule_at s x)
 lists_hears s None small fits = refl
 lists_hears s (Some x) small fits = lists_heard s small fits x
 
 pub fed_none : (old now : Scene) (octets : List ℕ) → Brings old.stream now.stream octets [] → now.partial ≡ old.partial → now.state ≡ old.state → now.held ≡ old.held → now.out ≡ old.out → now.told ≡ old.told → HasFed old now octets None
-fed_none old now octets brings partial state held out told = record {
+fed_none old now octets brings partial state held out stream_items = record {
   gone = [];
   brings = brings;
   partial = partial;
   ran = record { is_state = state; held = held; out = out ∙ sym (append-nil old.out); is_end = refl };
-  told = told ∙ sym (append-nil old.told);
+  told = stream_items ∙ sym (append-nil old.told);
   lists = refl;
 }
 
 pub fed_fault : (old now : Scene) (octets : List ℕ) (place : ℕ) (why : Why) → Brings old.stream now.stream octets (Fault place why ∷ []) → now.partial ≡ old.partial → now.state ≡ old.state → now.held ≡ old.held → now.out ≡ old.out → now.told ≡ old.told → HasFed old now octets None
-fed_fault old now octets place why brings partial state held out told = record {
+fed_fault old now octets place why brings partial state held out stream_items = record {
   gone = Fault place why ∷ [];
   brings = brings;
   partial = partial;
   ran = record { is_state = state; held = held; out = out ∙ sym (append-nil old.out); is_end = refl };
-  told = told ∙ sym (append-nil old.told);
+  told = stream_items ∙ sym (append-nil old.told);
   lists = refl;
 }
 
 pub fed_frame : (old now : Scene) (octets : List ℕ) (item : Unplaced) (end : Option GiveUp) → Brings old.stream now.stream octets (item ∷ []) → now.partial ≡ kept_by old.partial item
-    → Ran old.state.settings (hears old.state (of_item old.partial item)) now.state old.held now.held old.out now.out end → now.told ≡ old.told ++ option_to_list (told_one old.state (of_item old.partial item)) → old.state.mark < 65536 → old.state.next < 65536
+    → Ran old.state.settings (rule_at old.state (of_item old.partial item)) now.state old.held now.held old.out now.out end → now.told ≡ old.told ++ option_to_list (place_at old.state (of_item old.partial item)) → old.state.mark < 65536 → old.state.next < 65536
     → HasFed old now octets end
-fed_frame old now octets item end brings partial ran told small fits =
-    let r = hears old.state (of_item old.partial item) in
+fed_frame old now octets item end brings partial ran stream_items small fits =
+    let r = rule_at old.state (of_item old.partial item) in
     record {
       gone = item ∷ [];
       brings = brings;
       partial = partial;
       ran = subst (λ (x : Ruled). Ran old.state.settings x now.state old.held now.held old.out now.out end) (sym (single r)) ran;
-      told = told ∙ ap (λ (more : List ℕ). old.told ++ more) (sym (append-nil (option_to_list (told_one old.state (of_item old.partial item)))) ∙ ap (λ (more : List ℕ). option_to_list (told_one old.state (of_item old.partial item)) ++ more) (sym (none_more r.end)));
+      told = stream_items ∙ ap (λ (more : List ℕ). old.told ++ more) (sym (append-nil (option_to_list (place_at old.state (of_item old.partial item)))) ∙ ap (λ (more : List ℕ). option_to_list (place_at old.state (of_item old.partial item)) ++ more) (sym (none_more r.end)));
       lists = subst (HasItsLists old.state) (sym (single r)) (lists_hears old.state (of_item old.partial item) small fits);
     }
 
-tables_of_one : (s : State) (partial : List Partial) (item : Unplaced) (now : State) → AllTablesOrNone s (hears s (of_item partial item)).state now → TablesOfFirst s partial (item ∷ []) now
+tables_of_one : (s : State) (partial : List Partial) (item : Unplaced) (now : State) → AllTablesOrNone s (rule_at s (of_item partial item)).state now → TablesOfFirst s partial (item ∷ []) now
 tables_of_one s partial item now (inl same) = record { front = []; back = item ∷ []; parts = refl; tables = same }
 tables_of_one s partial item now (inr same) = record {
   front = item ∷ [];
   back = [];
   parts = refl;
-  tables = subst (λ (x : Ruled). AreSameTables x.state now) (sym (single (hears s (of_item partial item)))) same;
+  tables = subst (λ (x : Ruled). AreSameTables x.state now) (sym (single (rule_at s (of_item partial item)))) same;
 }
 
 pub cut_frame : (old : Scene) (stream : Splitting) (state : State) (held : Option Held) (octets front back : List ℕ) (item : Unplaced) → octets ≡ front ++ back → Brings old.stream stream front (item ∷ [])
-    → CutShort (hears old.state (of_item old.partial item)).steps old.held held → AllTablesOrNone old.state (hears old.state (of_item old.partial item)).state state
-    → CutLists (hears old.state (of_item old.partial item)).steps (lists_of old.state) (lists_of state) → WasCut old stream state held octets
+    → CutShort (rule_at old.state (of_item old.partial item)).steps old.held held → AllTablesOrNone old.state (rule_at old.state (of_item old.partial item)).state state
+    → CutLists (rule_at old.state (of_item old.partial item)).steps (lists_of old.state) (lists_of state) → WasCut old stream state held octets
 cut_frame old stream state held octets front back item parts brings cut tables lists = record {
   front = front;
   back = back;
   parts = parts;
   gone = item ∷ [];
   brings = brings;
-  cut = subst (λ (x : Ruled). CutShort x.steps old.held held) (sym (single (hears old.state (of_item old.partial item)))) cut;
+  cut = subst (λ (x : Ruled). CutShort x.steps old.held held) (sym (single (rule_at old.state (of_item old.partial item)))) cut;
   tables = tables_of_one old.state old.partial item state tables;
-  lists = subst (λ (x : Ruled). CutLists x.steps (lists_of old.state) (lists_of state)) (sym (single (hears old.state (of_item old.partial item)))) lists;
+  lists = subst (λ (x : Ruled). CutLists x.steps (lists_of old.state) (lists_of state)) (sym (single (rule_at old.state (of_item old.partial item)))) lists;
 }
 
 -- ---- octets behind octets
@@ -262,26 +262,26 @@ brings_then old mid now a b xs ys are one two seen octets stands =
 
 pub fed_then : (old mid now : Scene) (a b : List ℕ) (end : Option GiveUp) → AreOctets a → mid.state.settings ≡ old.state.settings → HasFed old mid a None → HasFed mid now b end → HasFed old now (a ++ b) end
 fed_then old mid now a b end are same one two =
-    let r = fed_items old.state old.partial one.gone in
+    let r = rule_at_items old.state old.partial one.gone in
     let open_end = sym one.ran.is_end in
-    let next = λ (t : State). fed_items t (kept_behind old.partial one.gone) two.gone in
+    let next = λ (t : State). rule_at_items t (kept_behind old.partial one.gone) two.gone in
     let partials = one.partial in
-    let ran = subst (λ (ps : List Partial). Ran mid.state.settings (fed_items mid.state ps two.gone) now.state mid.held now.held mid.out now.out end) partials two.ran in
+    let ran = subst (λ (ps : List Partial). Ran mid.state.settings (rule_at_items mid.state ps two.gone) now.state mid.held now.held mid.out now.out end) partials two.ran in
     record {
       gone = one.gone ++ two.gone;
       brings = brings_then old.stream mid.stream now.stream a b one.gone two.gone are one.brings two.brings;
       partial = two.partial ∙ (ap (λ (ps : List Partial). kept_behind ps two.gone) partials ∙ sym (kept_append old.partial one.gone two.gone));
       ran = subst (λ (x : Ruled). Ran old.state.settings x now.state old.held now.held old.out now.out end) (sym (fed_more old.state old.partial one.gone two.gone open_end))
           (ran_then old.state.settings r next mid.state now.state old.held mid.held now.held old.out mid.out now.out end one.ran.is_state one.ran.held one.ran.out same ran);
-      told = two.told ∙ (ap (λ (l : List ℕ). l ++ told_items mid.state mid.partial two.gone) one.told
-          ∙ (append_assoc old.told (told_items old.state old.partial one.gone) (told_items mid.state mid.partial two.gone)
-          ∙ ap (λ (l : List ℕ). old.told ++ l) (ap (λ (l : List ℕ). told_items old.state old.partial one.gone ++ l) (λ i. told_items (one.ran.is_state i) (partials i) two.gone)
+      told = two.told ∙ (ap (λ (l : List ℕ). l ++ places_at_items mid.state mid.partial two.gone) one.told
+          ∙ (append_assoc old.told (places_at_items old.state old.partial one.gone) (places_at_items mid.state mid.partial two.gone)
+          ∙ ap (λ (l : List ℕ). old.told ++ l) (ap (λ (l : List ℕ). places_at_items old.state old.partial one.gone ++ l) (λ i. places_at_items (one.ran.is_state i) (partials i) two.gone)
           ∙ sym (told_more old.state old.partial one.gone two.gone open_end))));
       lists = subst (HasItsLists old.state) (sym (fed_more old.state old.partial one.gone two.gone open_end))
-          (lists_both r next old.state one.lists (subst (λ (m : State). HasItsLists m (next m)) one.ran.is_state (subst (λ (ps : List Partial). HasItsLists mid.state (fed_items mid.state ps two.gone)) partials two.lists)));
+          (lists_both r next old.state one.lists (subst (λ (m : State). HasItsLists m (next m)) one.ran.is_state (subst (λ (ps : List Partial). HasItsLists mid.state (rule_at_items mid.state ps two.gone)) partials two.lists)));
     }
 
-tables_then : (s : State) (partial : List Partial) (xs ys : List Unplaced) (now : State) → (fed_items s partial xs).end ≡ None → TablesOfFirst (fed_items s partial xs).state (kept_behind partial xs) ys now → TablesOfFirst s partial (xs ++ ys) now
+tables_then : (s : State) (partial : List Partial) (xs ys : List Unplaced) (now : State) → (rule_at_items s partial xs).end ≡ None → TablesOfFirst (rule_at_items s partial xs).state (kept_behind partial xs) ys now → TablesOfFirst s partial (xs ++ ys) now
 tables_then s partial xs ys now is t = record {
   front = xs ++ t.front;
   back = t.back;
@@ -291,10 +291,10 @@ tables_then s partial xs ys now is t = record {
 
 pub cut_then_fed : (old mid : Scene) (stream : Splitting) (state : State) (held : Option Held) (octets a b : List ℕ) → octets ≡ a ++ b → AreOctets a → HasFed old mid a None → WasCut mid stream state held b → WasCut old stream state held octets
 cut_then_fed old mid stream state held octets a b parts are one cut =
-    let r = fed_items old.state old.partial one.gone in
+    let r = rule_at_items old.state old.partial one.gone in
     let open_end = sym one.ran.is_end in
-    let next = λ (t : State). fed_items t (kept_behind old.partial one.gone) cut.gone in
-    let more = subst (λ (ps : List Partial). CutShort (fed_items mid.state ps cut.gone).steps mid.held held) one.partial cut.cut in
+    let next = λ (t : State). rule_at_items t (kept_behind old.partial one.gone) cut.gone in
+    let more = subst (λ (ps : List Partial). CutShort (rule_at_items mid.state ps cut.gone).steps mid.held held) one.partial cut.cut in
     record {
       front = a ++ cut.front;
       back = cut.back;
@@ -307,19 +307,19 @@ cut_then_fed old mid stream state held octets a b parts are one cut =
           (subst (λ (ps : List Partial). TablesOfFirst r.state ps cut.gone state) one.partial (subst (λ (m : State). TablesOfFirst m mid.partial cut.gone state) one.ran.is_state cut.tables));
       lists = subst (λ (x : Ruled). CutLists x.steps (lists_of old.state) (lists_of state)) (sym (fed_more old.state old.partial one.gone cut.gone open_end))
           (lists_then r next old.state mid.state (lists_of state) one.ran.is_state one.lists
-          (subst (λ (ps : List Partial). CutLists (fed_items mid.state ps cut.gone).steps (lists_of mid.state) (lists_of state)) one.partial cut.lists));
+          (subst (λ (ps : List Partial). CutLists (rule_at_items mid.state ps cut.gone).steps (lists_of mid.state) (lists_of state)) one.partial cut.lists));
     }
 
 -- ---- what a line that stood for octets was fed
 
 ended_or_whole : (old now : Scene) (octets seen : List ℕ) (end e : Option GiveUp) (f : HasFedFront old now octets end) (more : List Unplaced) → end ≡ e → (e ≡ None → more ≡ [])
-    → fed_items old.state old.partial (f.fed.gone ++ more) ≡ fed_items old.state old.partial f.fed.gone
-ended_or_whole old now octets seen end None f more is none = ap (λ (l : List Unplaced). fed_items old.state old.partial (f.fed.gone ++ l)) (none refl) ∙ ap (fed_items old.state old.partial) (append-nil f.fed.gone)
+    → rule_at_items old.state old.partial (f.fed.gone ++ more) ≡ rule_at_items old.state old.partial f.fed.gone
+ended_or_whole old now octets seen end None f more is none = ap (λ (l : List Unplaced). rule_at_items old.state old.partial (f.fed.gone ++ l)) (none refl) ∙ ap (rule_at_items old.state old.partial) (append-nil f.fed.gone)
 ended_or_whole old now octets seen end (Some cause) f more is none = fed_ended old.state old.partial f.fed.gone more cause (sym f.fed.ran.is_end ∙ is)
 
 told_or_whole : (old now : Scene) (octets seen : List ℕ) (end e : Option GiveUp) (f : HasFedFront old now octets end) (more : List Unplaced) → end ≡ e → (e ≡ None → more ≡ [])
-    → told_items old.state old.partial (f.fed.gone ++ more) ≡ told_items old.state old.partial f.fed.gone
-told_or_whole old now octets seen end None f more is none = ap (λ (l : List Unplaced). told_items old.state old.partial (f.fed.gone ++ l)) (none refl) ∙ ap (told_items old.state old.partial) (append-nil f.fed.gone)
+    → places_at_items old.state old.partial (f.fed.gone ++ more) ≡ places_at_items old.state old.partial f.fed.gone
+told_or_whole old now octets seen end None f more is none = ap (λ (l : List Unplaced). places_at_items old.state old.partial (f.fed.gone ++ l)) (none refl) ∙ ap (places_at_items old.state old.partial) (append-nil f.fed.gone)
 told_or_whole old now octets seen end (Some cause) f more is none = told_ended old.state old.partial f.fed.gone more cause (sym f.fed.ran.is_end ∙ is)
 
 -- ---- what `feed` says
@@ -336,19 +336,19 @@ module _ (old now : Scene) (octets : List ℕ) (end : Option GiveUp) (f : HasFed
       none_left f.fed.gone behind.0 (sym behind.1 ∙ whole)
 
   abbrev pub Fed : Ruled
-  Fed = fed old.state seen octets
+  Fed = rule_at_octets old.state seen octets
 
-  fed_is : Fed ≡ fed_items old.state old.partial f.fed.gone
+  fed_is : Fed ≡ rule_at_items old.state old.partial f.fed.gone
   fed_is =
-      ap (λ (ps : List Partial). fed_items old.state ps (new_items seen octets)) (sym stands.partial)
-      ∙ (ap (fed_items old.state old.partial) behind.1 ∙ ended_or_whole old now octets seen end end f behind.0 refl (λ e. nothing_behind (f.whole e)))
+      ap (λ (ps : List Partial). rule_at_items old.state ps (new_items seen octets)) (sym stands.partial)
+      ∙ (ap (rule_at_items old.state old.partial) behind.1 ∙ ended_or_whole old now octets seen end end f behind.0 refl (λ e. nothing_behind (f.whole e)))
 
-  pub told_is : now.told ≡ old.told ++ told_at old.state seen octets
+  pub told_is : now.told ≡ old.told ++ places_at_octets old.state seen octets
   told_is =
-      f.fed.told ∙ ap (λ (l : List ℕ). old.told ++ l) (sym (ap (λ (ps : List Partial). told_items old.state ps (new_items seen octets)) (sym stands.partial)
-      ∙ (ap (told_items old.state old.partial) behind.1 ∙ told_or_whole old now octets seen end end f behind.0 refl (λ e. nothing_behind (f.whole e)))))
+      f.fed.told ∙ ap (λ (l : List ℕ). old.told ++ l) (sym (ap (λ (ps : List Partial). places_at_items old.state ps (new_items seen octets)) (sym stands.partial)
+      ∙ (ap (places_at_items old.state old.partial) behind.1 ∙ told_or_whole old now octets seen end end f behind.0 refl (λ e. nothing_behind (f.whole e)))))
 
-  pub fed_ran : Ran old.state.settings (fed old.state seen octets) now.state old.held now.held old.out now.out end
+  pub fed_ran : Ran old.state.settings (rule_at_octets old.state seen octets) now.state old.held now.held old.out now.out end
   fed_ran = subst (λ (r : Ruled). Ran old.state.settings r now.state old.held now.held old.out now.out end) (sym fed_is) f.fed.ran
 
   pub stands_on : AreOctets octets → end ≡ None → StandsForLine (record { stream = now.stream; partial = now.partial }) (seen ++ octets)
@@ -364,19 +364,19 @@ module _ (old now : Scene) (octets : List ℕ) (end : Option GiveUp) (f : HasFed
       }
 
 pub fed_cut : (old : Scene) (stream : Splitting) (state : State) (held : Option Held) (octets seen : List ℕ) → HasFront → StandsForLine (record { stream = old.stream; partial = old.partial }) seen → WasCut old stream state held octets
-    → CutShort (fed old.state seen octets).steps old.held held
+    → CutShort (rule_at_octets old.state seen octets).steps old.held held
 fed_cut old stream state held octets seen has_front stands cut =
     let more = new_are has_front old.stream stream seen octets cut.front cut.back cut.gone cut.parts stands.octets stands.stream cut.brings in
-    let is : fed old.state seen octets ≡ fed_items old.state old.partial (cut.gone ++ more.0) =
-    ap (λ (ps : List Partial). fed_items old.state ps (new_items seen octets)) (sym stands.partial) ∙ ap (fed_items old.state old.partial) more.1 in
+    let is : rule_at_octets old.state seen octets ≡ rule_at_items old.state old.partial (cut.gone ++ more.0) =
+    ap (λ (ps : List Partial). rule_at_items old.state ps (new_items seen octets)) (sym stands.partial) ∙ ap (rule_at_items old.state old.partial) more.1 in
     subst (λ (r : Ruled). CutShort r.steps old.held held) (sym is) (cut_of_front old.state old.partial cut.gone more.0 old.held held cut.cut)
 
 pub fed_lists : (old : Scene) (stream : Splitting) (state : State) (held : Option Held) (octets seen : List ℕ) → HasFront → StandsForLine (record { stream = old.stream; partial = old.partial }) seen → WasCut old stream state held octets
-    → CutLists (fed old.state seen octets).steps (lists_of old.state) (lists_of state)
+    → CutLists (rule_at_octets old.state seen octets).steps (lists_of old.state) (lists_of state)
 fed_lists old stream state held octets seen has_front stands cut =
     let more = new_are has_front old.stream stream seen octets cut.front cut.back cut.gone cut.parts stands.octets stands.stream cut.brings in
-    let is : fed old.state seen octets ≡ fed_items old.state old.partial (cut.gone ++ more.0) =
-    ap (λ (ps : List Partial). fed_items old.state ps (new_items seen octets)) (sym stands.partial) ∙ ap (fed_items old.state old.partial) more.1 in
+    let is : rule_at_octets old.state seen octets ≡ rule_at_items old.state old.partial (cut.gone ++ more.0) =
+    ap (λ (ps : List Partial). rule_at_items old.state ps (new_items seen octets)) (sym stands.partial) ∙ ap (rule_at_items old.state old.partial) more.1 in
     subst (λ (r : Ruled). CutLists r.steps (lists_of old.state) (lists_of state)) (sym is) (lists_of_front old.state old.partial cut.gone more.0 (lists_of old.state) (lists_of state) cut.lists)
 
 pub fed_tables : (old : Scene) (stream : Splitting) (state : State) (held : Option Held) (octets seen : List ℕ) → HasFront → StandsForLine (record { stream = old.stream; partial = old.partial }) seen → WasCut old stream state held octets
@@ -397,7 +397,7 @@ pub cut_alike : (old : Scene) (stream : Splitting) (s given now : State) (held :
     → WasCut (scene old.stream old.partial old.state old.held [] []) stream now held octets
 cut_alike old stream s given now held octets is tables lists cut =
     let first = cut.tables in
-    let still = tables_on (fed_items old.state old.partial first.front).state s given first.tables tables in
+    let still = tables_on (rule_at_items old.state old.partial first.front).state s given first.tables tables in
     record {
       front = cut.front;
       back = cut.back;
@@ -405,7 +405,7 @@ cut_alike old stream s given now held octets is tables lists cut =
       gone = cut.gone;
       brings = cut.brings;
       cut = cut.cut;
-      tables = record { front = first.front; back = first.back; parts = first.parts; tables = subst (AreSameTables (fed_items old.state old.partial first.front).state) (sym is) still };
+      tables = record { front = first.front; back = first.back; parts = first.parts; tables = subst (AreSameTables (rule_at_items old.state old.partial first.front).state) (sym is) still };
       lists = record { done = cut.lists.done; left = cut.lists.left; parts = cut.lists.parts; lists = ap lists_of is ∙ (lists ∙ cut.lists.lists) };
     }
 

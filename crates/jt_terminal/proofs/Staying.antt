@@ -4,15 +4,15 @@ use Rattle.std.specs.Prelude.{All}
 use Rattle.jt_value.specs.Serials.{gap_of}
 use Rattle.jt_params.specs.Tables.{HasOctets}
 use Rattle.jt_position.specs.Fixes.{IsFix}
-use Rattle.jt_store.specs.Tables.{Told}
-use Rattle.jt_store.specs.Vaults.{AreInOrder, Held, formed, gap_after}
+use Rattle.jt_store.specs.Tables.{WhereKnown}
+use Rattle.jt_store.specs.Vaults.{AreInOrder, Held, formed_count, gap_after}
 use Rattle.jt_store.specs.Verdicts.{numbered}
 use Rattle.jt_terminal_rule.specs.declared.state.State.{State}
 use Rattle.jt_terminal_rule.specs.Machines.{Agrees, AreSerials, IsInOrder, IsPhase}
 use Rattle.jt_terminal_rule.specs.Messages.{AreSettings}
 use Rattle.jt_store.specs.Units.{fixes_in}
 use Rattle.jt_terminal_steps.specs.AfterError.{Lists, lists_of}
-use Rattle.jt_terminal_steps.specs.Running.{Counts, IsDown, IsSound}
+use Rattle.jt_terminal_steps.specs.Running.{CountsAsVault, IsDown, IsSound}
 
 order_stays : (s now : State) → lists_of now ≡ lists_of s → IsDown now → IsInOrder s → IsInOrder now
 order_stays s now same is o = record {
@@ -34,15 +34,15 @@ agrees_stays h s now same t = record {
   next_behind = subst (λ (k : Lists). gap_after k.mark 1 k.units ≤ gap_of k.mark h.next) (sym same) t.next_behind;
   next_held = subst (λ (k : Lists). gap_of k.mark h.next ≤ gap_of k.mark k.next) (sym same) t.next_held;
   fixes = subst (λ (k : Lists). h.recorded ≡ fixes_in (numbered None h.units) ++ k.waiting) (sym same) t.fixes;
-  formed = subst (λ (k : Lists). formed h + length k.waiting ≡ length h.recorded) (sym same) t.formed;
+  formed = subst (λ (k : Lists). formed_count h + length k.waiting ≡ length h.recorded) (sym same) t.formed;
   are_fixes = subst (λ (k : Lists). All IsFix k.waiting) (sym same) t.are_fixes;
   code = t.code ∙ sym (ap (λ (k : Lists). k.code) same);
 }
 
-counts_stay : (h : Held) (s now : State) → lists_of now ≡ lists_of s → Counts h s → Counts h now
+counts_stay : (h : Held) (s now : State) → lists_of now ≡ lists_of s → CountsAsVault h s → CountsAsVault h now
 counts_stay h s now same c = record { recorded = ap (λ (k : Lists). k.recorded) same ∙ c.recorded; accepted = ap (λ (k : Lists). k.accepted) same ∙ c.accepted }
 
-told_stays : (held : Option Held) (s now : State) → lists_of now ≡ lists_of s → Told held (λ h. Agrees h s × Counts h s) → Told held (λ h. Agrees h now × Counts h now)
+told_stays : (held : Option Held) (s now : State) → lists_of now ≡ lists_of s → WhereKnown held (λ h. Agrees h s × CountsAsVault h s) → WhereKnown held (λ h. Agrees h now × CountsAsVault h now)
 told_stays None s now same t = tt
 told_stays (Some h) s now same t = (agrees_stays h s now same t.0, counts_stay h s now same t.1)
 

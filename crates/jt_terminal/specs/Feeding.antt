@@ -11,7 +11,7 @@ use Rattle.jt_terminal_rule.specs.declared.state.State.{State}
 use Rattle.jt_terminal_rule.specs.declared.state.GiveUp.{GiveUp}
 use Rattle.jt_terminal_steps.specs.AfterError.{CutLists, lists_after, lists_of}
 use Rattle.jt_terminal_steps.specs.Running.{CutShort, Ran}
-use Rattle.jt_terminal.specs.Line.{TablesOfFirst, fed_items, kept_behind, told_items}
+use Rattle.jt_terminal.specs.Line.{TablesOfFirst, rule_at_items, kept_behind, places_at_items}
 
 -- the stream went on by the octets, which brought these items
 abbrev pub Brings : Splitting → Splitting → List ℕ → List Unplaced → Type 0
@@ -40,9 +40,9 @@ pub record HasFed (old now : Scene) (octets : List ℕ) (end : Option GiveUp) : 
   pub gone : List Unplaced
   pub brings : Brings old.stream now.stream octets gone
   pub partial : now.partial ≡ kept_behind old.partial gone
-  pub ran : Ran old.state.settings (fed_items old.state old.partial gone) now.state old.held now.held old.out now.out end
-  pub told : now.told ≡ old.told ++ told_items old.state old.partial gone
-  pub lists : lists_of (fed_items old.state old.partial gone).state ≡ lists_after (fed_items old.state old.partial gone).steps (lists_of old.state)
+  pub ran : Ran old.state.settings (rule_at_items old.state old.partial gone) now.state old.held now.held old.out now.out end
+  pub told : now.told ≡ old.told ++ places_at_items old.state old.partial gone
+  pub lists : lists_of (rule_at_items old.state old.partial gone).state ≡ lists_after (rule_at_items old.state old.partial gone).steps (lists_of old.state)
 
 -- some first octets were fed, all of them unless the terminal gave up
 pub record HasFedFront (old now : Scene) (octets : List ℕ) (end : Option GiveUp) : Type 0 where
@@ -59,9 +59,9 @@ pub record WasCut (old : Scene) (stream : Splitting) (state : State) (held : Opt
   pub parts : octets ≡ front ++ back
   pub gone : List Unplaced
   pub brings : Brings old.stream stream front gone
-  pub cut : CutShort (fed_items old.state old.partial gone).steps old.held held
+  pub cut : CutShort (rule_at_items old.state old.partial gone).steps old.held held
   pub tables : TablesOfFirst old.state old.partial gone state
-  pub lists : CutLists (fed_items old.state old.partial gone).steps (lists_of old.state) (lists_of state)
+  pub lists : CutLists (rule_at_items old.state old.partial gone).steps (lists_of old.state) (lists_of state)
 
 -- what a vault says beside what it holds, while nothing failed
 pub record IsSteadySoFar (faults faults_now most most_now : ℕ) (may may_now : Bool) : Type 0 where

@@ -19,7 +19,7 @@ use Rattle.jt_terminal_rule.specs.declared.state.State.{State}
 use Rattle.jt_terminal_rule.specs.declared.state.GiveUp.{GiveUp}
 use Rattle.jt_terminal_rule.specs.Law.{response_heard}
 use Rattle.jt_terminal_steps.specs.AfterError.{AreSameTables}
-use Rattle.jt_terminal_rule.specs.Rule.{Heard, Whole, Refused, Lacks, TooMany, Ruled, and_then, heard, stays, told}
+use Rattle.jt_terminal_rule.specs.Rule.{Heard, Whole, Refused, Lacks, TooMany, Ruled, and_then, on_hearing, stays, named_place}
 
 -- ---- what is heard
 
@@ -63,44 +63,44 @@ kept_behind partial (item ∷ items) = kept_behind (kept_by partial item) items
 
 -- ---- what the terminal does
 
-abbrev pub hears : State → Option Heard → Ruled
-hears s None = stays s
-hears s (Some x) = heard s x
+abbrev pub rule_at : State → Option Heard → Ruled
+rule_at s None = stays s
+rule_at s (Some x) = on_hearing s x
 
 -- one rule, and then another unless the line was given up
-abbrev pub goes_on_unless : Option GiveUp → Ruled → (State → Ruled) → Ruled
-goes_on_unless None r more = and_then r more
-goes_on_unless (Some cause) r more = r
+abbrev pub then_unless : Option GiveUp → Ruled → (State → Ruled) → Ruled
+then_unless None r more = and_then r more
+then_unless (Some cause) r more = r
 
-abbrev pub goes_on : Ruled → (State → Ruled) → Ruled
-goes_on r more = goes_on_unless r.end r more
+abbrev pub then_unless_over : Ruled → (State → Ruled) → Ruled
+then_unless_over r more = then_unless r.end r more
 
 -- what it does at items one after another, up to the one at which it gives up
-abbrev pub fed_items : State → List Partial → List Unplaced → Ruled
-fed_items s partial [] = stays s
-fed_items s partial (item ∷ items) = goes_on (hears s (of_item partial item)) (λ t. fed_items t (kept_by partial item) items)
+abbrev pub rule_at_items : State → List Partial → List Unplaced → Ruled
+rule_at_items s partial [] = stays s
+rule_at_items s partial (item ∷ items) = then_unless_over (rule_at s (of_item partial item)) (λ t. rule_at_items t (kept_by partial item) items)
 
 -- times and tables are those that the rule has after some first ones of these items, perhaps after none and perhaps after all
 pub record TablesOfFirst (s : State) (partial : List Partial) (items : List Unplaced) (now : State) : Type 0 where
   pub front : List Unplaced
   pub back : List Unplaced
   pub parts : items ≡ front ++ back
-  pub tables : AreSameTables (fed_items s partial front).state now
+  pub tables : AreSameTables (rule_at_items s partial front).state now
 
 -- the units whose acceptance it is told at them
-abbrev pub told_one : State → Option Heard → Option ℕ
-told_one s None = None
-told_one s (Some x) = told s (response_heard x)
+abbrev pub place_at : State → Option Heard → Option ℕ
+place_at s None = None
+place_at s (Some x) = named_place s (response_heard x)
 
 abbrev pub more_unless : Option GiveUp → List ℕ → List ℕ
 more_unless None more = more
 more_unless (Some cause) more = []
 
-abbrev pub told_items : State → List Partial → List Unplaced → List ℕ
-told_items s partial [] = []
-told_items s partial (item ∷ items) =
+abbrev pub places_at_items : State → List Partial → List Unplaced → List ℕ
+places_at_items s partial [] = []
+places_at_items s partial (item ∷ items) =
     let x = of_item partial item in
-    option_to_list (told_one s x) ++ more_unless (hears s x).end (told_items (hears s x).state (kept_by partial item) items)
+    option_to_list (place_at s x) ++ more_unless (rule_at s x).end (places_at_items (rule_at s x).state (kept_by partial item) items)
 
 -- the items that octets bring behind others
 abbrev pub new_items : List ℕ → List ℕ → List Unplaced
@@ -111,11 +111,11 @@ abbrev pub partial_of : List ℕ → List Partial
 partial_of seen = kept_behind [] (items seen)
 
 -- what a terminal does at octets that come behind others on the same line
-abbrev pub fed : State → List ℕ → List ℕ → Ruled
-fed s seen octets = fed_items s (partial_of seen) (new_items seen octets)
+abbrev pub rule_at_octets : State → List ℕ → List ℕ → Ruled
+rule_at_octets s seen octets = rule_at_items s (partial_of seen) (new_items seen octets)
 
-abbrev pub told_at : State → List ℕ → List ℕ → List ℕ
-told_at s seen octets = told_items s (partial_of seen) (new_items seen octets)
+abbrev pub places_at_octets : State → List ℕ → List ℕ → List ℕ
+places_at_octets s seen octets = places_at_items s (partial_of seen) (new_items seen octets)
 
 -- ---- the line
 

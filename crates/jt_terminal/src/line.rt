@@ -2,7 +2,7 @@
 
 ghost use Rattle.std.specs.Prelude.{◌≡◌, ℕ, ◌≤◌, ◌<◌, ◌+◌, ◌^◌, ◌++◌, List, [], None, IfOk, IsSome, OnErr, OnOk, length};
 ghost use Rattle.jt_terminal_rule.specs.Rule as rule;
-ghost use Rattle.jt_terminal.specs.Line.{StandsForLine, TablesOfFirst, fed, new_items, partial_of, told_at};
+ghost use Rattle.jt_terminal.specs.Line.{StandsForLine, TablesOfFirst, rule_at_octets, new_items, partial_of, places_at_octets};
 ghost use Rattle.jt_terminal_steps.specs.AfterError.{CutLists, lists_of};
 ghost use Rattle.jt_terminal_steps.specs.Running.{CutShort, IsDown, IsSound, Outside, holds_after};
 
@@ -66,17 +66,32 @@ impl TerminalLine {
         octets: &[u8],
     ) -> Result<Actions, TerminalError>
         requires { self.old.stream.place + length octets.now < 2 ^ 63 }
-        ensures state { (seen : List ℕ) → StandsForLine self.old seen → OnOk result (terminal.new.state ≡ (fed terminal.old.state seen octets.now).state) }
-        ensures vault { (seen : List ℕ) → StandsForLine self.old seen → OnOk result (V.holds terminal.new.vault ≡ holds_after (fed terminal.old.state seen octets.now).steps (V.holds terminal.old.vault)) }
-        ensures frames { (seen : List ℕ) → StandsForLine self.old seen → IfOk result (λ actions. actions.frames ≡ rule.sends terminal.old.state.settings (fed terminal.old.state seen octets.now).steps) }
-        ensures end { (seen : List ℕ) → StandsForLine self.old seen → IfOk result (λ actions. actions.end ≡ (fed terminal.old.state seen octets.now).end) }
-        ensures told { (seen : List ℕ) → StandsForLine self.old seen → IfOk result (λ actions. actions.told ≡ told_at terminal.old.state seen octets.now) }
+        ensures state { (seen : List ℕ) → StandsForLine self.old seen → OnOk result
+            (terminal.new.state ≡ (rule_at_octets terminal.old.state seen octets.now).state) }
+        ensures vault { (seen : List ℕ) → StandsForLine self.old seen →
+            OnOk result (V.holds terminal.new.vault
+            ≡ holds_after (rule_at_octets terminal.old.state seen octets.now).steps
+            (V.holds terminal.old.vault)) }
+        ensures frames { (seen : List ℕ) → StandsForLine self.old seen →
+            IfOk result (λ actions. actions.frames ≡ rule.sends terminal.old.state.settings
+            (rule_at_octets terminal.old.state seen octets.now).steps) }
+        ensures end { (seen : List ℕ) → StandsForLine self.old seen → IfOk result (λ actions.
+            actions.end ≡ (rule_at_octets terminal.old.state seen octets.now).end) }
+        ensures told { (seen : List ℕ) → StandsForLine self.old seen → IfOk result (λ actions.
+            actions.told ≡ places_at_octets terminal.old.state seen octets.now) }
         // Unless the terminal gave up, the line now stands for these octets too.
-        ensures stands { (seen : List ℕ) → StandsForLine self.old seen → IfOk result (λ actions. actions.end ≡ None → StandsForLine self.new (seen ++ octets.now)) }
+        ensures stands { (seen : List ℕ) → StandsForLine self.old seen → IfOk result (λ actions.
+            actions.end ≡ None → StandsForLine self.new (seen ++ octets.now)) }
         ensures place { self.new.stream.place ≤ self.old.stream.place + length octets.now }
-        ensures cut { (seen : List ℕ) → StandsForLine self.old seen → OnErr result (CutShort (fed terminal.old.state seen octets.now).steps (V.holds terminal.old.vault) (V.holds terminal.new.vault)) }
-        ensures tables { (seen : List ℕ) → StandsForLine self.old seen → OnErr result (TablesOfFirst terminal.old.state (partial_of seen) (new_items seen octets.now) terminal.new.state) }
-        ensures lists { (seen : List ℕ) → StandsForLine self.old seen → OnErr result (CutLists (fed terminal.old.state seen octets.now).steps (lists_of terminal.old.state) (lists_of terminal.new.state)) }
+        ensures cut { (seen : List ℕ) → StandsForLine self.old seen →
+            OnErr result (CutShort (rule_at_octets terminal.old.state seen octets.now).steps
+            (V.holds terminal.old.vault) (V.holds terminal.new.vault)) }
+        ensures tables { (seen : List ℕ) → StandsForLine self.old seen →
+            OnErr result (TablesOfFirst terminal.old.state (partial_of seen)
+            (new_items seen octets.now) terminal.new.state) }
+        ensures lists { (seen : List ℕ) → StandsForLine self.old seen →
+            OnErr result (CutLists (rule_at_octets terminal.old.state seen octets.now).steps
+            (lists_of terminal.old.state) (lists_of terminal.new.state)) }
         ensures down { OnErr result (IsDown terminal.new.state) }
         ensures sound { IsSound (V.holds terminal.new.vault) terminal.new.state }
         ensures settings { terminal.new.state.settings ≡ terminal.old.state.settings }
@@ -84,9 +99,13 @@ impl TerminalLine {
         ensures last { terminal.new.state.last ≡ terminal.old.state.last }
         // Without a line, as once the terminal gave up, no octets change its state or what its vault holds, whatever line they come on.
         ensures gave_up { IfOk result (λ actions. IsSome actions.end → IsDown terminal.new.state) }
-        ensures unmoved { IsDown terminal.old.state → (terminal.new.state ≡ terminal.old.state) × (V.holds terminal.new.vault ≡ V.holds terminal.old.vault) }
-        ensures silent { IsDown terminal.old.state → IfOk result (λ actions. (actions.frames ≡ []) × (actions.end ≡ None) × (actions.told ≡ [])) }
-        ensures outside { Outside (V.faults terminal.old.vault) (V.faults terminal.new.vault) (V.limit terminal.old.vault) (V.limit terminal.new.vault) (V.may_fail terminal.old.vault) (V.may_fail terminal.new.vault) result }
+        ensures unmoved { IsDown terminal.old.state → (terminal.new.state ≡ terminal.old.state)
+            × (V.holds terminal.new.vault ≡ V.holds terminal.old.vault) }
+        ensures silent { IsDown terminal.old.state → IfOk result (λ actions.
+            (actions.frames ≡ []) × (actions.end ≡ None) × (actions.told ≡ [])) }
+        ensures outside { Outside (V.faults terminal.old.vault) (V.faults terminal.new.vault)
+            (V.limit terminal.old.vault) (V.limit terminal.new.vault)
+            (V.may_fail terminal.old.vault) (V.may_fail terminal.new.vault) result }
     {
         law_front();
         terminal.hear(alloc, &mut self.assembler, &mut self.stream, octets)

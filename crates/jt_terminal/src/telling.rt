@@ -27,7 +27,7 @@ fn first_named(ack: Acknowledgement, sent: usize, units: &Queue<Unit>) -> Option
 
 // How many units stand before the one whose acceptance this message tells, if it tells one.
 pub(crate) fn told_by(state: &State, message: &Message) -> Option<u64>
-    ensures { result ≡ rule.told state.now (rule.response_in message.now) }
+    ensures { result ≡ rule.named_place state.now (rule.response_in message.now) }
 {
     match message {
         Message::PlatformAck {
@@ -52,7 +52,8 @@ pub(crate) fn told_by(state: &State, message: &Message) -> Option<u64>
 
 // Puts it behind those told before.
 pub(crate) fn tell(state: &State, message: &Message, told: &mut Seq<u64>) -> Result<(), Memory>
-    ensures ok { OnOk result (told.new ≡ told.old ++ option_to_list (rule.told state.now (rule.response_in message.now))) }
+    ensures ok { OnOk result (told.new
+        ≡ told.old ++ option_to_list (rule.named_place state.now (rule.response_in message.now))) }
     ensures err { OnErr result (told.new ≡ told.old) }
 {
     match told_by(state, message) {

@@ -2,14 +2,15 @@
 
 ghost use Rattle.std.specs.Prelude.{ℕ, [], ◌+◌, ◌≡◌, ◌≤◌, ◌<◌, ◌^◌, ◌↔◌, false, Bool, IfErr, IfOk, IsErrOf, IsOk, IsTrue, None, OnErr, OnOk, Some, length};
 ghost use Rattle.std.specs.Option.{option_to_list};
-ghost use Rattle.jt_store.specs.Tables.{HasCause, IsSteady, Told};
+ghost use Rattle.jt_store.specs.Tables.{HasCause, IsSteady, WhereKnown};
 ghost use Rattle.jt_value.specs.Counts.{Rose};
-ghost use Rattle.jt_store.specs.Vaults.{Held, Notes, Records, settled};
+ghost use Rattle.jt_store.specs.Vaults.{Held, Notes, Records, accepted_count};
+ghost use Rattle.jt_terminal_rule.specs.Machines.{is_up};
 ghost use Rattle.jt_terminal_rule.specs.Messages.{AreSettings};
 ghost use Rattle.jt_terminal_rule.specs.Rule as rule;
 ghost use Rattle.jt_terminal.specs.Feeding.{HasFedFront, WasCut, scene};
 ghost use Rattle.jt_terminal_steps.specs.AfterError.{AllTablesOrNone, AreSameParams, CutLists, lists_of, sets_params};
-ghost use Rattle.jt_terminal_steps.specs.Running.{Counts, CutShort, IsDone, IsDown, IsEvent, IsRefused, IsSame, IsSound, IsStarted, Outside, Ran, TerminalValue, holds_after, time_after};
+ghost use Rattle.jt_terminal_steps.specs.Running.{CountsAsVault, CutShort, IsDone, IsDown, IsEvent, IsRefused, IsSame, IsSound, IsStarted, Outside, Ran, TerminalValue, holds_after, time_after};
 ghost use Rattle.jt_terminal_steps.specs.declared.error.TerminalError.TheVariants.{Store};
 ghost use Rattle.jt_terminal_rule.specs.declared.state.Event.TheVariants.{Lost, Tick};
 ghost use Rattle.jt_terminal_rule.specs.declared.state.GiveUp.TheVariants.{TimedOut};
@@ -28,8 +29,8 @@ use jt_store::{Loaded, StoreError, Vault};
 use jt_stream::Stream;
 use jt_subpacket::Assembler;
 use jt_terminal_answers::first_params;
-use jt_terminal_rule::{Event, GiveUp, Phase, Queue, Settings, State, Timing, Wait, lose, opened};
-use jt_terminal_steps::{TerminalError, beaten, received, ticked};
+use jt_terminal_rule::{Event, GiveUp, Phase, Queue, Settings, State, Timing, Wait, lose, on_open};
+use jt_terminal_steps::{TerminalError, on_beat, on_message, on_tick};
 use jt_value::{Memory, Octets, Seq};
 use std::alloc::Global;
 use std::marker::Model;
@@ -37,8 +38,9 @@ use std::marker::Model;
 // The state of a terminal that starts with what its vault loaded, and the parameters of its settings.
 fn started(alloc: Global, settings: Settings, loaded: Loaded, params: ParamTable) -> State
     requires { params ≡ set_params (rule.first_params settings) empty }
-    ensures state { result ≡ rule.started settings loaded }
-    ensures small { (result.mark < 65536) × (result.next < 65536) × (result.recorded < 2 ^ 64) × (result.accepted < 2 ^ 64) }
+    ensures state { result ≡ rule.start_state settings loaded }
+    ensures small { (result.mark < 65536) × (result.next < 65536) × (result.recorded < 2 ^ 64)
+        × (result.accepted < 2 ^ 64) }
 {
     let Loaded {
         fixes,
@@ -83,7 +85,7 @@ fn started(alloc: Global, settings: Settings, loaded: Loaded, params: ParamTable
 
 // How many units stand before the one whose acceptance this event tells, if it tells one.
 fn told(state: &State, event: &Event) -> Option<u64>
-    ensures { result ≡ rule.told state.now (rule.response event.now) }
+    ensures { result ≡ rule.named_place state.now (rule.response event.now) }
 {
     match event {
         Event::Received(_, message) => told_by(state, message),
@@ -93,7 +95,8 @@ fn told(state: &State, event: &Event) -> Option<u64>
 
 // The same as a list. It takes memory where there is one.
 fn told_list(alloc: Global, state: &State, event: &Event) -> Result<Seq<u64>, Memory>
-    ensures list { IfOk result (λ list. list ≡ option_to_list (rule.told state.now (rule.response event.now))) }
+    ensures list { IfOk result (λ list.
+        list ≡ option_to_list (rule.named_place state.now (rule.response event.now))) }
     ensures memory { OnErr result (time_after state.now event.now ≡ state.now.time) }
     ensures lost { event.now ≡ Lost → IsOk result }
 {
@@ -117,34 +120,41 @@ fn run_rule<V: Vault>(
 ) -> Result<Option<GiveUp>, TerminalError>
     requires event { IsEvent state.old event.now }
     requires sound { IsSound (V.holds vault.old) state.old }
-    ensures ok { IfOk result (λ end. Ran state.old.settings (rule.rule state.old event.now) state.new (V.holds vault.old) (V.holds vault.new) out.old out.new end) }
-    ensures err { OnErr result (CutShort (rule.rule state.old event.now).steps (V.holds vault.old) (V.holds vault.new)) }
+    ensures ok { IfOk result (λ end. Ran state.old.settings (rule.rule state.old event.now)
+        state.new (V.holds vault.old) (V.holds vault.new) out.old out.new end) }
+    ensures err { OnErr result
+        (CutShort (rule.rule state.old event.now).steps (V.holds vault.old) (V.holds vault.new)) }
     ensures sound { IsSound (V.holds vault.new) state.new }
     ensures settings { state.new.settings ≡ state.old.settings }
     ensures time { state.new.time ≡ time_after state.old event.now }
     ensures last { state.new.last ≡ state.old.last }
     ensures params { sets_params event.now ≡ false → AreSameParams state.old state.new }
-    ensures tables { OnErr result (AllTablesOrNone state.old (rule.rule state.old event.now).state state.new) }
-    ensures lists { OnErr result (CutLists (rule.rule state.old event.now).steps (lists_of state.old) (lists_of state.new)) }
+    ensures tables { OnErr result
+        (AllTablesOrNone state.old (rule.rule state.old event.now).state state.new) }
+    ensures lists { OnErr result
+        (CutLists (rule.rule state.old event.now).steps (lists_of state.old) (lists_of state.new)) }
     ensures lost { event.now ≡ Lost → IsOk result }
-    ensures outside { Outside (V.faults vault.old) (V.faults vault.new) (V.limit vault.old) (V.limit vault.new) (V.may_fail vault.old) (V.may_fail vault.new) result }
+    ensures outside { Outside (V.faults vault.old) (V.faults vault.new) (V.limit vault.old)
+        (V.limit vault.new) (V.may_fail vault.old) (V.may_fail vault.new) result }
 {
     match event {
         Event::Opened => {
-            opened(alloc, state, out)?;
+            on_open(alloc, state, out)?;
             Ok(None)
         }
-        Event::Received(header, message) => { received(alloc, vault, state, out, header, message) }
+        Event::Received(header, message) => {
+            on_message(alloc, vault, state, out, header, message)
+        }
         Event::Tick(now) => {
             state.time = *now;
-            ticked(alloc, vault, state, out)
+            on_tick(alloc, vault, state, out)
         }
         Event::Lost => {
             lose(state);
             Ok(None)
         }
         Event::Beat => {
-            beaten(alloc, vault, state, out)?;
+            on_beat(alloc, vault, state, out)?;
             Ok(None)
         }
     }
@@ -170,12 +180,17 @@ fn act<V: Vault>(
     requires sound { IsSound (V.holds vault.old) state.old }
     requires timed { IsTimed state.old }
     ensures state { OnOk result (state.new ≡ (rule.rule state.old event.now).state) }
-    ensures vault { OnOk result (V.holds vault.new ≡ holds_after (rule.rule state.old event.now).steps (V.holds vault.old)) }
-    ensures frames { IfOk result (λ actions. actions.frames ≡ rule.sends state.old.settings (rule.rule state.old event.now).steps) }
+    ensures vault { OnOk result (V.holds vault.new
+        ≡ holds_after (rule.rule state.old event.now).steps (V.holds vault.old)) }
+    ensures frames { IfOk result (λ actions.
+        actions.frames ≡ rule.sends state.old.settings (rule.rule state.old event.now).steps) }
     ensures end { IfOk result (λ actions. actions.end ≡ (rule.rule state.old event.now).end) }
-    ensures told { IfOk result (λ actions. actions.told ≡ option_to_list (rule.told state.old (rule.response event.now))) }
-    ensures late { (now since at : ℕ) → event.now ≡ Tick now → IfOk result (λ actions. actions.end ≡ Some (TimedOut since at) → IsLate state.old now since at) }
-    ensures cut { OnErr result (CutShort (rule.rule state.old event.now).steps (V.holds vault.old) (V.holds vault.new)) }
+    ensures told { IfOk result (λ actions.
+        actions.told ≡ option_to_list (rule.named_place state.old (rule.response event.now))) }
+    ensures late { (now since at : ℕ) → event.now ≡ Tick now → IfOk result (λ actions.
+        actions.end ≡ Some (TimedOut since at) → IsLate state.old now since at) }
+    ensures cut { OnErr result
+        (CutShort (rule.rule state.old event.now).steps (V.holds vault.old) (V.holds vault.new)) }
     ensures down { OnErr result (IsDown state.new) }
     ensures sound { IsSound (V.holds vault.new) state.new }
     ensures timed { IsTimed state.new }
@@ -183,10 +198,13 @@ fn act<V: Vault>(
     ensures time { state.new.time ≡ time_after state.old event.now }
     ensures last { state.new.last ≡ state.old.last }
     ensures params { sets_params event.now ≡ false → AreSameParams state.old state.new }
-    ensures tables { OnErr result (AllTablesOrNone state.old (rule.rule state.old event.now).state state.new) }
-    ensures lists { OnErr result (CutLists (rule.rule state.old event.now).steps (lists_of state.old) (lists_of state.new)) }
+    ensures tables { OnErr result
+        (AllTablesOrNone state.old (rule.rule state.old event.now).state state.new) }
+    ensures lists { OnErr result
+        (CutLists (rule.rule state.old event.now).steps (lists_of state.old) (lists_of state.new)) }
     ensures lost { event.now ≡ Lost → IsOk result }
-    ensures outside { Outside (V.faults vault.old) (V.faults vault.new) (V.limit vault.old) (V.limit vault.new) (V.may_fail vault.old) (V.may_fail vault.new) result }
+    ensures outside { Outside (V.faults vault.old) (V.faults vault.new) (V.limit vault.old)
+        (V.limit vault.new) (V.may_fail vault.old) (V.may_fail vault.new) result }
 {
     let list = match told_list(alloc, state, event) {
         Ok(list) => list,
@@ -215,15 +233,21 @@ fn act_on_line<V: Vault>(
     requires short { stream.old.splitter.place + length octets.now < 2 ^ 63 }
     requires sound { IsSound (V.holds vault.old) state.old }
     requires timed { IsTimed state.old }
-    ensures ok { IfOk result (λ actions. HasFedFront (scene stream.old.splitter assembler.old state.old (V.holds vault.old) [] []) (scene stream.new.splitter assembler.new state.new (V.holds vault.new) actions.frames actions.told) octets.now actions.end) }
+    ensures ok { IfOk result (λ actions.
+        HasFedFront (scene stream.old.splitter assembler.old state.old (V.holds vault.old) [] [])
+        (scene stream.new.splitter assembler.new state.new (V.holds vault.new) actions.frames
+        actions.told) octets.now actions.end) }
     ensures place { stream.new.splitter.place ≤ stream.old.splitter.place + length octets.now }
-    ensures err { OnErr result (WasCut (scene stream.old.splitter assembler.old state.old (V.holds vault.old) [] []) stream.new.splitter state.new (V.holds vault.new) octets.now) }
+    ensures err { OnErr result
+        (WasCut (scene stream.old.splitter assembler.old state.old (V.holds vault.old) [] [])
+        stream.new.splitter state.new (V.holds vault.new) octets.now) }
     ensures unmoved { OnErr result (IsDown state.old → state.new ≡ state.old) }
     ensures down { OnErr result (IsDown state.new) }
     ensures sound { IsSound (V.holds vault.new) state.new }
     ensures timed { IsTimed state.new }
     ensures same { IsSame state.old state.new }
-    ensures outside { Outside (V.faults vault.old) (V.faults vault.new) (V.limit vault.old) (V.limit vault.new) (V.may_fail vault.old) (V.may_fail vault.new) result }
+    ensures outside { Outside (V.faults vault.old) (V.faults vault.new) (V.limit vault.old)
+        (V.limit vault.new) (V.may_fail vault.old) (V.may_fail vault.new) result }
 {
     let mut frames = Seq::new(alloc);
     let mut told = Seq::new(alloc);
@@ -247,6 +271,16 @@ fn is_done(state: &State) -> bool
     ensures { IsTrue result ↔ IsDone state.now }
 {
     state.units.is_empty() && state.waiting.is_empty()
+}
+
+// Whether a line is in use.
+fn is_in_use(state: &State) -> bool
+    ensures { result ≡ is_up state.now.phase }
+{
+    match state.phase {
+        Phase::Down => false,
+        Phase::Registering(_) | Phase::Authenticating(_) | Phase::Live(_) => true,
+    }
 }
 
 /// A terminal over a vault. Contracts see its vault and its state.
@@ -282,8 +316,13 @@ impl<V: Vault> Terminal<V> {
         settings: Settings,
     ) -> Result<Terminal<V>, (V, StoreError)>
         requires { AreSettings settings }
-        ensures ok { IfOk result (λ terminal. IsStarted settings (V.holds vault) terminal.state × (V.holds terminal.vault ≡ V.holds vault) × (V.limit terminal.vault ≡ V.limit vault) × (V.faults vault ≤ V.faults terminal.vault) × (V.may_fail vault ≡ false → V.may_fail terminal.vault ≡ false)) }
-        ensures err { IfErr result (λ refused. (V.holds refused.0 ≡ V.holds vault) × (V.limit refused.0 ≡ V.limit vault) × IsRefused (V.faults vault) (V.faults refused.0) (V.may_fail vault) (V.may_fail refused.0) refused.1) }
+        ensures ok { IfOk result (λ terminal. IsStarted settings (V.holds vault) terminal.state
+            × (V.holds terminal.vault ≡ V.holds vault) × (V.limit terminal.vault ≡ V.limit vault)
+            × (V.faults vault ≤ V.faults terminal.vault)
+            × (V.may_fail vault ≡ false → V.may_fail terminal.vault ≡ false)) }
+        ensures err { IfErr result (λ refused. (V.holds refused.0 ≡ V.holds vault)
+            × (V.limit refused.0 ≡ V.limit vault) × IsRefused (V.faults vault) (V.faults refused.0)
+            (V.may_fail vault) (V.may_fail refused.0) refused.1) }
     {
         let params = match first_params(alloc, &settings) {
             Ok(params) => params,
@@ -300,12 +339,31 @@ impl<V: Vault> Terminal<V> {
         }
     }
 
+    /// Starts anew in place, without a line, over what the vault loads and with these settings. After an error the terminal is as
+    /// before.
+    pub fn restart(&mut self, alloc: Global, settings: Settings) -> Result<(), StoreError>
+        requires { AreSettings settings }
+        ensures ok { OnOk result (IsStarted settings (V.holds self.old.vault) self.new.state) }
+        ensures err { OnErr result (self.new.state ≡ self.old.state) }
+        ensures holds { V.holds self.new.vault ≡ V.holds self.old.vault }
+        ensures sound { OnOk result (IsSound (V.holds self.new.vault) self.new.state) }
+        ensures limit { V.limit self.new.vault ≡ V.limit self.old.vault }
+    {
+        let params = first_params(alloc, &settings)?;
+        let loaded = self.vault.load(alloc)?;
+        look_at_fixes(loaded.fixes.as_slice());
+        look_at_serials(loaded.units.as_slice());
+        self.state = started(alloc, settings, loaded, params);
+        Ok(())
+    }
+
     /// Records a fix behind the others. Full comes exactly where as many fixes as the vault's limit are not accepted, and has
     /// the limit. After each error the terminal is as before, and its vault holds what it held.
     pub fn note_fix(&mut self, alloc: Global, fix: &Fix) -> Result<(), StoreError>
-        ensures ok { OnOk result (self.new.state ≡ rule.noted self.old.state fix.now) }
+        ensures ok { OnOk result (self.new.state ≡ rule.with_fix self.old.state fix.now) }
         ensures err { OnErr result (self.new.state ≡ self.old.state) }
-        ensures vault { Records (V.limit self.old.vault) fix.now (V.holds self.old.vault) (V.holds self.new.vault) result }
+        ensures vault { Records (V.limit self.old.vault) fix.now
+            (V.holds self.old.vault) (V.holds self.new.vault) result }
         ensures limit { V.limit self.new.vault ≡ V.limit self.old.vault }
         ensures cause { HasCause (V.faults self.old.vault) (V.faults self.new.vault) result }
         ensures steady { IsSteady (V.may_fail self.old.vault) (V.may_fail self.new.vault) result }
@@ -337,13 +395,18 @@ impl<V: Vault> Terminal<V> {
     pub fn event(&mut self, alloc: Global, event: Event) -> Result<Actions, TerminalError>
         requires { IsEvent self.old.state event }
         ensures state { OnOk result (self.new.state ≡ (rule.rule self.old.state event).state) }
-        ensures vault { OnOk result (V.holds self.new.vault ≡ holds_after (rule.rule self.old.state event).steps (V.holds self.old.vault)) }
-        ensures frames { IfOk result (λ actions. actions.frames ≡ rule.sends self.old.state.settings (rule.rule self.old.state event).steps) }
+        ensures vault { OnOk result (V.holds self.new.vault
+            ≡ holds_after (rule.rule self.old.state event).steps (V.holds self.old.vault)) }
+        ensures frames { IfOk result (λ actions. actions.frames
+            ≡ rule.sends self.old.state.settings (rule.rule self.old.state event).steps) }
         ensures end { IfOk result (λ actions. actions.end ≡ (rule.rule self.old.state event).end) }
         // A line is given up for want of an answer only once all waits have passed since the first sending.
-        ensures late { (now since at : ℕ) → event ≡ Tick now → IfOk result (λ actions. actions.end ≡ Some (TimedOut since at) → IsLate self.old.state now since at) }
-        ensures told { IfOk result (λ actions. actions.told ≡ option_to_list (rule.told self.old.state (rule.response event))) }
-        ensures cut { OnErr result (CutShort (rule.rule self.old.state event).steps (V.holds self.old.vault) (V.holds self.new.vault)) }
+        ensures late { (now since at : ℕ) → event ≡ Tick now → IfOk result (λ actions.
+            actions.end ≡ Some (TimedOut since at) → IsLate self.old.state now since at) }
+        ensures told { IfOk result (λ actions.
+            actions.told ≡ option_to_list (rule.named_place self.old.state (rule.response event))) }
+        ensures cut { OnErr result (CutShort (rule.rule self.old.state event).steps
+            (V.holds self.old.vault) (V.holds self.new.vault)) }
         ensures down { OnErr result (IsDown self.new.state) }
         ensures sound { IsSound (V.holds self.new.vault) self.new.state }
         ensures settings { self.new.state.settings ≡ self.old.state.settings }
@@ -351,10 +414,14 @@ impl<V: Vault> Terminal<V> {
         ensures last { self.new.state.last ≡ self.old.state.last }
         // A 0x8103 alone changes times and parameters.
         ensures params { sets_params event ≡ false → AreSameParams self.old.state self.new.state }
-        ensures tables { OnErr result (AllTablesOrNone self.old.state (rule.rule self.old.state event).state self.new.state) }
-        ensures lists { OnErr result (CutLists (rule.rule self.old.state event).steps (lists_of self.old.state) (lists_of self.new.state)) }
+        ensures tables { OnErr result
+            (AllTablesOrNone self.old.state (rule.rule self.old.state event).state self.new.state) }
+        ensures lists { OnErr result (CutLists (rule.rule self.old.state event).steps
+            (lists_of self.old.state) (lists_of self.new.state)) }
         ensures lost { event ≡ Lost → IsOk result }
-        ensures outside { Outside (V.faults self.old.vault) (V.faults self.new.vault) (V.limit self.old.vault) (V.limit self.new.vault) (V.may_fail self.old.vault) (V.may_fail self.new.vault) result }
+        ensures outside { Outside (V.faults self.old.vault) (V.faults self.new.vault)
+            (V.limit self.old.vault) (V.limit self.new.vault)
+            (V.may_fail self.old.vault) (V.may_fail self.new.vault) result }
     {
         act(alloc, &mut self.vault, &mut self.state, &event)
     }
@@ -368,14 +435,22 @@ impl<V: Vault> Terminal<V> {
         octets: &[u8],
     ) -> Result<Actions, TerminalError>
         requires { stream.old.splitter.place + length octets.now < 2 ^ 63 }
-        ensures ok { IfOk result (λ actions. HasFedFront (scene stream.old.splitter assembler.old self.old.state (V.holds self.old.vault) [] []) (scene stream.new.splitter assembler.new self.new.state (V.holds self.new.vault) actions.frames actions.told) octets.now actions.end) }
+        ensures ok { IfOk result (λ actions.
+            HasFedFront (scene stream.old.splitter assembler.old self.old.state
+            (V.holds self.old.vault) [] [])
+            (scene stream.new.splitter assembler.new self.new.state (V.holds self.new.vault)
+            actions.frames actions.told) octets.now actions.end) }
         ensures place { stream.new.splitter.place ≤ stream.old.splitter.place + length octets.now }
-        ensures err { OnErr result (WasCut (scene stream.old.splitter assembler.old self.old.state (V.holds self.old.vault) [] []) stream.new.splitter self.new.state (V.holds self.new.vault) octets.now) }
+        ensures err { OnErr result (WasCut (scene stream.old.splitter assembler.old self.old.state
+            (V.holds self.old.vault) [] [])
+            stream.new.splitter self.new.state (V.holds self.new.vault) octets.now) }
         ensures unmoved { OnErr result (IsDown self.old.state → self.new.state ≡ self.old.state) }
         ensures down { OnErr result (IsDown self.new.state) }
         ensures sound { IsSound (V.holds self.new.vault) self.new.state }
         ensures same { IsSame self.old.state self.new.state }
-        ensures outside { Outside (V.faults self.old.vault) (V.faults self.new.vault) (V.limit self.old.vault) (V.limit self.new.vault) (V.may_fail self.old.vault) (V.may_fail self.new.vault) result }
+        ensures outside { Outside (V.faults self.old.vault) (V.faults self.new.vault)
+            (V.limit self.old.vault) (V.limit self.new.vault)
+            (V.may_fail self.old.vault) (V.may_fail self.new.vault) result }
     {
         act_on_line(
             alloc,
@@ -390,18 +465,36 @@ impl<V: Vault> Terminal<V> {
     /// Whether every recorded fix is accepted.
     pub fn done(&self) -> bool
         ensures done { IsTrue result ↔ IsDone self.now.state }
-        ensures told { Told (V.holds self.now.vault) (λ held. IsTrue result ↔ (settled held ≡ length held.recorded)) }
+        ensures told { WhereKnown (V.holds self.now.vault) (λ held.
+            IsTrue result ↔ (accepted_count held ≡ length held.recorded)) }
     {
         is_done(&self.state)
     }
 
     /// How many fixes were recorded and how many of them are accepted. Each count stays at 2^64 - 1.
     pub fn counts(&self) -> (u64, u64)
-        ensures counts { (result.0 ≡ self.now.state.recorded) × (result.1 ≡ self.now.state.accepted) }
-        ensures told { Told (V.holds self.now.vault) (λ held. Counts held self.now.state) }
+        ensures counts { (result.0 ≡ self.now.state.recorded)
+            × (result.1 ≡ self.now.state.accepted) }
+        ensures told { WhereKnown (V.holds self.now.vault) (λ held.
+            CountsAsVault held self.now.state) }
     {
         let _state = &self.state;
         (self.state.recorded, self.state.accepted)
+    }
+
+    /// Whether a line is in use.
+    pub fn is_up(&self) -> bool
+        ensures { result ≡ is_up self.now.state.phase }
+    {
+        is_in_use(&self.state)
+    }
+
+    /// The vault, which is lent.
+    pub fn vault(&self) -> &V
+        ensures { result.now ≡ self.now.vault }
+    {
+        let _state = &self.state;
+        &self.vault
     }
 
     /// The vault, with no memory taken.

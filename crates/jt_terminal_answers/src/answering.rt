@@ -3,6 +3,7 @@
 ghost use Rattle.std.specs.Prelude.{◌≡◌, ◌≤◌, ◌++◌, true, length, IfOk, OnErr, OnOk};
 ghost use Rattle.jt_value.specs.declared.phone.Edition.TheVariants.{E2019};
 ghost use Rattle.std.specs.List.{AllByRecursion};
+ghost use Rattle.jt_value.specs.declared.limits.TheConstants.{OCTET_COUNT_LIMIT};
 ghost use Rattle.jt_layout.specs.Layout.{word};
 ghost use Rattle.jt_params.specs.Tables.{HasOctets};
 ghost use Rattle.jt_region_bodies.specs.declared.kind.RegionKind.{RegionKind};
@@ -72,9 +73,12 @@ pub fn answer(
     requires good { AreSettings state.old.settings }
     requires held { HasOctets state.old.params }
     requires fits { Fits header.now.edition message.now }
-    ensures state { OnOk result (state.new ≡ (rule.answers state.old (table.answer_to state.old header.now message.now)).state) }
-    ensures out { OnOk result (out.new ≡ out.old ++ rule.sends state.old.settings (rule.answers state.old (table.answer_to state.old header.now message.now)).steps) }
-    ensures err { OnErr result (AllOrNothing state.old (table.answer_to state.old header.now message.now) state.new) }
+    ensures state { OnOk result (state.new
+        ≡ (rule.answers state.old (table.answer_to state.old header.now message.now)).state) }
+    ensures out { OnOk result (out.new ≡ out.old ++ rule.sends state.old.settings
+        (rule.answers state.old (table.answer_to state.old header.now message.now)).steps) }
+    ensures err { OnErr result
+        (AllOrNothing state.old (table.answer_to state.old header.now message.now) state.new) }
     ensures octets { HasOctets state.new.params }
     ensures kept { BeginsWith out.new out.old }
 {
@@ -117,8 +121,10 @@ pub fn answer_refused(
     out: &mut Seq<Octets>,
 ) -> Result<(), Memory>
     requires { AreSettings state.old.settings }
-    ensures state { OnOk result (state.new ≡ (rule.answers state.old (table.answer_to_refused state.old header.now)).state) }
-    ensures out { OnOk result (out.new ≡ out.old ++ rule.sends state.old.settings (rule.answers state.old (table.answer_to_refused state.old header.now)).steps) }
+    ensures state { OnOk result (state.new
+        ≡ (rule.answers state.old (table.answer_to_refused state.old header.now)).state) }
+    ensures out { OnOk result (out.new ≡ out.old ++ rule.sends state.old.settings
+        (rule.answers state.old (table.answer_to_refused state.old header.now)).steps) }
     ensures err { OnErr result (state.new ≡ state.old) }
     ensures kept { BeginsWith out.new out.old }
 {
@@ -134,8 +140,9 @@ fn look_at_numbers(numbers: &[u16])
 
 // The body of a request for packets again, in 2019.
 fn lack_body(alloc: Global, first: u16, numbers: Seq<u16>) -> Result<Octets, Memory>
-    requires { length numbers ≤ 255 }
-    ensures { IfOk result (λ octets. octets ≡ body_octets E2019 (message.TerminalResend (record { first = first; wide = true; numbers = numbers }))) }
+    requires { length numbers ≤ OCTET_COUNT_LIMIT }
+    ensures { IfOk result (λ octets. octets ≡ body_octets E2019
+        (message.TerminalResend (record { first = first; wide = true; numbers = numbers }))) }
 {
     look_at_numbers(numbers.as_slice());
     let request = Resend {
@@ -155,9 +162,12 @@ pub fn answer_lack(
     out: &mut Seq<Octets>,
 ) -> Result<(), Memory>
     requires good { AreSettings state.old.settings }
-    requires few { length numbers ≤ 255 }
-    ensures state { OnOk result (state.new ≡ (rule.answers state.old (table.answer_to_lack state.old state.old.settings.phone.edition first numbers)).state) }
-    ensures out { OnOk result (out.new ≡ out.old ++ rule.sends state.old.settings (rule.answers state.old (table.answer_to_lack state.old state.old.settings.phone.edition first numbers)).steps) }
+    requires few { length numbers ≤ OCTET_COUNT_LIMIT }
+    ensures state { OnOk result (state.new ≡ (rule.answers state.old
+        (table.answer_to_lack state.old state.old.settings.phone.edition first numbers)).state) }
+    ensures out { OnOk result
+        (out.new ≡ out.old ++ rule.sends state.old.settings (rule.answers state.old
+        (table.answer_to_lack state.old state.old.settings.phone.edition first numbers)).steps) }
     ensures err { OnErr result (state.new ≡ state.old) }
     ensures kept { BeginsWith out.new out.old }
 {

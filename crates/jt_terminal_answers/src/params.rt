@@ -2,6 +2,7 @@
 
 ghost use Rattle.std.specs.Prelude.{◌≡◌, ◌≤◌, ◌++◌, Bool, true, false, Some, None, length, IfOk, OnErr, OnOk};
 ghost use Rattle.std.specs.FinMap.{empty};
+ghost use Rattle.jt_value.specs.declared.limits.TheConstants.{OCTET_COUNT_LIMIT};
 ghost use Rattle.jt_params.specs.Params as layouts;
 ghost use Rattle.jt_params.specs.Tables.{HasOctets, HaveOctets, dword_of, listed, selected};
 ghost use Rattle.jt_codec.specs.Bodies.{body_octets};
@@ -78,10 +79,11 @@ fn timing_after(timing: Timing, params: &[Param]) -> Timing
 
 // Whether the table took the parameters, and with them the times.
 fn take_params(state: &mut State, params: &Seq<Param>) -> Result<bool, Memory>
-    requires few { length params.now ≤ 255 }
+    requires few { length params.now ≤ OCTET_COUNT_LIMIT }
     ensures ok { IfOk result (λ taken. TookParams taken state.old params.now state.new) }
     ensures err { OnErr result (state.new ≡ state.old) }
-    ensures octets { HaveOctets params.now → HasOctets state.old.params → HasOctets state.new.params }
+    ensures octets { HaveOctets params.now → HasOctets state.old.params →
+        HasOctets state.new.params }
 {
     match state.params.set_all(params) {
         Ok(()) => {
@@ -102,12 +104,16 @@ pub(crate) fn set_params_of(
     out: &mut Seq<Octets>,
 ) -> Result<(), Memory>
     requires good { AreSettings state.old.settings }
-    requires few { length params.now ≤ 255 }
+    requires few { length params.now ≤ OCTET_COUNT_LIMIT }
     requires octets { HaveOctets params.now }
     requires held { HasOctets state.old.params }
-    ensures state { OnOk result (state.new ≡ (rule.answers state.old (table.takes_params state.old header.now params.now (params_after params.now state.old.params))).state) }
-    ensures out { OnOk result (out.new ≡ out.old ++ rule.sends state.old.settings (rule.answers state.old (table.takes_params state.old header.now params.now (params_after params.now state.old.params))).steps) }
-    ensures err { OnErr result (AllOrNothing state.old (table.takes_params state.old header.now params.now (params_after params.now state.old.params)) state.new) }
+    ensures state { OnOk result (state.new ≡ (rule.answers state.old (table.takes_params state.old
+        header.now params.now (params_after params.now state.old.params))).state) }
+    ensures out { OnOk result (out.new ≡ out.old
+        ++ rule.sends state.old.settings (rule.answers state.old (table.takes_params state.old
+        header.now params.now (params_after params.now state.old.params))).steps) }
+    ensures err { OnErr result (AllOrNothing state.old (table.takes_params state.old header.now
+        params.now (params_after params.now state.old.params)) state.new) }
     ensures octets { HasOctets state.new.params }
     ensures kept { BeginsWith out.new out.old }
 {
@@ -124,7 +130,7 @@ fn params_body(
     reply: u16,
     params: Seq<Param>,
 ) -> Result<Octets, Memory>
-    requires few { length params ≤ 255 }
+    requires few { length params ≤ OCTET_COUNT_LIMIT }
     requires octets { HaveOctets params }
     ensures { IfOk result (λ octets. octets ≡ body_octets edition (message.Params reply params)) }
 {
@@ -141,10 +147,12 @@ fn tell(
     out: &mut Seq<Octets>,
 ) -> Result<(), Memory>
     requires good { AreSettings state.old.settings }
-    requires few { length params ≤ 255 }
+    requires few { length params ≤ OCTET_COUNT_LIMIT }
     requires octets { HaveOctets params }
-    ensures state { OnOk result (state.new ≡ (rule.answers state.old (table.tells_params state.old header.now params)).state) }
-    ensures out { OnOk result (out.new ≡ out.old ++ rule.sends state.old.settings (rule.answers state.old (table.tells_params state.old header.now params)).steps) }
+    ensures state { OnOk result (state.new
+        ≡ (rule.answers state.old (table.tells_params state.old header.now params)).state) }
+    ensures out { OnOk result (out.new ≡ out.old ++ rule.sends state.old.settings
+        (rule.answers state.old (table.tells_params state.old header.now params)).steps) }
     ensures err { OnErr result (state.new ≡ state.old) }
     ensures kept { BeginsWith out.new out.old }
 {
@@ -161,8 +169,11 @@ pub(crate) fn tell_all(
 ) -> Result<(), Memory>
     requires good { AreSettings state.old.settings }
     requires held { HasOctets state.old.params }
-    ensures state { OnOk result (state.new ≡ (rule.answers state.old (table.tells_params state.old header.now (listed state.old.params))).state) }
-    ensures out { OnOk result (out.new ≡ out.old ++ rule.sends state.old.settings (rule.answers state.old (table.tells_params state.old header.now (listed state.old.params))).steps) }
+    ensures state { OnOk result (state.new ≡ (rule.answers state.old
+        (table.tells_params state.old header.now (listed state.old.params))).state) }
+    ensures out { OnOk result
+        (out.new ≡ out.old ++ rule.sends state.old.settings (rule.answers state.old
+        (table.tells_params state.old header.now (listed state.old.params))).steps) }
     ensures err { OnErr result (state.new ≡ state.old) }
     ensures kept { BeginsWith out.new out.old }
 {
@@ -179,10 +190,13 @@ pub(crate) fn tell_some(
     out: &mut Seq<Octets>,
 ) -> Result<(), Memory>
     requires good { AreSettings state.old.settings }
-    requires few { length ids.now ≤ 255 }
+    requires few { length ids.now ≤ OCTET_COUNT_LIMIT }
     requires held { HasOctets state.old.params }
-    ensures state { OnOk result (state.new ≡ (rule.answers state.old (table.tells_params state.old header.now (selected state.old.params ids.now))).state) }
-    ensures out { OnOk result (out.new ≡ out.old ++ rule.sends state.old.settings (rule.answers state.old (table.tells_params state.old header.now (selected state.old.params ids.now))).steps) }
+    ensures state { OnOk result (state.new ≡ (rule.answers state.old
+        (table.tells_params state.old header.now (selected state.old.params ids.now))).state) }
+    ensures out { OnOk result
+        (out.new ≡ out.old ++ rule.sends state.old.settings (rule.answers state.old
+        (table.tells_params state.old header.now (selected state.old.params ids.now))).steps) }
     ensures err { OnErr result (state.new ≡ state.old) }
     ensures kept { BeginsWith out.new out.old }
 {
@@ -205,7 +219,8 @@ fn time_param(id: u32, number: u32) -> Param
 
 /// The parameters that a terminal begins with: the times of its settings.
 pub fn first_params(alloc: Global, settings: &Settings) -> Result<ParamTable, Memory>
-    ensures table { IfOk result (λ params. params ≡ set_params (rule.first_params settings.now) empty) }
+    ensures table { IfOk result (λ params.
+        params ≡ set_params (rule.first_params settings.now) empty) }
     ensures octets { IfOk result HasOctets }
 {
     let Settings {

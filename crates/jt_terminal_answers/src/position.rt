@@ -37,8 +37,10 @@ pub(crate) fn tell_position(
     out: &mut Seq<Octets>,
 ) -> Result<(), Memory>
     requires { AreSettings state.old.settings }
-    ensures state { OnOk result (state.new ≡ (rule.answers state.old (table.tells_position state.old header.now state.old.last)).state) }
-    ensures out { OnOk result (out.new ≡ out.old ++ rule.sends state.old.settings (rule.answers state.old (table.tells_position state.old header.now state.old.last)).steps) }
+    ensures state { OnOk result (state.new ≡ (rule.answers state.old
+        (table.tells_position state.old header.now state.old.last)).state) }
+    ensures out { OnOk result (out.new ≡ out.old ++ rule.sends state.old.settings
+        (rule.answers state.old (table.tells_position state.old header.now state.old.last)).steps) }
     ensures err { OnErr result (state.new ≡ state.old) }
     ensures kept { BeginsWith out.new out.old }
 {

@@ -1,6 +1,7 @@
 //! Regions: changed by the platform.
 
 ghost use Rattle.std.specs.Prelude.{◌≡◌, ◌++◌, IfOk, OnErr, OnOk};
+ghost use Rattle.jt_value.specs.declared.limits.TheConstants.{WORD_COUNT_LIMIT};
 ghost use Rattle.jt_regions.specs.Tables.{AtMost};
 ghost use Rattle.jt_terminal_rule.specs.Messages.{AreSettings, BeginsWith};
 ghost use Rattle.jt_terminal_rule.specs.Answers as table;
@@ -17,7 +18,7 @@ use std::alloc::Global;
 
 // Whether the table took the change.
 fn take_change(state: &mut State, change: &RegionChange) -> Result<bool, Memory>
-    requires { AtMost 65535 change.now }
+    requires { AtMost WORD_COUNT_LIMIT change.now }
     ensures ok { IfOk result (λ taken. TookChange taken state.old change.now state.new) }
     ensures err { OnErr result (state.new ≡ state.old) }
 {
@@ -37,10 +38,13 @@ pub(crate) fn change_regions(
     out: &mut Seq<Octets>,
 ) -> Result<(), Memory>
     requires good { AreSettings state.old.settings }
-    requires few { AtMost 65535 change.now }
-    ensures state { OnOk result (state.new ≡ (rule.answers state.old (table.takes_change state.old header.now change.now)).state) }
-    ensures out { OnOk result (out.new ≡ out.old ++ rule.sends state.old.settings (rule.answers state.old (table.takes_change state.old header.now change.now)).steps) }
-    ensures err { OnErr result (AllOrNothing state.old (table.takes_change state.old header.now change.now) state.new) }
+    requires few { AtMost WORD_COUNT_LIMIT change.now }
+    ensures state { OnOk result (state.new
+        ≡ (rule.answers state.old (table.takes_change state.old header.now change.now)).state) }
+    ensures out { OnOk result (out.new ≡ out.old ++ rule.sends state.old.settings
+        (rule.answers state.old (table.takes_change state.old header.now change.now)).steps) }
+    ensures err { OnErr result
+        (AllOrNothing state.old (table.takes_change state.old header.now change.now) state.new) }
     ensures params { state.new.params ≡ state.old.params }
     ensures kept { BeginsWith out.new out.old }
 {

@@ -35,7 +35,8 @@ fn packets(
     kind: AnswerKind,
     body: &[u8],
 ) -> Result<Seq<(Header, Octets)>, Memory>
-    ensures packets { IfOk result (λ packets. packets ≡ rule.answer_packets state.now kind body.now) }
+    ensures packets { IfOk result (λ packets.
+        packets ≡ rule.answer_packets state.now kind body.now) }
     ensures serial { state.now.next < 65536 }
 {
     let State { settings, next, .. } = state;
@@ -54,8 +55,10 @@ fn say_packets(
     packets: &[(Header, Octets)],
     out: &mut Seq<Octets>,
 ) -> Result<(), Memory>
-    requires { (place : ℕ) (packet : OnePacket) → slice_get packets.now place ≡ Some packet → IsHeader packet.0 × (length packet.1 < 2 ^ 10) }
-    ensures out { OnOk result (out.new ≡ out.old ++ map (λ (packet : OnePacket). frame_of packet.0 packet.1) packets.now) }
+    requires { (place : ℕ) (packet : OnePacket) → slice_get packets.now place ≡ Some packet →
+        IsHeader packet.0 × (length packet.1 < 2 ^ 10) }
+    ensures out { OnOk result (out.new
+        ≡ out.old ++ map (λ (packet : OnePacket). frame_of packet.0 packet.1) packets.now) }
     ensures kept { BeginsWith out.new out.old }
 {
     for packet in packets {
@@ -74,8 +77,10 @@ pub(crate) fn say_answer(
     out: &mut Seq<Octets>,
 ) -> Result<(), Memory>
     requires { AreSettings state.old.settings }
-    ensures state { OnOk result (state.new ≡ (rule.says_answer state.old (Some (kind, body.now))).state) }
-    ensures out { OnOk result (out.new ≡ out.old ++ rule.sends state.old.settings (rule.says_answer state.old (Some (kind, body.now))).steps) }
+    ensures state { OnOk result
+        (state.new ≡ (rule.says_answer state.old (Some (kind, body.now))).state) }
+    ensures out { OnOk result (out.new ≡ out.old ++ rule.sends state.old.settings
+        (rule.says_answer state.old (Some (kind, body.now))).steps) }
     ensures err { OnErr result (state.new ≡ state.old) }
     ensures kept { BeginsWith out.new out.old }
 {
@@ -94,7 +99,8 @@ fn response_body(
     header: &Header,
     outcome: u8,
 ) -> Result<Octets, Memory>
-    ensures { IfOk result (λ octets. octets ≡ body_octets edition (message.TerminalAck header.now.serial header.now.id outcome)) }
+    ensures { IfOk result (λ octets. octets
+        ≡ body_octets edition (message.TerminalAck header.now.serial header.now.id outcome)) }
 {
     let Header { serial, id, .. } = header;
     let response = Message::TerminalAck {
@@ -114,8 +120,10 @@ pub(crate) fn respond(
     out: &mut Seq<Octets>,
 ) -> Result<(), Memory>
     requires { AreSettings state.old.settings }
-    ensures state { OnOk result (state.new ≡ (rule.answers state.old (table.responds state.old header.now outcome)).state) }
-    ensures out { OnOk result (out.new ≡ out.old ++ rule.sends state.old.settings (rule.answers state.old (table.responds state.old header.now outcome)).steps) }
+    ensures state { OnOk result
+        (state.new ≡ (rule.answers state.old (table.responds state.old header.now outcome)).state) }
+    ensures out { OnOk result (out.new ≡ out.old ++ rule.sends state.old.settings
+        (rule.answers state.old (table.responds state.old header.now outcome)).steps) }
     ensures err { OnErr result (state.new ≡ state.old) }
     ensures kept { BeginsWith out.new out.old }
 {

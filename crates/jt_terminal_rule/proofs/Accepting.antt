@@ -11,7 +11,7 @@ use Rattle.jt_terminal_rule.specs.Messages.{is_acceptance}
 use Rattle.jt_terminal_rule.specs.Steps.{is_named}
 use Rattle.jt_store.specs.Units.{past, past_accepted}
 use Rattle.jt_terminal_rule.specs.declared.state.State.{State}
-use Rattle.jt_terminal_rule.specs.Rule.{accepted, names}
+use Rattle.jt_terminal_rule.specs.Rule.{after_acceptance, names}
 use Rattle.jt_terminal_rule.specs.Rule as rule
 use Rattle.jt_store.specs.Verdicts.{number_after, numbered}
 use Rattle.jt_terminal_rule.specs.Machines.{row_after, machine_of, mark_of, is_up, Agrees, IsInOrder, AreSerials}
@@ -98,7 +98,7 @@ module _ (s : State) (u : OneUnit) (more : List OneUnit) (o : IsInOrder s) (is :
     short = o.order.short;
   }
 
-  pub accepted_order : IsInOrder (accepted s u more)
+  pub accepted_order : IsInOrder (after_acceptance s u more)
   accepted_order = record { order = order; serials = small.1; phase = o.phase; mark = small.0; next = o.next; sent = let within = subst (λ (us : List OneUnit). s.sent ≤ length us) is o.sent in omega (arith, within) }
 
 module _ (h : Held) (s : State) (u : OneUnit) (more : List OneUnit) (o : IsInOrder s) (a : Agrees h s) (is : s.units ≡ u ∷ more) where
@@ -114,7 +114,7 @@ module _ (h : Held) (s : State) (u : OneUnit) (more : List OneUnit) (o : IsInOrd
   held_reaches : gap_of u.serial h.next + gap_of s.mark u.serial ≡ gap_of s.mark h.next
   held_reaches = reach_of s u more o is h.next a.next_small held_behind
 
-  pub accepted_agrees : Agrees (held_by Accepts h) (accepted s u more)
+  pub accepted_agrees : Agrees (held_by Accepts h) (after_acceptance s u more)
   accepted_agrees = let top = top_is s u more o is in let goes = reaches s u more o is in record {
     known = let lt = found.3 in omega (arith, lt);
     units = found.2 ∙ ap (λ (n : ℕ). drop n h.units) next;
@@ -140,7 +140,7 @@ module _ (h : Held) (s : State) (serial : ℕ) (u : OneUnit) (more : List OneUni
   names_it = subst (λ (row : Option Row). IsTrue (is_acceptance ack && is_named ack row)) (sym at_place.1)
       (both (is_acceptance ack) (is_named ack (Some (row_after at_place.0 u))) accepting (subst (λ (n : ℕ). IsTrue ((ack.reply == n) && (ack.id == u.id))) (sym (serial_back at_place.0 u.serial (small s u more o is).0)) named))
 
-  pub accept_steps : AreSteps (machine_of h s) h (Some ack) (record { state = accepted s u more; steps = rule.Changes Accepts ∷ []; end = None })
+  pub accept_steps : AreSteps (machine_of h s) h (Some ack) (record { state = after_acceptance s u more; steps = rule.Changes Accepts ∷ []; end = None })
   accept_steps = record {
     may = ((ap is_up live, omega (arith, some), names_it), tt);
     to = ap (λ (n : ℕ). record (machine_of h s) { accepted = h.accepted + 1; reach = n }) sent_is;

@@ -19,7 +19,7 @@ use Rattle.jt_terminal_rule.specs.Messages.{AreSettings, frame_of, header_of}
 use Rattle.jt_terminal_rule.specs.Answers.{Answer, id_of_answer}
 use Rattle.jt_terminal_rule.specs.declared.state.AnswerKind.{AnswerKind}
 use Rattle.jt_terminal_rule.specs.declared.state.AnswerKind.TheVariants.{General, Parameters, Position, Packets}
-use Rattle.jt_terminal_rule.specs.Steps.{Machine, MayRun, MaySay, auths_by, is_in, run, stepped}
+use Rattle.jt_terminal_rule.specs.Steps.{Machine, MayRun, MaySay, auths_by, is_in, machine_run, machine_after}
 use Rattle.jt_terminal_rule.specs.Steps as step
 use Rattle.jt_terminal_rule.specs.Rule.{Ruled, after_packets, answer_packets, answers, changed_by, message_limit, says_answer, says_each, says_packets, sends, stays}
 use Rattle.jt_terminal_rule.specs.Machines.{machine_of, as_steps, frames_by, held_after, MayCommit, IsInOrder, Agrees}
@@ -79,7 +79,7 @@ can_append : (m : Machine) (xs ys : List Packet) → CanSay m xs → CanSay m ys
 can_append m [] ys one two = two
 can_append m (x ∷ xs) ys one two = (one.0, one.1, can_append m xs ys one.2 two)
 
-said_one : (m : Machine) (h : Header) (body : List ℕ) → (h.id == 0x0102) ≡ false → stepped m (step.Says h body) ≡ m
+said_one : (m : Machine) (h : Header) (body : List ℕ) → (h.id == 0x0102) ≡ false → machine_after m (step.Says h body) ≡ m
 said_one m h body e = ap (λ (b : Bool). record m { auths = cond (b && not (is_in m.auths h.serial)) (m.auths ++ h.serial ∷ []) m.auths }) e
 
 say_may : (m : Machine) (packets : List Packet) → m.using ≡ true → CanSay m packets → MayRun m None (as_steps m (says_each packets))
@@ -87,9 +87,9 @@ say_may m [] using can = tt
 say_may m (q ∷ packets) using can =
     ((using, can.0), subst (λ (n : Machine). MayRun n None (as_steps n (says_each packets))) (sym (said_one m q.0 q.1 can.1)) (say_may m packets using can.2))
 
-say_to : (m : Machine) (packets : List Packet) → CanSay m packets → run m (as_steps m (says_each packets)) ≡ m
+say_to : (m : Machine) (packets : List Packet) → CanSay m packets → machine_run m (as_steps m (says_each packets)) ≡ m
 say_to m [] can = refl
-say_to m (q ∷ packets) can = ap (λ (n : Machine). run n (as_steps n (says_each packets))) (said_one m q.0 q.1 can.1) ∙ say_to m packets can.2
+say_to m (q ∷ packets) can = ap (λ (n : Machine). machine_run n (as_steps n (says_each packets))) (said_one m q.0 q.1 can.1) ∙ say_to m packets can.2
 
 pub say_held : (packets : List Packet) (held : Held) → held_after (says_each packets) held ≡ held
 say_held [] held = refl
@@ -192,7 +192,7 @@ packets_sent settings (q ∷ packets) = ap (λ (fs : List (List ℕ)). frame_of 
 
 says_written : (settings : Settings) (m : Machine) (packets : List Packet) → sends settings (says_each packets) ≡ frames_by m (as_steps m (says_each packets))
 says_written settings m [] = refl
-says_written settings m (q ∷ packets) = ap (λ (fs : List (List ℕ)). frame_of q.0 q.1 ∷ fs) (says_written settings (stepped m (step.Says q.0 q.1)) packets)
+says_written settings m (q ∷ packets) = ap (λ (fs : List (List ℕ)). frame_of q.0 q.1 ∷ fs) (says_written settings (machine_after m (step.Says q.0 q.1)) packets)
 
 -- ---- states
 

@@ -2,7 +2,7 @@
 use Rattle.std.proofs.Common.{ℕ, ◌≡◌, List, [], ◌∷◌, ◌++◌, Option, None, refl, ap, sym, ◌∙◌, subst}
 use Rattle.jt_store.specs.Vaults.{Held, held_by, Notes, Forms, Accepts, Sets}
 use Rattle.jt_terminal_rule.specs.declared.state.Acknowledgement.{Acknowledgement}
-use Rattle.jt_terminal_rule.specs.Steps.{Machine, TerminalStep, MayStep, MayRun, run, stepped, writes}
+use Rattle.jt_terminal_rule.specs.Steps.{Machine, TerminalStep, MayStep, MayRun, machine_run, machine_after, writes}
 use Rattle.jt_terminal_rule.specs.Steps as step
 use Rattle.jt_terminal_rule.specs.declared.settings.Settings.{Settings}
 use Rattle.jt_terminal_rule.specs.declared.state.State.{State}
@@ -12,13 +12,13 @@ use Rattle.jt_terminal_rule.specs.Rule as rule
 use Rattle.jt_terminal_rule.specs.Machines.{machine_of, as_step, as_steps, frames_by, held_after, MayCommit, Agrees, IsInOrder}
 use Rattle.jt_terminal_rule.specs.Law.{AreSteps}
 
-pub as_steps-append : (m : Machine) (xs ys : List Step) → as_steps m (xs ++ ys) ≡ as_steps m xs ++ as_steps (run m (as_steps m xs)) ys
+pub as_steps-append : (m : Machine) (xs ys : List Step) → as_steps m (xs ++ ys) ≡ as_steps m xs ++ as_steps (machine_run m (as_steps m xs)) ys
 as_steps-append m [] ys = refl
-as_steps-append m (x ∷ xs) ys = ap (λ (steps : List TerminalStep). as_step m x ∷ steps) (as_steps-append (stepped m (as_step m x)) xs ys)
+as_steps-append m (x ∷ xs) ys = ap (λ (steps : List TerminalStep). as_step m x ∷ steps) (as_steps-append (machine_after m (as_step m x)) xs ys)
 
-pub run-append : (m : Machine) (xs ys : List TerminalStep) → run m (xs ++ ys) ≡ run (run m xs) ys
-run-append m [] ys = refl
-run-append m (x ∷ xs) ys = run-append (stepped m x) xs ys
+pub machine_run-append : (m : Machine) (xs ys : List TerminalStep) → machine_run m (xs ++ ys) ≡ machine_run (machine_run m xs) ys
+machine_run-append m [] ys = refl
+machine_run-append m (x ∷ xs) ys = machine_run-append (machine_after m x) xs ys
 
 pub held_after-append : (xs ys : List Step) (held : Held) → held_after (xs ++ ys) held ≡ held_after ys (held_after xs held)
 held_after-append [] ys held = refl
@@ -44,9 +44,9 @@ pub loosen : (m : Machine) (just : Option Acknowledgement) (xs : List TerminalSt
 loosen m just [] may = may
 loosen m just (x ∷ xs) may = (loosen_step m just x may.0, may.1)
 
-pub may_append : (m : Machine) (just : Option Acknowledgement) (xs ys : List TerminalStep) → MayRun m just xs → MayRun (run m xs) None ys → MayRun m just (xs ++ ys)
+pub may_append : (m : Machine) (just : Option Acknowledgement) (xs ys : List TerminalStep) → MayRun m just xs → MayRun (machine_run m xs) None ys → MayRun m just (xs ++ ys)
 may_append m just [] ys may more = loosen m just ys more
-may_append m just (x ∷ xs) ys may more = (may.0, may_append (stepped m x) None xs ys may.1 more)
+may_append m just (x ∷ xs) ys may more = (may.0, may_append (machine_after m x) None xs ys may.1 more)
 
 commit_append : (xs ys : List Step) (held : Held) → MayCommit held xs → MayCommit (held_after xs held) ys → MayCommit held (xs ++ ys)
 commit_append [] ys held one two = two
@@ -66,29 +66,29 @@ sends_append settings (rule.Changes change ∷ a) b = sends_append settings a b
 sends_append settings (rule.Opens ∷ a) b = sends_append settings a b
 sends_append settings (rule.Loses ∷ a) b = sends_append settings a b
 
-frames_append : (m : Machine) (xs ys : List TerminalStep) → frames_by m (xs ++ ys) ≡ frames_by m xs ++ frames_by (run m xs) ys
+frames_append : (m : Machine) (xs ys : List TerminalStep) → frames_by m (xs ++ ys) ≡ frames_by m xs ++ frames_by (machine_run m xs) ys
 frames_append m [] ys = refl
-frames_append m (step.Sends place ∷ xs) ys = ap (λ (fs : List (List ℕ)). writes m (step.Sends place) ∷ fs) (frames_append (stepped m (step.Sends place)) xs ys)
-frames_append m (step.Says h body ∷ xs) ys = ap (λ (fs : List (List ℕ)). writes m (step.Says h body) ∷ fs) (frames_append (stepped m (step.Says h body)) xs ys)
-frames_append m (step.Records fix ∷ xs) ys = frames_append (stepped m (step.Records fix)) xs ys
-frames_append m (step.Forms unit ∷ xs) ys = frames_append (stepped m (step.Forms unit)) xs ys
-frames_append m (step.Opens ∷ xs) ys = frames_append (stepped m step.Opens) xs ys
-frames_append m (step.Accepts ∷ xs) ys = frames_append (stepped m step.Accepts) xs ys
-frames_append m (step.Loses ∷ xs) ys = frames_append (stepped m step.Loses) xs ys
-frames_append m (step.Restarts phone ∷ xs) ys = frames_append (stepped m (step.Restarts phone)) xs ys
-frames_append m (step.Codes code ∷ xs) ys = frames_append (stepped m (step.Codes code)) xs ys
+frames_append m (step.Sends place ∷ xs) ys = ap (λ (fs : List (List ℕ)). writes m (step.Sends place) ∷ fs) (frames_append (machine_after m (step.Sends place)) xs ys)
+frames_append m (step.Says h body ∷ xs) ys = ap (λ (fs : List (List ℕ)). writes m (step.Says h body) ∷ fs) (frames_append (machine_after m (step.Says h body)) xs ys)
+frames_append m (step.Records fix ∷ xs) ys = frames_append (machine_after m (step.Records fix)) xs ys
+frames_append m (step.Forms unit ∷ xs) ys = frames_append (machine_after m (step.Forms unit)) xs ys
+frames_append m (step.Opens ∷ xs) ys = frames_append (machine_after m step.Opens) xs ys
+frames_append m (step.Accepts ∷ xs) ys = frames_append (machine_after m step.Accepts) xs ys
+frames_append m (step.Loses ∷ xs) ys = frames_append (machine_after m step.Loses) xs ys
+frames_append m (step.Restarts phone ∷ xs) ys = frames_append (machine_after m (step.Restarts phone)) xs ys
+frames_append m (step.Codes code ∷ xs) ys = frames_append (machine_after m (step.Codes code)) xs ys
 
 -- the rule's steps leave the phone
-pub run_phone : (m : Machine) (steps : List Step) → (run m (as_steps m steps)).phone ≡ m.phone
+pub run_phone : (m : Machine) (steps : List Step) → (machine_run m (as_steps m steps)).phone ≡ m.phone
 run_phone m [] = refl
-run_phone m (rule.Sends older unit ∷ steps) = run_phone (stepped m (as_step m (rule.Sends older unit))) steps
-run_phone m (rule.Says h body ∷ steps) = run_phone (stepped m (as_step m (rule.Says h body))) steps
-run_phone m (rule.Changes (Notes fix) ∷ steps) = run_phone (stepped m (as_step m (rule.Changes (Notes fix)))) steps
-run_phone m (rule.Changes (Forms unit) ∷ steps) = run_phone (stepped m (as_step m (rule.Changes (Forms unit)))) steps
-run_phone m (rule.Changes Accepts ∷ steps) = run_phone (stepped m (as_step m (rule.Changes Accepts))) steps
-run_phone m (rule.Changes (Sets code) ∷ steps) = run_phone (stepped m (as_step m (rule.Changes (Sets code)))) steps
-run_phone m (rule.Opens ∷ steps) = run_phone (stepped m (as_step m rule.Opens)) steps
-run_phone m (rule.Loses ∷ steps) = run_phone (stepped m (as_step m rule.Loses)) steps
+run_phone m (rule.Sends older unit ∷ steps) = run_phone (machine_after m (as_step m (rule.Sends older unit))) steps
+run_phone m (rule.Says h body ∷ steps) = run_phone (machine_after m (as_step m (rule.Says h body))) steps
+run_phone m (rule.Changes (Notes fix) ∷ steps) = run_phone (machine_after m (as_step m (rule.Changes (Notes fix)))) steps
+run_phone m (rule.Changes (Forms unit) ∷ steps) = run_phone (machine_after m (as_step m (rule.Changes (Forms unit)))) steps
+run_phone m (rule.Changes Accepts ∷ steps) = run_phone (machine_after m (as_step m (rule.Changes Accepts))) steps
+run_phone m (rule.Changes (Sets code) ∷ steps) = run_phone (machine_after m (as_step m (rule.Changes (Sets code)))) steps
+run_phone m (rule.Opens ∷ steps) = run_phone (machine_after m (as_step m rule.Opens)) steps
+run_phone m (rule.Loses ∷ steps) = run_phone (machine_after m (as_step m rule.Loses)) steps
 
 pub and_then_steps : (m : Machine) (held : Held) (just : Option Acknowledgement) (r : Ruled) (more : State → Ruled) → AreSteps m held just r → AreSteps (machine_of (held_after r.steps held) r.state) (held_after r.steps held) None (more r.state) → AreSteps m held just (and_then r more)
 and_then_steps m held just r more one two =
@@ -96,11 +96,11 @@ and_then_steps m held just r more one two =
     let behind = held_after-append r.steps (more r.state).steps held in
     record {
       may = subst (λ (steps : List TerminalStep). MayRun m just steps) (sym parts)
-          (may_append m just (as_steps m r.steps) (as_steps (run m (as_steps m r.steps)) (more r.state).steps) one.may
+          (may_append m just (as_steps m r.steps) (as_steps (machine_run m (as_steps m r.steps)) (more r.state).steps) one.may
           (subst (λ (n : Machine). MayRun n None (as_steps n (more r.state).steps)) (sym one.to) two.may));
-      to = ap (run m) parts
-          ∙ (run-append m (as_steps m r.steps) (as_steps (run m (as_steps m r.steps)) (more r.state).steps)
-          ∙ (ap (λ (n : Machine). run n (as_steps n (more r.state).steps)) one.to
+      to = ap (machine_run m) parts
+          ∙ (machine_run-append m (as_steps m r.steps) (as_steps (machine_run m (as_steps m r.steps)) (more r.state).steps)
+          ∙ (ap (λ (n : Machine). machine_run n (as_steps n (more r.state).steps)) one.to
           ∙ (two.to ∙ ap (λ (h : Held). machine_of h (more r.state).state) (sym behind))));
       commits = commit_append r.steps (more r.state).steps held one.commits two.commits;
       sent = λ settings own.
@@ -109,7 +109,7 @@ and_then_steps m held just r more one two =
           ∙ (ap (λ (fs : List (List ℕ)). fs ++ sends settings (more r.state).steps) (one.sent settings own)
           ∙ (ap (λ (fs : List (List ℕ)). frames_by m (as_steps m r.steps) ++ fs) (two.sent settings then_own
           ∙ ap (λ (n : Machine). frames_by n (as_steps n (more r.state).steps)) (sym one.to))
-          ∙ (sym (frames_append m (as_steps m r.steps) (as_steps (run m (as_steps m r.steps)) (more r.state).steps)) ∙ ap (frames_by m) (sym parts))));
+          ∙ (sym (frames_append m (as_steps m r.steps) (as_steps (machine_run m (as_steps m r.steps)) (more r.state).steps)) ∙ ap (frames_by m) (sym parts))));
       in_order = two.in_order;
       agrees = subst (λ (h : Held). Agrees h (more r.state).state) (sym behind) two.agrees;
     }

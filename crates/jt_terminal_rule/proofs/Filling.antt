@@ -16,7 +16,7 @@ use Rattle.jt_terminal_rule.specs.Messages.{is_acceptance, header_of, frame_of}
 use Rattle.jt_terminal_rule.specs.Steps.{writes}
 use Rattle.jt_terminal_rule.specs.Steps as step
 use Rattle.jt_terminal_rule.specs.declared.state.State.{State}
-use Rattle.jt_terminal_rule.specs.Rule.{Ruled, one_sent, forms_one, sends_one, next_one, or_stays, fill, fills, window, and_then, accepted, names}
+use Rattle.jt_terminal_rule.specs.Rule.{Ruled, one_sent, form_unit, send_unit, send_next, or_stays, fill, fill_window, window, and_then, after_acceptance, names}
 use Rattle.jt_terminal_rule.specs.Rule as rule
 use Rattle.jt_terminal_rule.specs.Machines.{machine_of, is_up, is_live, held_after, Agrees, AreSerials, IsInOrder}
 use Rattle.jt_terminal_rule.specs.Law.{AreSteps, UnitCarriesFirstFixes}
@@ -102,11 +102,11 @@ module _ (carries : UnitCarriesFirstFixes) (serial : ℕ) where
       )
 
   formed_one : (h : Held) (s : State) → s.phase ≡ Live serial → IsInOrder s → Agrees h s → slice_get s.units s.sent ≡ None
-      → (fixes : List (List ℕ)) → s.waiting ≡ fixes → GoesOn h s serial (forms_one s fixes)
+      → (fixes : List (List ℕ)) → s.waiting ≡ fixes → GoesOn h s serial (form_unit s fixes)
   formed_one h s live o a none [] waits = tt
   formed_one h s live o a none (fix ∷ more) waits = formed_and_sent h s live o a none fix more waits (nat_lt (gap_of s.mark s.next) 32767) refl
 
-  sent_one : (h : Held) (s : State) → s.phase ≡ Live serial → IsInOrder s → Agrees h s → (unit : Option OneUnit) → slice_get s.units s.sent ≡ unit → GoesOn h s serial (sends_one s unit)
+  sent_one : (h : Held) (s : State) → s.phase ≡ Live serial → IsInOrder s → Agrees h s → (unit : Option OneUnit) → slice_get s.units s.sent ≡ unit → GoesOn h s serial (send_unit s unit)
   sent_one h s live o a None e = formed_one h s live o a e s.waiting refl
   sent_one h s live o a (Some u) e = (send_steps h s serial u live o a e, live)
 
@@ -114,23 +114,23 @@ module _ (carries : UnitCarriesFirstFixes) (serial : ℕ) where
   tested h s true r goes = goes
   tested h s false r goes = tt
 
-  goes_on : (h : Held) (s : State) → s.phase ≡ Live serial → IsInOrder s → Agrees h s → GoesOn h s serial (next_one s)
-  goes_on h s live o a = tested h s (nat_lt s.sent window) (sends_one s (slice_get s.units s.sent)) (sent_one h s live o a (slice_get s.units s.sent) refl)
+  goes_on : (h : Held) (s : State) → s.phase ≡ Live serial → IsInOrder s → Agrees h s → GoesOn h s serial (send_next s)
+  goes_on h s live o a = tested h s (nat_lt s.sent window) (send_unit s (slice_get s.units s.sent)) (sent_one h s live o a (slice_get s.units s.sent) refl)
 
   pub fill_steps : (n : ℕ) (h : Held) (s : State) → s.phase ≡ Live serial → IsInOrder s → Agrees h s → AreSteps (machine_of h s) h None (fill n s)
   fill_steps zero h s live o a = stays_steps h s None o a
-  fill_steps (suc n) h s live o a = filled (next_one s) (goes_on h s live o a) (fill_steps n)
+  fill_steps (suc n) h s live o a = filled (send_next s) (goes_on h s live o a) (fill_steps n)
     where
       filled : (r : Option Ruled) → GoesOn h s serial r → ((held : Held) (t : State) → t.phase ≡ Live serial → IsInOrder t → Agrees held t → AreSteps (machine_of held t) held None (fill n t)) → AreSteps (machine_of h s) h None (or_stays s r (fill n))
       filled None goes rest = stays_steps h s None o a
       filled (Some r) goes rest = and_then_steps (machine_of h s) h None r (fill n) goes.0 (rest (held_after r.steps h) r.state goes.1 goes.0.in_order goes.0.agrees)
 
-pub window_steps : UnitCarriesFirstFixes → (h : Held) (s : State) (serial : ℕ) → s.phase ≡ Live serial → IsInOrder s → Agrees h s → AreSteps (machine_of h s) h None (fills s)
+pub window_steps : UnitCarriesFirstFixes → (h : Held) (s : State) (serial : ℕ) → s.phase ≡ Live serial → IsInOrder s → Agrees h s → AreSteps (machine_of h s) h None (fill_window s)
 window_steps carries h s serial live o a = fill_steps carries serial window h s live o a
 
 pub acceptance_steps : UnitCarriesFirstFixes → (h : Held) (s : State) (serial : ℕ) (u : OneUnit) (more : List OneUnit) (ack : Acknowledgement) → s.phase ≡ Live serial → IsInOrder s → Agrees h s
-    → s.units ≡ u ∷ more → 0 < s.sent → IsTrue (names ack u) → IsTrue (is_acceptance ack) → AreSteps (machine_of h s) h (Some ack) (rule.accepts s u more)
+    → s.units ≡ u ∷ more → 0 < s.sent → IsTrue (names ack u) → IsTrue (is_acceptance ack) → AreSteps (machine_of h s) h (Some ack) (rule.accept_oldest s u more)
 acceptance_steps carries h s serial u more ack live o a is some named accepting =
     let one = accept_steps h s serial u more ack live o a is some named accepting in
-    and_then_steps (machine_of h s) h (Some ack) (record { state = accepted s u more; steps = rule.Changes Accepts ∷ []; end = None }) fills one
-    (fill_steps carries serial window (held_by Accepts h) (accepted s u more) live one.in_order one.agrees)
+    and_then_steps (machine_of h s) h (Some ack) (record { state = after_acceptance s u more; steps = rule.Changes Accepts ∷ []; end = None }) fill_window one
+    (fill_steps carries serial window (held_by Accepts h) (after_acceptance s u more) live one.in_order one.agrees)

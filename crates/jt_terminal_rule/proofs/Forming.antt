@@ -10,7 +10,7 @@ use Rattle.jt_value.specs.Serials.{serial_of, gap_of}
 use Rattle.jt_position.specs.Fixes.{IsFix, fixes_of}
 use Rattle.jt_store.specs.declared.row.Row.{Row}
 use Rattle.jt_store.specs.declared.unit.Unit.{Unit as OneUnit}
-use Rattle.jt_store.specs.Vaults.{Held, Gaps, fixes_carried as counts, formed, gap_after, AreInOrder, IsUnit, held_by, Forms}
+use Rattle.jt_store.specs.Vaults.{Held, Gaps, fixes_carried as counts, formed_count, gap_after, AreInOrder, IsUnit, held_by, Forms}
 use Rattle.jt_store.specs.Vaults as vaults
 use Rattle.std.proofs.Math.Seq.{drop-append_seam}
 use Rattle.jt_terminal_rule.specs.Forming.{unit_of, fitting, batch_unit, position_unit}
@@ -122,11 +122,11 @@ module _ (h : Held) (s : State) (o : IsInOrder s) (a : Agrees h s) where
           after (Some n) = omega arith
 
 -- the fixes that wait are those that are in no unit
-pub waiting_is : (h : Held) (s : State) → Agrees h s → drop (formed h) h.recorded ≡ s.waiting
+pub waiting_is : (h : Held) (s : State) → Agrees h s → drop (formed_count h) h.recorded ≡ s.waiting
 waiting_is h s a =
     let len = ap (λ (fs : List (List ℕ)). length fs) a.fixes ∙ length-append (fixes_in (numbered None h.units)) s.waiting in
     let all = a.formed in
-    let same : formed h ≡ length (fixes_in (numbered None h.units)) = omega (arith, len, all) in
+    let same : formed_count h ≡ length (fixes_in (numbered None h.units)) = omega (arith, len, all) in
     ap (λ (n : ℕ). drop n h.recorded) same ∙ (ap (drop (length (fixes_in (numbered None h.units)))) a.fixes ∙ drop-append_seam (fixes_in (numbered None h.units)) s.waiting)
 
 -- the state behind a unit that was formed and not sent yet
@@ -186,7 +186,7 @@ module _ (carries : UnitCarriesFirstFixes) (h : Held) (s : State) (o : IsInOrder
     short = o.order.short;
   }
 
-  formed_is : formed (held_by (Forms u) h) + length (drop u.count (fix ∷ more)) ≡ length h.recorded
+  formed_is : formed_count (held_by (Forms u) h) + length (drop u.count (fix ∷ more)) ≡ length h.recorded
   formed_is =
       let sum = counts_push h.units u in
       let left = length-drop u.count (fix ∷ more) in

@@ -18,7 +18,7 @@ use Rattle.jt_terminal_rule.specs.declared.state.Acknowledgement.{Acknowledgemen
 use Rattle.jt_terminal_rule.specs.Messages.{AreSettings, header_of, is_acceptance}
 use Rattle.jt_terminal_rule.specs.Steps.{Machine, hears, lets_in, auths_by}
 use Rattle.jt_terminal_rule.specs.declared.state.State.{State}
-use Rattle.jt_terminal_rule.specs.Rule.{Ruled, fills, window, answers, answers_if_live, Heard, Whole, Refused, Lacks, TooMany, heard, responded, answered, authenticated, registered, replied, received, response_in, names, beats, beats_if_silent, is_silent, beaten, repeats, again, oldest_again, goes_on, has_passed, sent_again, ticked, gives_up, accepts, and_then}
+use Rattle.jt_terminal_rule.specs.Rule.{Ruled, fill_window, window, answers, answer_if_live, Heard, Whole, Refused, Lacks, TooMany, on_hearing, on_response, on_unit_response, on_auth_response, on_register_reply, take_reply, on_message, response_in, names, say_heartbeat, heartbeat_if_silent, is_silent, on_beat, repeat_sending, steps_again, oldest_again, watch_and_fill, has_passed, repeat_wait, on_tick, gives_up, accept_oldest, and_then}
 use Rattle.jt_terminal_rule.specs.Rule as rule
 use Rattle.jt_terminal_rule.specs.declared.state.Event.TheVariants as event
 use Rattle.jt_terminal_rule.specs.Machines.{machine_of, held_after, IsPhase, IsInOrder, Agrees}
@@ -74,17 +74,17 @@ module _ (carries : UnitCarriesFirstFixes) (h : Held) (s : State) (good : AreSet
 
   -- ---- messages of the platform
 
-  live_fills : (serial : ℕ) → IsInOrder (at s (Live serial)) → Agrees h (at s (Live serial)) → AreSteps (machine_of h (at s (Live serial))) h None (fills (at s (Live serial)))
+  live_fills : (serial : ℕ) → IsInOrder (at s (Live serial)) → Agrees h (at s (Live serial)) → AreSteps (machine_of h (at s (Live serial))) h None (fill_window (at s (Live serial)))
   live_fills serial o a = window_steps carries h (at s (Live serial)) serial refl o a
 
   -- an answer, and then the window
   live_answers : (a : Answer) (serial : ℕ) → AreSteps (machine_of h (at s (Live serial))) h None (answers (at s (Live serial)) a) → ((answers (at s (Live serial)) a).state.phase ≡ Live serial)
-      → AreSteps (machine_of h (at s (Live serial))) h None (and_then (answers (at s (Live serial)) a) fills)
+      → AreSteps (machine_of h (at s (Live serial))) h None (and_then (answers (at s (Live serial)) a) fill_window)
   live_answers a serial one live =
       let r = answers (at s (Live serial)) a in
-      and_then_steps (machine_of h (at s (Live serial))) h None r fills one (window_steps carries (held_after r.steps h) r.state serial live one.in_order one.agrees)
+      and_then_steps (machine_of h (at s (Live serial))) h None r fill_window one (window_steps carries (held_after r.steps h) r.state serial live one.in_order one.agrees)
 
-  pub answer_steps : (a : Answer) (p : Phase) → IsInOrder (at s p) → Agrees h (at s p) → AreSteps (machine_of h (at s p)) h None (answers_if_live p (at s p) a)
+  pub answer_steps : (a : Answer) (p : Phase) → IsInOrder (at s p) → Agrees h (at s p) → AreSteps (machine_of h (at s p)) h None (answer_if_live p (at s p) a)
   answer_steps a Down o g = stays_steps h (at s Down) None o g
   answer_steps a (Registering serial) o g = stays_steps h (at s (Registering serial)) None o g
   answer_steps a (Authenticating serial) o g = stays_steps h (at s (Authenticating serial)) None o g
@@ -95,16 +95,16 @@ module _ (carries : UnitCarriesFirstFixes) (h : Held) (s : State) (good : AreSet
     stays_behind p out o a = behind_any (machine_of h (at s p)) (hears (machine_of h (at s p)) (Some ack)) h (Some ack) (rule.stays (at s p)) (still (machine_of h (at s p)) ack out) (stays_steps h (at s p) None o a)
 
     by_result : (serial : ℕ) → IsInOrder (at s (Authenticating serial)) → Agrees h (at s (Authenticating serial)) → ((ack.id == 0x0102) && (ack.reply == serial)) ≡ true → (c : Bool) → (ack.result == 0) ≡ c
-        → AreSteps (hears (machine_of h (at s (Authenticating serial))) (Some ack)) h (Some ack) (cond c (fills (at s (Live serial))) (gives_up (record (at s (Authenticating serial)) { code = None }) (rule.Changes (Sets None) ∷ []) (Denied octets)))
+        → AreSteps (hears (machine_of h (at s (Authenticating serial))) (Some ack)) h (Some ack) (cond c (fill_window (at s (Live serial))) (gives_up (record (at s (Authenticating serial)) { code = None }) (rule.Changes (Sets None) ∷ []) (Denied octets)))
     by_result serial o a named true e =
         let inside : lets_in (serial ∷ []) ack ≡ true = one_in (ack.result == 0) (ack.id == 0x0102) (ack.reply == serial) ∙ and_true (ack.result == 0) ((ack.id == 0x0102) && (ack.reply == serial)) e named in
-        behind_any (machine_of h (at s (Live serial))) (hears (machine_of h (at s (Authenticating serial))) (Some ack)) h (Some ack) (fills (at s (Live serial)))
+        behind_any (machine_of h (at s (Live serial))) (hears (machine_of h (at s (Authenticating serial))) (Some ack)) h (Some ack) (fill_window (at s (Live serial)))
         (ap (λ (b : Bool). record (machine_of h (at s (Live serial))) { ready = b }) inside)
         (live_fills serial (keep_order (at s (Authenticating serial)) (Live serial) s.time s.wait s.said s.sent o.phase o.sent o) (keep_agrees h (at s (Authenticating serial)) (Live serial) s.time s.wait s.said s.sent a))
     by_result serial o a named false e = denied_steps (hears (machine_of h (at s (Authenticating serial))) (Some ack)) h (at s (Authenticating serial)) (Some ack) (Some (Denied octets)) refl o a
 
     by_serial : (serial : ℕ) → IsInOrder (at s (Authenticating serial)) → Agrees h (at s (Authenticating serial)) → (b : Bool) → ((ack.id == 0x0102) && (ack.reply == serial)) ≡ b
-        → AreSteps (hears (machine_of h (at s (Authenticating serial))) (Some ack)) h (Some ack) (cond b (authenticated (at s (Authenticating serial)) serial ack.result octets) (rule.stays (at s (Authenticating serial))))
+        → AreSteps (hears (machine_of h (at s (Authenticating serial))) (Some ack)) h (Some ack) (cond b (on_auth_response (at s (Authenticating serial)) serial ack.result octets) (rule.stays (at s (Authenticating serial))))
     by_serial serial o a true e = by_result serial o a e (ack.result == 0) refl
     by_serial serial o a false e = stays_behind (Authenticating serial) (one_in (ack.result == 0) (ack.id == 0x0102) (ack.reply == serial) ∙ and_false (ack.result == 0) ((ack.id == 0x0102) && (ack.reply == serial)) e) o a
 
@@ -112,22 +112,22 @@ module _ (carries : UnitCarriesFirstFixes) (h : Held) (s : State) (good : AreSet
     live_behind serial r one = behind_any (machine_of h (at s (Live serial))) (hears (machine_of h (at s (Live serial))) (Some ack)) h (Some ack) r refl one
 
     by_acceptance : (serial : ℕ) → IsInOrder (at s (Live serial)) → Agrees h (at s (Live serial)) → (u : OneUnit) (more : List OneUnit) → s.units ≡ u ∷ more → (nat_lt 0 s.sent && names ack u) ≡ true → (c : Bool) → is_acceptance ack ≡ c
-        → AreSteps (hears (machine_of h (at s (Live serial))) (Some ack)) h (Some ack) (cond c (accepts (at s (Live serial)) u more) (gives_up (at s (Live serial)) [] (Denied octets)))
+        → AreSteps (hears (machine_of h (at s (Live serial))) (Some ack)) h (Some ack) (cond c (accept_oldest (at s (Live serial)) u more) (gives_up (at s (Live serial)) [] (Denied octets)))
     by_acceptance serial o a u more is named true e = acceptance_steps carries h (at s (Live serial)) serial u more ack refl o a is (ltb-true 0 s.sent (and_left (nat_lt 0 s.sent) (names ack u) named)) (and_right (nat_lt 0 s.sent) (names ack u) named) e
     by_acceptance serial o a u more is named false e = lost_steps (hears (machine_of h (at s (Live serial))) (Some ack)) h (at s (Live serial)) (Some ack) (Some (Denied octets)) refl o a
 
     by_name : (serial : ℕ) → IsInOrder (at s (Live serial)) → Agrees h (at s (Live serial)) → (u : OneUnit) (more : List OneUnit) → s.units ≡ u ∷ more → (b : Bool) → (nat_lt 0 s.sent && names ack u) ≡ b
         → AreSteps (hears (machine_of h (at s (Live serial))) (Some ack)) h (Some ack)
-        (cond b (cond (is_acceptance ack) (accepts (at s (Live serial)) u more) (gives_up (at s (Live serial)) [] (Denied octets))) (fills (at s (Live serial))))
+        (cond b (cond (is_acceptance ack) (accept_oldest (at s (Live serial)) u more) (gives_up (at s (Live serial)) [] (Denied octets))) (fill_window (at s (Live serial))))
     by_name serial o a u more is true e = by_acceptance serial o a u more is e (is_acceptance ack) refl
-    by_name serial o a u more is false e = live_behind serial (fills (at s (Live serial))) (live_fills serial o a)
+    by_name serial o a u more is false e = live_behind serial (fill_window (at s (Live serial))) (live_fills serial o a)
 
     by_units : (serial : ℕ) → IsInOrder (at s (Live serial)) → Agrees h (at s (Live serial)) → (units : List OneUnit) → s.units ≡ units
-        → AreSteps (hears (machine_of h (at s (Live serial))) (Some ack)) h (Some ack) (answered (at s (Live serial)) units ack octets)
-    by_units serial o a [] is = live_behind serial (fills (at s (Live serial))) (live_fills serial o a)
+        → AreSteps (hears (machine_of h (at s (Live serial))) (Some ack)) h (Some ack) (on_unit_response (at s (Live serial)) units ack octets)
+    by_units serial o a [] is = live_behind serial (fill_window (at s (Live serial))) (live_fills serial o a)
     by_units serial o a (u ∷ more) is = by_name serial o a u more is (nat_lt 0 s.sent && names ack u) refl
 
-    pub response_steps : (p : Phase) → IsInOrder (at s p) → Agrees h (at s p) → AreSteps (hears (machine_of h (at s p)) (Some ack)) h (Some ack) (responded p (at s p) ack octets)
+    pub response_steps : (p : Phase) → IsInOrder (at s p) → Agrees h (at s p) → AreSteps (hears (machine_of h (at s p)) (Some ack)) h (Some ack) (on_response p (at s p) ack octets)
     response_steps Down o a = stays_behind Down (none_in (ack.result == 0) (ack.id == 0x0102)) o a
     response_steps (Registering serial) o a = stays_behind (Registering serial) (none_in (ack.result == 0) (ack.id == 0x0102)) o a
     response_steps (Authenticating serial) o a = by_serial serial o a ((ack.id == 0x0102) && (ack.reply == serial)) refl
@@ -146,11 +146,11 @@ module _ (carries : UnitCarriesFirstFixes) (h : Held) (s : State) (good : AreSet
     by_code serial o a false e = lost_steps (machine_of h (at s (Registering serial))) h (at s (Registering serial)) None (Some (Denied octets)) refl o a
 
     by_reply : (serial : ℕ) → IsInOrder (at s (Registering serial)) → Agrees h (at s (Registering serial)) → (b : Bool)
-        → AreSteps (machine_of h (at s (Registering serial))) h None (cond b (replied (at s (Registering serial)) reply octets) (rule.stays (at s (Registering serial))))
+        → AreSteps (machine_of h (at s (Registering serial))) h None (cond b (take_reply (at s (Registering serial)) reply octets) (rule.stays (at s (Registering serial))))
     by_reply serial o a true = by_code serial o a ((reply.result == 0) && nat_le (length reply.code) 255) refl
     by_reply serial o a false = stays_steps h (at s (Registering serial)) None o a
 
-    pub reply_steps : (p : Phase) → IsInOrder (at s p) → Agrees h (at s p) → AreSteps (machine_of h (at s p)) h None (registered p (at s p) reply octets)
+    pub reply_steps : (p : Phase) → IsInOrder (at s p) → Agrees h (at s p) → AreSteps (machine_of h (at s p)) h None (on_register_reply p (at s p) reply octets)
     reply_steps Down o a = stays_steps h (at s Down) None o a
     reply_steps (Registering serial) o a = by_reply serial o a (reply.reply == serial)
     reply_steps (Authenticating serial) o a = stays_steps h (at s (Authenticating serial)) None o a
@@ -159,33 +159,33 @@ module _ (carries : UnitCarriesFirstFixes) (h : Held) (s : State) (good : AreSet
   -- ---- moments
 
   silent_steps : (serial : ℕ) → IsInOrder (at s (Live serial)) → Agrees h (at s (Live serial)) → (b : Bool)
-      → AreSteps (machine_of h (at s (Live serial))) h None (and_then (cond b (beats (at s (Live serial))) (rule.stays (at s (Live serial)))) fills)
+      → AreSteps (machine_of h (at s (Live serial))) h None (and_then (cond b (say_heartbeat (at s (Live serial))) (rule.stays (at s (Live serial)))) fill_window)
   silent_steps serial o a true =
       let one = beat_steps h s serial good o a in
-      and_then_steps (machine_of h (at s (Live serial))) h None (beats (at s (Live serial))) fills one (window_steps carries h (beats (at s (Live serial))).state serial refl one.in_order one.agrees)
-  silent_steps serial o a false = and_then_steps (machine_of h (at s (Live serial))) h None (rule.stays (at s (Live serial))) fills (stays_steps h (at s (Live serial)) None o a) (live_fills serial o a)
+      and_then_steps (machine_of h (at s (Live serial))) h None (say_heartbeat (at s (Live serial))) fill_window one (window_steps carries h (say_heartbeat (at s (Live serial))).state serial refl one.in_order one.agrees)
+  silent_steps serial o a false = and_then_steps (machine_of h (at s (Live serial))) h None (rule.stays (at s (Live serial))) fill_window (stays_steps h (at s (Live serial)) None o a) (live_fills serial o a)
 
-  pub goes_on_steps : (p : Phase) → IsInOrder (at s p) → Agrees h (at s p) → AreSteps (machine_of h (at s p)) h None (goes_on p (at s p))
+  pub goes_on_steps : (p : Phase) → IsInOrder (at s p) → Agrees h (at s p) → AreSteps (machine_of h (at s p)) h None (watch_and_fill p (at s p))
   goes_on_steps Down o a = stays_steps h (at s Down) None o a
   goes_on_steps (Registering serial) o a = stays_steps h (at s (Registering serial)) None o a
   goes_on_steps (Authenticating serial) o a = stays_steps h (at s (Authenticating serial)) None o a
   goes_on_steps (Live serial) o a = silent_steps serial o a (is_silent (at s (Live serial)))
 
-  pub beaten_steps : (p : Phase) → IsInOrder (at s p) → Agrees h (at s p) → AreSteps (machine_of h (at s p)) h None (beaten p (at s p))
+  pub beaten_steps : (p : Phase) → IsInOrder (at s p) → Agrees h (at s p) → AreSteps (machine_of h (at s p)) h None (on_beat p (at s p))
   beaten_steps Down o a = stays_steps h (at s Down) None o a
   beaten_steps (Registering serial) o a = stays_steps h (at s (Registering serial)) None o a
   beaten_steps (Authenticating serial) o a = stays_steps h (at s (Authenticating serial)) None o a
   beaten_steps (Live serial) o a = silent_steps serial o a true
 
   -- what is waited for is sent again
-  again_order : (p : Phase) → IsInOrder (at s p) → IsInOrder (repeats (at s p)).state
-  again_order p o = keep_order (at s p) p s.time (sent_again (at s p)) s.time s.sent o.phase o.sent o
+  again_order : (p : Phase) → IsInOrder (at s p) → IsInOrder (repeat_sending (at s p)).state
+  again_order p o = keep_order (at s p) p s.time (repeat_wait (at s p)) s.time s.sent o.phase o.sent o
 
-  again_agrees : (p : Phase) → Agrees h (at s p) → Agrees h (repeats (at s p)).state
-  again_agrees p a = keep_agrees h (at s p) p s.time (sent_again (at s p)) s.time s.sent a
+  again_agrees : (p : Phase) → Agrees h (at s p) → Agrees h (repeat_sending (at s p)).state
+  again_agrees p a = keep_agrees h (at s p) p s.time (repeat_wait (at s p)) s.time s.sent a
 
   oldest_steps : (serial : ℕ) → IsInOrder (at s (Live serial)) → Agrees h (at s (Live serial)) → 0 < s.sent → (units : List OneUnit) → s.units ≡ units
-      → AreSteps (machine_of h (at s (Live serial))) h None (record { state = (repeats (at s (Live serial))).state; steps = oldest_again units; end = None })
+      → AreSteps (machine_of h (at s (Live serial))) h None (record { state = (repeat_sending (at s (Live serial))).state; steps = oldest_again units; end = None })
   oldest_steps serial o a some [] is = record { may = tt; to = refl; commits = tt; sent = λ settings own. refl; in_order = again_order (Live serial) o; agrees = again_agrees (Live serial) a }
   oldest_steps serial o a some (u ∷ more) is =
       let within = o.sent in
@@ -205,7 +205,7 @@ module _ (carries : UnitCarriesFirstFixes) (h : Held) (s : State) (good : AreSet
   auths_same : (serial : ℕ) → auths_by (serial ∷ []) (header_of s.settings.phone 0x0102 serial) ≡ serial ∷ []
   auths_same serial = ap (λ (b : Bool). cond (not (b || false)) ((serial ∷ []) ++ serial ∷ []) (serial ∷ [])) (eq-eqb serial serial refl)
 
-  again_steps : (p : Phase) → IsInOrder (at s p) → Agrees h (at s p) → has_passed (at s p) ≡ true → AreSteps (machine_of h (at s p)) h None (repeats (at s p))
+  again_steps : (p : Phase) → IsInOrder (at s p) → Agrees h (at s p) → has_passed (at s p) ≡ true → AreSteps (machine_of h (at s p)) h None (repeat_sending (at s p))
   again_steps Down o a e = absurd cc
   again_steps (Registering serial) o a e = record {
     may = ((refl, say_register (machine_of h (at s (Registering serial))) s.settings serial good refl o.phase), tt);
@@ -225,7 +225,7 @@ module _ (carries : UnitCarriesFirstFixes) (h : Held) (s : State) (good : AreSet
   }
   again_steps (Live serial) o a e = oldest_steps serial o a (ltb-true 0 s.sent (and_left (nat_lt 0 s.sent) (nat_le (s.wait.last + rule.wait_behind s.wait.first s.wait.sendings) s.time) e)) s.units refl
 
-pub message_steps : UnitCarriesFirstFixes → (h : Held) (s : State) → AreSettings s.settings → IsInOrder s → Agrees h s → (header : Header) (m : Message) → AreSteps (hears (machine_of h s) (response_in m)) h (response_in m) (received s header m)
+pub message_steps : UnitCarriesFirstFixes → (h : Held) (s : State) → AreSettings s.settings → IsInOrder s → Agrees h s → (header : Header) (m : Message) → AreSteps (hears (machine_of h s) (response_in m)) h (response_in m) (on_message s header m)
 message_steps carries h s good o a header (message.PlatformAck reply id result) = response_steps carries h s good (record { reply = reply; id = id; result = result }) (body_octets header.edition (message.PlatformAck reply id result)) s.phase o a
 message_steps carries h s good o a header (message.RegisterReply reply) = reply_steps carries h s good reply (body_octets header.edition (message.RegisterReply reply)) s.phase o a
 message_steps carries h s good o a header m = answer_steps carries h s good (answer_to s header m) s.phase o a
@@ -238,14 +238,14 @@ heard_steps carries h s (Lacks header first numbers) good o a = answer_steps car
 heard_steps carries h s (TooMany header) good o a = answer_steps carries h s good (answer_to_refused s header) s.phase o a
 
 repeated_and_on : UnitCarriesFirstFixes → (h : Held) (s : State) → AreSettings s.settings → IsInOrder s → Agrees h s → has_passed s ≡ true → (b : Bool)
-    → AreSteps (machine_of h s) h None (cond b (and_then (repeats s) (goes_on s.phase)) (gives_up s [] (TimedOut s.wait.since s.time)))
+    → AreSteps (machine_of h s) h None (cond b (and_then (repeat_sending s) (watch_and_fill s.phase)) (gives_up s [] (TimedOut s.wait.since s.time)))
 repeated_and_on carries h s good o a e true =
     let one = again_steps carries h s good s.phase o a e in
-    and_then_steps (machine_of h s) h None (repeats s) (goes_on s.phase) one (goes_on_steps carries (held_after (repeats s).steps h) (repeats s).state good s.phase one.in_order one.agrees)
+    and_then_steps (machine_of h s) h None (repeat_sending s) (watch_and_fill s.phase) one (goes_on_steps carries (held_after (repeat_sending s).steps h) (repeat_sending s).state good s.phase one.in_order one.agrees)
 repeated_and_on carries h s good o a e false = lost_steps (machine_of h s) h s None (Some (TimedOut s.wait.since s.time)) refl o a
 
 tick_steps : UnitCarriesFirstFixes → (h : Held) (s : State) → AreSettings s.settings → IsInOrder s → Agrees h s → (b : Bool) → has_passed s ≡ b
-    → AreSteps (machine_of h s) h None (cond b (cond (nat_le s.wait.sendings s.wait.repeats) (and_then (repeats s) (goes_on s.phase)) (gives_up s [] (TimedOut s.wait.since s.time))) (goes_on s.phase s))
+    → AreSteps (machine_of h s) h None (cond b (cond (nat_le s.wait.sendings s.wait.repeats) (and_then (repeat_sending s) (watch_and_fill s.phase)) (gives_up s [] (TimedOut s.wait.since s.time))) (watch_and_fill s.phase s))
 tick_steps carries h s good o a true e = repeated_and_on carries h s good o a e (nat_le s.wait.sendings s.wait.repeats)
 tick_steps carries h s good o a false e = goes_on_steps carries h s good s.phase o a
 

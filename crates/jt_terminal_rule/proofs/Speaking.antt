@@ -21,11 +21,11 @@ use Rattle.jt_terminal_rule.specs.declared.state.Phase.TheVariants.{Down, Regist
 use Rattle.jt_terminal_rule.specs.declared.state.Acknowledgement.{Acknowledgement}
 use Rattle.jt_terminal_rule.specs.Tails.{IsTail}
 use Rattle.jt_terminal_rule.specs.Messages.{AreSettings, version_of, header_of, register_octets, auth_octets}
-use Rattle.jt_terminal_rule.specs.Steps.{Machine, MaySay, stepped, without_line, auths_by, is_in}
+use Rattle.jt_terminal_rule.specs.Steps.{Machine, MaySay, machine_after, without_line, auths_by, is_in}
 use Rattle.jt_terminal_rule.specs.Steps as step
 use Rattle.jt_terminal_rule.specs.declared.state.State.{State}
 use Rattle.jt_terminal_rule.specs.declared.state.Wait.{Wait}
-use Rattle.jt_terminal_rule.specs.Rule.{Ruled, after_control, down, begun, beats, registers, authenticates, introduces, opened, gives_up}
+use Rattle.jt_terminal_rule.specs.Rule.{Ruled, after_control, down, first_wait, say_heartbeat, registers, authenticates, introduce, on_open, gives_up}
 use Rattle.jt_terminal_rule.specs.Rule as rule
 use Rattle.jt_terminal_rule.specs.Machines.{machine_of, IsPhase, IsInOrder, Agrees}
 use Rattle.jt_terminal_rule.specs.Law.{AreSteps}
@@ -168,7 +168,7 @@ no_more n = omega arith
 abbrev pub at : State → Phase → State
 at s p = record s { phase = p }
 
-pub opened_steps : (h : Held) (s : State) → AreSettings s.settings → IsInOrder s → Agrees h s → AreSteps (machine_of h s) h None (opened s)
+pub opened_steps : (h : Held) (s : State) → AreSettings s.settings → IsInOrder s → Agrees h s → AreSteps (machine_of h s) h None (on_open s)
 opened_steps h s good o a = by_code s.code o.order.short
   where
     o0 : IsInOrder (record s { sent = 0 })
@@ -177,22 +177,22 @@ opened_steps h s good o a = by_code s.code o.order.short
     a0 : Agrees h (record s { sent = 0 })
     a0 = keep_agrees h s s.phase s.time s.wait s.said 0 a
 
-    by_code : (code : Option (List ℕ)) → IfSome code (λ octets. length octets ≤ 255) → AreSteps (machine_of h s) h None (rule.and_then (record { state = record s { sent = 0 }; steps = rule.Opens ∷ []; end = None }) (λ t. introduces t code))
+    by_code : (code : Option (List ℕ)) → IfSome code (λ octets. length octets ≤ 255) → AreSteps (machine_of h s) h None (rule.and_then (record { state = record s { sent = 0 }; steps = rule.Opens ∷ []; end = None }) (λ t. introduce t code))
     by_code None le = record {
-      may = (tt, ((refl, say_register (stepped (machine_of h s) step.Opens) s.settings s.next good refl o.next), tt));
-      to = ap (λ (n : ℕ). record (machine_of h (spoken (record s { sent = 0 }) (Registering s.next) (begun s))) { reach = n }) (no_more h.accepted);
+      may = (tt, ((refl, say_register (machine_after (machine_of h s) step.Opens) s.settings s.next good refl o.next), tt));
+      to = ap (λ (n : ℕ). record (machine_of h (spoken (record s { sent = 0 }) (Registering s.next) (first_wait s))) { reach = n }) (no_more h.accepted);
       commits = tt;
       sent = λ settings own. refl;
-      in_order = spoken_order (record s { sent = 0 }) (Registering s.next) (begun s) o.next o0;
-      agrees = spoken_agrees h (record s { sent = 0 }) (Registering s.next) (begun s) o0 a0;
+      in_order = spoken_order (record s { sent = 0 }) (Registering s.next) (first_wait s) o.next o0;
+      agrees = spoken_agrees h (record s { sent = 0 }) (Registering s.next) (first_wait s) o0 a0;
     }
     by_code (Some code) le = record {
-      may = (tt, ((refl, say_auth (stepped (machine_of h s) step.Opens) s.settings s.next code good refl o.next le refl), tt));
-      to = ap (λ (n : ℕ). record (machine_of h (spoken (record s { sent = 0 }) (Authenticating s.next) (begun s))) { reach = n }) (no_more h.accepted);
+      may = (tt, ((refl, say_auth (machine_after (machine_of h s) step.Opens) s.settings s.next code good refl o.next le refl), tt));
+      to = ap (λ (n : ℕ). record (machine_of h (spoken (record s { sent = 0 }) (Authenticating s.next) (first_wait s))) { reach = n }) (no_more h.accepted);
       commits = tt;
       sent = λ settings own. refl;
-      in_order = spoken_order (record s { sent = 0 }) (Authenticating s.next) (begun s) o.next o0;
-      agrees = spoken_agrees h (record s { sent = 0 }) (Authenticating s.next) (begun s) o0 a0;
+      in_order = spoken_order (record s { sent = 0 }) (Authenticating s.next) (first_wait s) o.next o0;
+      agrees = spoken_agrees h (record s { sent = 0 }) (Authenticating s.next) (first_wait s) o0 a0;
     }
 
 -- a terminal that registers goes on to authenticate itself
@@ -203,11 +203,11 @@ authenticates_steps h s serial code good o a le = record {
   to = refl;
   commits = tt;
   sent = λ settings own. refl;
-  in_order = spoken_order (at s (Registering serial)) (Authenticating s.next) (begun s) o.next o;
-  agrees = spoken_agrees h (at s (Registering serial)) (Authenticating s.next) (begun s) o a;
+  in_order = spoken_order (at s (Registering serial)) (Authenticating s.next) (first_wait s) o.next o;
+  agrees = spoken_agrees h (at s (Registering serial)) (Authenticating s.next) (first_wait s) o a;
 }
 
-pub beat_steps : (h : Held) (s : State) (serial : ℕ) → AreSettings s.settings → IsInOrder (at s (Live serial)) → Agrees h (at s (Live serial)) → AreSteps (machine_of h (at s (Live serial))) h None (beats (at s (Live serial)))
+pub beat_steps : (h : Held) (s : State) (serial : ℕ) → AreSettings s.settings → IsInOrder (at s (Live serial)) → Agrees h (at s (Live serial)) → AreSteps (machine_of h (at s (Live serial))) h None (say_heartbeat (at s (Live serial)))
 beat_steps h s serial good o a = record {
   may = (
     (

@@ -9,7 +9,7 @@ use Rattle.jt_store.specs.declared.unit.Unit.{Unit as OneUnit}
 use Rattle.jt_store.specs.Vaults.{gap_after}
 use Rattle.jt_store.specs.Verdicts.{numbered}
 use Rattle.jt_store.specs.Units.{fixes_in}
-use Rattle.jt_terminal_rule.specs.Rule.{started}
+use Rattle.jt_terminal_rule.specs.Rule.{start_state}
 use Rattle.jt_terminal_rule.specs.Machines.{machine_of, AreSerials}
 use Rattle.jt_terminal_rule.proofs.Forming.{waiting_is}
 use Rattle.jt_terminal_rule.specs.Law.{FirstStartIsInOrder, NotedFixIsAStep, StartIsARestart}
@@ -64,7 +64,7 @@ start_is_a_restart h s settings l o a is order phone own =
         code = sym is.code;
       };
       may = (phone, own);
-      to = ap (λ (n : ℕ). record (machine_of h (started settings l)) { reach = n }) (no_more h.accepted);
+      to = ap (λ (n : ℕ). record (machine_of h (start_state settings l)) { reach = n }) (no_more h.accepted);
     }
 
 pub first_start : FirstStartIsInOrder

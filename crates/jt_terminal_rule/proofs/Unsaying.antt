@@ -18,7 +18,7 @@ use Rattle.jt_terminal_rule.specs.declared.state.Phase.TheVariants.{Down, Regist
 use Rattle.jt_terminal_rule.specs.declared.state.GiveUp.TheVariants.{Denied}
 use Rattle.jt_terminal_rule.specs.Forming.{batch_unit, fitting, position_unit, unit_of}
 use Rattle.jt_terminal_rule.specs.Messages.{frame_of, header_of, is_acceptance}
-use Rattle.jt_terminal_rule.specs.Rule.{Step, Ruled, accepts, and_then, answered, answers, answers_if_live, authenticated, coded, fill, fills, forgets, forms_one, gives_up, is_registered, names, next_one, one_sent, or_stays, received, registered, replied, responded, sends, sends_one, stays, window}
+use Rattle.jt_terminal_rule.specs.Rule.{Step, Ruled, accept_oldest, and_then, on_unit_response, answers, answer_if_live, on_auth_response, store_code, fill, fill_window, forget_code, form_unit, gives_up, is_registered, names, send_next, one_sent, or_stays, on_message, on_register_reply, take_reply, on_response, sends, send_unit, stays, window}
 use Rattle.jt_terminal_rule.specs.Rule as rule
 use Rattle.jt_terminal_rule.specs.Unsaid.{EachFrameIsOneLess, frames_in, unsaid, unsaid_in, unsent}
 use Rattle.jt_terminal_rule.specs.Answers.{Answer, answer_to, only_says}
@@ -66,24 +66,24 @@ module _ (settings : Settings) where
       let there = ap (λ (fs : List (List ℕ)). length fs) waits in
       record { less = omega (arith, some, longer, left, there, le); within = omega (arith, longer, le) }
 
-  forms_says : (s : State) (fixes : List (List ℕ)) → s.waiting ≡ fixes → s.sent ≤ length s.units → SaysLessIf settings s (forms_one s fixes)
+  forms_says : (s : State) (fixes : List (List ℕ)) → s.waiting ≡ fixes → s.sent ≤ length s.units → SaysLessIf settings s (form_unit s fixes)
   forms_says s [] waits le = tt
   forms_says s (fix ∷ more) waits le = formed_says s fix more waits le (nat_lt (gap_of s.mark s.next) 32767)
 
-  one_says : (s : State) (unit : Option OneUnit) → slice_get s.units s.sent ≡ unit → s.sent ≤ length s.units → SaysLessIf settings s (sends_one s unit)
+  one_says : (s : State) (unit : Option OneUnit) → slice_get s.units s.sent ≡ unit → s.sent ≤ length s.units → SaysLessIf settings s (send_unit s unit)
   one_says s None e le = forms_says s s.waiting refl le
   one_says s (Some u) e le = let inside = slice_get_within s.units s.sent u e in record { less = omega (arith, inside); within = omega (arith, inside) }
 
-  next_says : (s : State) → s.sent ≤ length s.units → SaysLessIf settings s (next_one s)
+  next_says : (s : State) → s.sent ≤ length s.units → SaysLessIf settings s (send_next s)
   next_says s le = by (nat_lt s.sent window)
     where
-      by : (b : Bool) → SaysLessIf settings s (cond b (sends_one s (slice_get s.units s.sent)) None)
+      by : (b : Bool) → SaysLessIf settings s (cond b (send_unit s (slice_get s.units s.sent)) None)
       by true = one_says s (slice_get s.units s.sent) refl le
       by false = tt
 
   fill_says : (n : ℕ) (s : State) → s.sent ≤ length s.units → SaysLess settings s (fill n s)
   fill_says zero s le = record { less = omega arith; within = le }
-  fill_says (suc n) s le = by (next_one s) (next_says s le) (λ t le. fill_says n t le)
+  fill_says (suc n) s le = by (send_next s) (next_says s le) (λ t le. fill_says n t le)
     where
       by : (r : Option Ruled) → SaysLessIf settings s r → ((t : State) → t.sent ≤ length t.units → SaysLess settings t (fill n t)) → SaysLess settings s (or_stays s r (fill n))
       by None one rest = record { less = omega arith; within = le }
@@ -110,24 +110,24 @@ module _ (settings : Settings) where
   forms_phase s serial live fix more true = live
   forms_phase s serial live fix more false = tt
 
-  waiting_phase : (s : State) (serial : ℕ) → s.phase ≡ Live serial → (fixes : List (List ℕ)) → PhaseIf serial (forms_one s fixes)
+  waiting_phase : (s : State) (serial : ℕ) → s.phase ≡ Live serial → (fixes : List (List ℕ)) → PhaseIf serial (form_unit s fixes)
   waiting_phase s serial live [] = tt
   waiting_phase s serial live (fix ∷ more) = forms_phase s serial live fix more (nat_lt (gap_of s.mark s.next) 32767)
 
-  sends_phase : (s : State) (serial : ℕ) → s.phase ≡ Live serial → (unit : Option OneUnit) → PhaseIf serial (sends_one s unit)
+  sends_phase : (s : State) (serial : ℕ) → s.phase ≡ Live serial → (unit : Option OneUnit) → PhaseIf serial (send_unit s unit)
   sends_phase s serial live None = waiting_phase s serial live s.waiting
   sends_phase s serial live (Some u) = live
 
-  next_phase : (s : State) (serial : ℕ) → s.phase ≡ Live serial → PhaseIf serial (next_one s)
+  next_phase : (s : State) (serial : ℕ) → s.phase ≡ Live serial → PhaseIf serial (send_next s)
   next_phase s serial live = by (nat_lt s.sent window)
     where
-      by : (b : Bool) → PhaseIf serial (cond b (sends_one s (slice_get s.units s.sent)) None)
+      by : (b : Bool) → PhaseIf serial (cond b (send_unit s (slice_get s.units s.sent)) None)
       by true = sends_phase s serial live (slice_get s.units s.sent)
       by false = tt
 
   fill_phase : (n : ℕ) (s : State) (serial : ℕ) → s.phase ≡ Live serial → (fill n s).state.phase ≡ Live serial
   fill_phase zero s serial live = live
-  fill_phase (suc n) s serial live = by (next_one s) (next_phase s serial live) (λ t on. fill_phase n t serial on)
+  fill_phase (suc n) s serial live = by (send_next s) (next_phase s serial live) (λ t on. fill_phase n t serial on)
     where
       by : (r : Option Ruled) → PhaseIf serial r → ((t : State) → t.phase ≡ Live serial → (fill n t).state.phase ≡ Live serial) → (or_stays s r (fill n)).state.phase ≡ Live serial
       by None one rest = live
@@ -136,10 +136,10 @@ module _ (settings : Settings) where
   abbrev LessAt : State → ℕ → Ruled → Type 0
   LessAt s most r = length (sends settings r.steps) + unsaid r.state ≤ most
 
-  fills_less : (s : State) (serial : ℕ) → s.phase ≡ Live serial → s.sent ≤ length s.units → LessAt s (unsent s) (fills s)
+  fills_less : (s : State) (serial : ℕ) → s.phase ≡ Live serial → s.sent ≤ length s.units → LessAt s (unsent s) (fill_window s)
   fills_less s serial live le =
       let says = (fill_says window s le).less in
-      let same : unsaid (fills s).state ≡ unsent (fills s).state = ap (λ (p : Phase). unsaid_in p (fills s).state) (fill_phase window s serial live) in
+      let same : unsaid (fill_window s).state ≡ unsent (fill_window s).state = ap (λ (p : Phase). unsaid_in p (fill_window s).state) (fill_phase window s serial live) in
       omega (arith, says, same)
 
   none_less : (most : ℕ) → 0 + 0 ≤ most
@@ -148,37 +148,37 @@ module _ (settings : Settings) where
   stays_less : (s : State) → LessAt s (unsaid s) (stays s)
   stays_less s = omega arith
 
-  coded_less : (s : State) (code : List ℕ) → LessAt s (1 + unsent s) (coded s code)
+  coded_less : (s : State) (code : List ℕ) → LessAt s (1 + unsent s) (store_code s code)
   coded_less s code = omega arith
 
-  replied_less : (s : State) (serial : ℕ) (reply : RegisterReply) (octets : List ℕ) → LessAt (at s (Registering serial)) (1 + unsent s) (replied (at s (Registering serial)) reply octets)
+  replied_less : (s : State) (serial : ℕ) (reply : RegisterReply) (octets : List ℕ) → LessAt (at s (Registering serial)) (1 + unsent s) (take_reply (at s (Registering serial)) reply octets)
   replied_less s serial reply octets = by (is_registered reply)
     where
-      by : (b : Bool) → LessAt (at s (Registering serial)) (1 + unsent s) (cond b (coded (at s (Registering serial)) reply.code) (gives_up (at s (Registering serial)) [] (Denied octets)))
+      by : (b : Bool) → LessAt (at s (Registering serial)) (1 + unsent s) (cond b (store_code (at s (Registering serial)) reply.code) (gives_up (at s (Registering serial)) [] (Denied octets)))
       by true = coded_less (at s (Registering serial)) reply.code
       by false = omega arith
 
-  registered_less : (s : State) (p : Phase) (reply : RegisterReply) (octets : List ℕ) → s.sent ≤ length s.units → LessAt (at s p) (unsaid (at s p)) (registered p (at s p) reply octets)
+  registered_less : (s : State) (p : Phase) (reply : RegisterReply) (octets : List ℕ) → s.sent ≤ length s.units → LessAt (at s p) (unsaid (at s p)) (on_register_reply p (at s p) reply octets)
   registered_less s Down reply octets le = stays_less (at s Down)
   registered_less s (Authenticating serial) reply octets le = stays_less (at s (Authenticating serial))
   registered_less s (Live serial) reply octets le = fills_less (at s (Live serial)) serial refl le
   registered_less s (Registering serial) reply octets le = by (reply.reply == serial)
     where
-      by : (b : Bool) → LessAt (at s (Registering serial)) (1 + unsent s) (cond b (replied (at s (Registering serial)) reply octets) (stays (at s (Registering serial))))
+      by : (b : Bool) → LessAt (at s (Registering serial)) (1 + unsent s) (cond b (take_reply (at s (Registering serial)) reply octets) (stays (at s (Registering serial))))
       by true = replied_less s serial reply octets
       by false = stays_less (at s (Registering serial))
 
-  authenticated_less : (s : State) (serial result : ℕ) (octets : List ℕ) → s.sent ≤ length s.units → LessAt (at s (Authenticating serial)) (unsent s) (authenticated (at s (Authenticating serial)) serial result octets)
+  authenticated_less : (s : State) (serial result : ℕ) (octets : List ℕ) → s.sent ≤ length s.units → LessAt (at s (Authenticating serial)) (unsent s) (on_auth_response (at s (Authenticating serial)) serial result octets)
   authenticated_less s serial result octets le = by (result == 0)
     where
-      by : (b : Bool) → LessAt (at s (Authenticating serial)) (unsent s) (cond b (fills (at s (Live serial))) (forgets (at s (Authenticating serial)) octets))
+      by : (b : Bool) → LessAt (at s (Authenticating serial)) (unsent s) (cond b (fill_window (at s (Live serial))) (forget_code (at s (Authenticating serial)) octets))
       by true = fills_less (at s (Live serial)) serial refl le
       by false = omega arith
 
-  accepts_less : (s : State) (serial : ℕ) (u : OneUnit) (more : List OneUnit) → s.units ≡ u ∷ more → 0 < s.sent → s.sent ≤ length s.units → LessAt (at s (Live serial)) (unsent s) (accepts (at s (Live serial)) u more)
+  accepts_less : (s : State) (serial : ℕ) (u : OneUnit) (more : List OneUnit) → s.units ≡ u ∷ more → 0 < s.sent → s.sent ≤ length s.units → LessAt (at s (Live serial)) (unsent s) (accept_oldest (at s (Live serial)) u more)
   accepts_less s serial u more is some le =
       let len = ap (λ (us : List OneUnit). length us) is in
-      let t = rule.accepted (at s (Live serial)) u more in
+      let t = rule.after_acceptance (at s (Live serial)) u more in
       let rest = fills_less t serial refl (omega (arith, len, some, le)) in
       omega (arith, rest, len, some, le)
 
@@ -186,24 +186,24 @@ module _ (settings : Settings) where
   and_left true b e = refl
   and_left false b e = absurd cc
 
-  answered_less : (s : State) (serial : ℕ) (units : List OneUnit) (ack : Acknowledgement) (octets : List ℕ) → s.units ≡ units → s.sent ≤ length s.units → LessAt (at s (Live serial)) (unsent s) (answered (at s (Live serial)) units ack octets)
+  answered_less : (s : State) (serial : ℕ) (units : List OneUnit) (ack : Acknowledgement) (octets : List ℕ) → s.units ≡ units → s.sent ≤ length s.units → LessAt (at s (Live serial)) (unsent s) (on_unit_response (at s (Live serial)) units ack octets)
   answered_less s serial [] ack octets is le = fills_less (at s (Live serial)) serial refl le
   answered_less s serial (u ∷ more) ack octets is le = by (nat_lt 0 s.sent && names ack u) refl
     where
-      accepted_or_not : (c : Bool) → (nat_lt 0 s.sent && names ack u) ≡ true → LessAt (at s (Live serial)) (unsent s) (cond c (accepts (at s (Live serial)) u more) (gives_up (at s (Live serial)) [] (Denied octets)))
+      accepted_or_not : (c : Bool) → (nat_lt 0 s.sent && names ack u) ≡ true → LessAt (at s (Live serial)) (unsent s) (cond c (accept_oldest (at s (Live serial)) u more) (gives_up (at s (Live serial)) [] (Denied octets)))
       accepted_or_not true e = accepts_less s serial u more is (ltb-true 0 s.sent (and_left (nat_lt 0 s.sent) (names ack u) e)) le
       accepted_or_not false e = omega arith
 
-      by : (b : Bool) → (nat_lt 0 s.sent && names ack u) ≡ b → LessAt (at s (Live serial)) (unsent s) (cond b (cond (is_acceptance ack) (accepts (at s (Live serial)) u more) (gives_up (at s (Live serial)) [] (Denied octets))) (fills (at s (Live serial))))
+      by : (b : Bool) → (nat_lt 0 s.sent && names ack u) ≡ b → LessAt (at s (Live serial)) (unsent s) (cond b (cond (is_acceptance ack) (accept_oldest (at s (Live serial)) u more) (gives_up (at s (Live serial)) [] (Denied octets))) (fill_window (at s (Live serial))))
       by true e = accepted_or_not (is_acceptance ack) e
       by false e = fills_less (at s (Live serial)) serial refl le
 
-  responded_less : (s : State) (p : Phase) (ack : Acknowledgement) (octets : List ℕ) → s.sent ≤ length s.units → LessAt (at s p) (unsaid (at s p)) (responded p (at s p) ack octets)
+  responded_less : (s : State) (p : Phase) (ack : Acknowledgement) (octets : List ℕ) → s.sent ≤ length s.units → LessAt (at s p) (unsaid (at s p)) (on_response p (at s p) ack octets)
   responded_less s Down ack octets le = stays_less (at s Down)
   responded_less s (Registering serial) ack octets le = stays_less (at s (Registering serial))
   responded_less s (Authenticating serial) ack octets le = by ((ack.id == 0x0102) && (ack.reply == serial))
     where
-      by : (b : Bool) → LessAt (at s (Authenticating serial)) (unsent s) (cond b (authenticated (at s (Authenticating serial)) serial ack.result octets) (stays (at s (Authenticating serial))))
+      by : (b : Bool) → LessAt (at s (Authenticating serial)) (unsent s) (cond b (on_auth_response (at s (Authenticating serial)) serial ack.result octets) (stays (at s (Authenticating serial))))
       by true = authenticated_less s serial ack.result octets le
       by false = stays_less (at s (Authenticating serial))
   responded_less s (Live serial) ack octets le = answered_less s serial s.units ack octets refl le
@@ -212,7 +212,7 @@ module _ (settings : Settings) where
   more_room a b r s le = omega (arith, le)
 
   answers_less : (s : State) (serial : ℕ) (a : Answer) → s.sent ≤ length s.units
-      → LessAt (at s (Live serial)) (length (sends settings (answers (at s (Live serial)) a).steps) + unsent s) (and_then (answers (at s (Live serial)) a) fills)
+      → LessAt (at s (Live serial)) (length (sends settings (answers (at s (Live serial)) a).steps) + unsent s) (and_then (answers (at s (Live serial)) a) fill_window)
   answers_less s serial a le =
       let r = answers (at s (Live serial)) a in
       let lists = answers_lists (at s (Live serial)) a in
@@ -220,12 +220,12 @@ module _ (settings : Settings) where
       let units = ap (λ (us : List OneUnit). length us) lists.0 in
       let waiting = ap (λ (fs : List (List ℕ)). length fs) lists.1 in
       let rest = fills_less r.state serial (answers_phase (at s (Live serial)) a) (omega (arith, sent, units, le)) in
-      let both = ap (λ (fs : List (List ℕ)). length fs) (sends-append settings r.steps (fills r.state).steps) ∙ length-append (sends settings r.steps) (sends settings (fills r.state).steps) in
+      let both = ap (λ (fs : List (List ℕ)). length fs) (sends-append settings r.steps (fill_window r.state).steps) ∙ length-append (sends settings r.steps) (sends settings (fill_window r.state).steps) in
       omega (arith, both, rest, sent, units, waiting)
 
 -- ---- answers
 
-live_or_not : (s : State) (p : Phase) (a : Answer) → s.sent ≤ length s.units → LessAt s.settings (at s p) (frames_in p (at s p) a + unsaid (at s p)) (answers_if_live p (at s p) a)
+live_or_not : (s : State) (p : Phase) (a : Answer) → s.sent ≤ length s.units → LessAt s.settings (at s p) (frames_in p (at s p) a + unsaid (at s p)) (answer_if_live p (at s p) a)
 live_or_not s Down a le = more_room s.settings (unsaid (at s Down)) 0 (stays (at s Down)) (at s Down) (stays_less s.settings (at s Down))
 live_or_not s (Registering serial) a le = more_room s.settings (unsaid (at s (Registering serial))) 0 (stays (at s (Registering serial))) (at s (Registering serial)) (stays_less s.settings (at s (Registering serial)))
 live_or_not s (Authenticating serial) a le = more_room s.settings (unsaid (at s (Authenticating serial))) 0 (stays (at s (Authenticating serial))) (at s (Authenticating serial)) (stays_less s.settings (at s (Authenticating serial)))

@@ -1,15 +1,16 @@
 -- A terminal over a vault that tells what it holds, as the machine of `Steps`; and what stays true between both. To be believed.
 use Rattle.std.specs.Prelude.{◌≡◌, ℕ, ◌+◌, ◌%◌, ◌<◌, ◌≤◌, drop, Bool, true, false, List, [], ◌∷◌, ◌++◌, length, Option, None, Some, All, IfSome}
+use Rattle.jt_value.specs.declared.limits.TheConstants.{CODE_LIMIT}
 use Rattle.jt_value.specs.Serials.{gap_of}
 use Rattle.jt_position.specs.Fixes.{IsFix}
 use Rattle.jt_store.specs.declared.row.Row.{Row}
 use Rattle.jt_store.specs.declared.unit.Unit.{Unit as OneUnit}
-use Rattle.jt_store.specs.Vaults.{Held, Change, Notes, Forms, Accepts, Sets, held_by, formed, gap_after, AreInOrder, IsUnit}
+use Rattle.jt_store.specs.Vaults.{Held, Change, Notes, Forms, Accepts, Sets, held_by, formed_count, gap_after, AreInOrder, IsUnit}
 use Rattle.jt_store.specs.Vaults as vaults
 use Rattle.jt_store.specs.Verdicts.{row_of, number_after, numbered}
 use Rattle.jt_terminal_rule.specs.declared.state.Phase.{Phase}
 use Rattle.jt_terminal_rule.specs.declared.state.Phase.TheVariants.{Down, Registering, Authenticating, Live}
-use Rattle.jt_terminal_rule.specs.Steps.{Machine, TerminalStep, stepped, writes}
+use Rattle.jt_terminal_rule.specs.Steps.{Machine, TerminalStep, machine_after, writes}
 use Rattle.jt_store.specs.Units.{past_accepted, fixes_in}
 use Rattle.jt_terminal_rule.specs.Steps as step
 use Rattle.jt_terminal_rule.specs.declared.state.State.{State}
@@ -77,14 +78,14 @@ as_step m rule.Loses = step.Loses
 -- steps of the rule as steps of the machine
 abbrev pub as_steps : Machine → List Step → List TerminalStep
 as_steps m [] = []
-as_steps m (s ∷ steps) = as_step m s ∷ as_steps (stepped m (as_step m s)) steps
+as_steps m (s ∷ steps) = as_step m s ∷ as_steps (machine_after m (as_step m s)) steps
 
 -- the frames that these steps write, in order
 abbrev pub frames_by : Machine → List TerminalStep → List (List ℕ)
 frames_by m [] = []
-frames_by m (step.Sends place ∷ steps) = writes m (step.Sends place) ∷ frames_by (stepped m (step.Sends place)) steps
-frames_by m (step.Says h body ∷ steps) = writes m (step.Says h body) ∷ frames_by (stepped m (step.Says h body)) steps
-frames_by m (s ∷ steps) = frames_by (stepped m s) steps
+frames_by m (step.Sends place ∷ steps) = writes m (step.Sends place) ∷ frames_by (machine_after m (step.Sends place)) steps
+frames_by m (step.Says h body ∷ steps) = writes m (step.Says h body) ∷ frames_by (machine_after m (step.Says h body)) steps
+frames_by m (s ∷ steps) = frames_by (machine_after m s) steps
 
 -- what a vault holds after these steps
 abbrev pub held_after : List Step → Held → Held
@@ -100,7 +101,7 @@ abbrev pub MayChange : Held → Change → Type 0
 MayChange held (Notes fix) = IsFix fix
 MayChange held (Forms unit) = IsUnit unit × vaults.MayCommit held unit
 MayChange held Accepts = held.accepted < length held.units
-MayChange held (Sets code) = IfSome code (λ octets. length octets ≤ 255)
+MayChange held (Sets code) = IfSome code (λ octets. length octets ≤ CODE_LIMIT)
 
 -- a vault that holds this takes each change of these steps
 abbrev pub MayCommit : Held → List Step → Type 0
@@ -149,6 +150,6 @@ pub record Agrees (held : Held) (s : State) : Type 0 where
   pub next_behind : gap_after s.mark 1 s.units ≤ gap_of s.mark held.next
   pub next_held : gap_of s.mark held.next ≤ gap_of s.mark s.next
   pub fixes : held.recorded ≡ fixes_in (numbered None held.units) ++ s.waiting
-  pub formed : formed held + length s.waiting ≡ length held.recorded
+  pub formed : formed_count held + length s.waiting ≡ length held.recorded
   pub are_fixes : All IsFix s.waiting
   pub code : held.code ≡ s.code

@@ -1,5 +1,6 @@
 -- The messages of a terminal, and the platform's responses. To be believed. Headers and bodies are the standard's.
 use Rattle.std.specs.Prelude.{ℕ, ◌≡◌, ◌==◌, ◌||◌, ◌≤◌, Bool, false, List, length, take, None}
+use Rattle.jt_value.specs.declared.limits.TheConstants.{PLATE_LIMIT}
 use Rattle.jt_value.specs.declared.results.TheConstants.{ALARM_HANDLED, SUCCESS}
 use Rattle.jt_value.specs.declared.phone.Edition.{Edition}
 use Rattle.jt_value.specs.declared.phone.Edition.TheVariants.{E2013, E2019}
@@ -37,7 +38,7 @@ auth_octets settings code = (auth settings.phone.edition).spell (record { code =
 pub record AreSettings (settings : Settings) : Type 0 where
   pub phone : IsPhone settings.phone
   pub register : (register settings.phone.edition).Fits settings.register
-  pub plate : length settings.register.plate ≤ 255
+  pub plate : length settings.register.plate ≤ PLATE_LIMIT
   pub tail : IsTail settings.phone.edition settings.tail
 
 -- success, or an alarm that is handled

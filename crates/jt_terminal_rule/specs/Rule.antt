@@ -3,6 +3,7 @@
 use Rattle.std.specs.Prelude.{ℕ, zero, suc, ◌+◌, ◌-◌, ◌*◌, ◌^◌, min, List, [], ◌∷◌, ◌++◌, drop, length, slice_get, Option, None, Some, Bool, true, false, not, ◌==◌, ◌&&◌, nat_lt, nat_le, if◌then◌else◌}
 use Rattle.std.specs.FinMap.{empty}
 use Rattle.std.specs.Option.{option_map, unwrap_or}
+use Rattle.jt_value.specs.declared.limits.TheConstants.{CODE_LIMIT, SERIAL_WINDOW, UNIT_WINDOW}
 use Rattle.jt_value.specs.Serials.{gap_of, serial_of}
 use Rattle.jt_value.specs.declared.ids.TheConstants.{AUTH, HEARTBEAT, REGISTER}
 use Rattle.jt_header.specs.declared.header.Header.{Header}
@@ -50,8 +51,8 @@ abbrev pub first_params : Settings → List Param
 first_params settings = time_param 0x0001 settings.heartbeat ∷ time_param 0x0002 settings.answer ∷ time_param 0x0003 settings.repeats ∷ []
 
 -- a terminal that starts over what its vault loads: the serial that is next is the one that was committed
-abbrev pub started : Settings → Loaded → State
-started settings loaded = record {
+abbrev pub start_state : Settings → Loaded → State
+start_state settings loaded = record {
   settings = settings;
   phase = Down;
   time = 0;
@@ -72,12 +73,12 @@ started settings loaded = record {
 }
 
 -- a count that has risen by this much stays at 2^64 - 1
-abbrev pub risen : ℕ → ℕ → ℕ
-risen count by = min (count + by) (2 ^ 64 - 1)
+abbrev pub capped_sum : ℕ → ℕ → ℕ
+capped_sum count by = min (count + by) (2 ^ 64 - 1)
 
 -- a fix is recorded, and waits
-abbrev pub noted : State → List ℕ → State
-noted s fix = record s { waiting = s.waiting ++ fix ∷ []; recorded = risen s.recorded 1; last = Some fix }
+abbrev pub with_fix : State → List ℕ → State
+with_fix s fix = record s { waiting = s.waiting ++ fix ∷ []; recorded = capped_sum s.recorded 1; last = Some fix }
 
 -- the platform's response that was just read, if it was one
 abbrev pub response_in : Message → Option Acknowledgement
@@ -131,11 +132,11 @@ sends settings (Loses ∷ steps) = sends settings steps
 -- A control message takes the next serial, and moves it on unless the gap from the mark is 32,766 or more: the last place before a gap
 -- of 32,767 is kept for a unit.
 abbrev pub after_control : State → ℕ
-after_control s = if nat_lt (gap_of s.mark s.next) 32766 then serial_of (s.next + 1) else s.next
+after_control s = if nat_lt (gap_of s.mark s.next) UNIT_WINDOW then serial_of (s.next + 1) else s.next
 
 -- The same of a message in so many packets, which takes a serial for each of them, but not past that gap.
 abbrev pub after_packets : State → ℕ → ℕ
-after_packets s count = if nat_lt (gap_of s.mark s.next) 32766 then serial_of (s.next + min count (32766 - gap_of s.mark s.next)) else s.next
+after_packets s count = if nat_lt (gap_of s.mark s.next) UNIT_WINDOW then serial_of (s.next + min count (UNIT_WINDOW - gap_of s.mark s.next)) else s.next
 
 -- ---- waits
 
@@ -146,11 +147,11 @@ wait_behind first (suc zero) = first
 wait_behind first (suc (suc k)) = min (wait_behind first (suc k) * (k + 2)) (2 ^ 62)
 
 -- a first sending now
-abbrev pub begun : State → Wait
-begun s = record { since = s.time; last = s.time; sendings = 1; first = 1000 * s.timing.answer; repeats = s.timing.repeats }
+abbrev pub first_wait : State → Wait
+first_wait s = record { since = s.time; last = s.time; sendings = 1; first = 1000 * s.timing.answer; repeats = s.timing.repeats }
 
-abbrev pub sent_again : State → Wait
-sent_again s = record s.wait { last = s.time; sendings = s.wait.sendings + 1 }
+abbrev pub repeat_wait : State → Wait
+repeat_wait s = record s.wait { last = s.time; sendings = s.wait.sendings + 1 }
 
 -- an answer is waited for
 abbrev pub is_waiting : Phase → ℕ → Bool
@@ -171,37 +172,37 @@ down s = record s { phase = Down; sent = 0 }
 abbrev pub gives_up : State → List Step → GiveUp → Ruled
 gives_up s steps cause = record { state = down s; steps = steps ++ Loses ∷ []; end = Some cause }
 
-abbrev pub lost : State → Ruled
-lost s = record { state = down s; steps = Loses ∷ []; end = None }
+abbrev pub on_loss : State → Ruled
+on_loss s = record { state = down s; steps = Loses ∷ []; end = None }
 
 -- ---- registration and authentication
 
 -- a control message was sent: the state waits so in this phase
-abbrev pub spoken : State → Phase → Wait → State
-spoken s p w = record s { phase = p; wait = w; said = s.time; next = after_control s }
+abbrev pub after_saying : State → Phase → Wait → State
+after_saying s p w = record s { phase = p; wait = w; said = s.time; next = after_control s }
 
 abbrev pub registers : State → Ruled
 registers s = record {
-  state = record s { phase = Registering s.next; wait = begun s; said = s.time; next = after_control s };
+  state = record s { phase = Registering s.next; wait = first_wait s; said = s.time; next = after_control s };
   steps = Says (header_of s.settings.phone REGISTER s.next) (register_octets s.settings) ∷ [];
   end = None;
 }
 
 abbrev pub authenticates : State → List ℕ → Ruled
 authenticates s code = record {
-  state = record s { phase = Authenticating s.next; wait = begun s; said = s.time; next = after_control s };
+  state = record s { phase = Authenticating s.next; wait = first_wait s; said = s.time; next = after_control s };
   steps = Says (header_of s.settings.phone AUTH s.next) (auth_octets s.settings code) ∷ [];
   end = None;
 }
 
 -- with a stored code the terminal authenticates itself, and without one it registers
-abbrev pub introduces : State → Option (List ℕ) → Ruled
-introduces s None = registers s
-introduces s (Some code) = authenticates s code
+abbrev pub introduce : State → Option (List ℕ) → Ruled
+introduce s None = registers s
+introduce s (Some code) = authenticates s code
 
 -- nothing was sent on a line that was just opened
-abbrev pub opened : State → Ruled
-opened s = and_then (record { state = record s { sent = 0 }; steps = Opens ∷ []; end = None }) (λ t. introduces t s.code)
+abbrev pub on_open : State → Ruled
+on_open s = and_then (record { state = record s { sent = 0 }; steps = Opens ∷ []; end = None }) (λ t. introduce t s.code)
 
 -- ---- the window
 
@@ -210,13 +211,13 @@ window = 16
 
 -- a unit that is sent where none was sent begins the wait
 abbrev pub one_sent : State → State
-one_sent s = record s { sent = s.sent + 1; wait = if s.sent == 0 then begun s else s.wait; said = s.time }
+one_sent s = record s { sent = s.sent + 1; wait = if s.sent == 0 then first_wait s else s.wait; said = s.time }
 
 -- the unit of the fixes that wait is formed and sent, if there are fixes and the gap leaves it a serial
-abbrev pub forms_one : State → List (List ℕ) → Option Ruled
-forms_one s [] = None
-forms_one s (fix ∷ more) =
-    if nat_lt (gap_of s.mark s.next) 32767
+abbrev pub form_unit : State → List (List ℕ) → Option Ruled
+form_unit s [] = None
+form_unit s (fix ∷ more) =
+    if nat_lt (gap_of s.mark s.next) SERIAL_WINDOW
     then (let unit = unit_of s.next fix (fix ∷ more) in Some (record {
       state = one_sent (record s { units = s.units ++ unit ∷ []; waiting = drop unit.count (fix ∷ more); next = serial_of (s.next + 1) });
       steps = Changes (Forms unit) ∷ Sends s.sent unit ∷ [];
@@ -225,12 +226,12 @@ forms_one s (fix ∷ more) =
     else None
 
 -- the next unit that was not sent on this line is sent; where there is none, one is formed
-abbrev pub sends_one : State → Option OneUnit → Option Ruled
-sends_one s (Some unit) = Some (record { state = one_sent s; steps = Sends s.sent unit ∷ []; end = None })
-sends_one s None = forms_one s s.waiting
+abbrev pub send_unit : State → Option OneUnit → Option Ruled
+send_unit s (Some unit) = Some (record { state = one_sent s; steps = Sends s.sent unit ∷ []; end = None })
+send_unit s None = form_unit s s.waiting
 
-abbrev pub next_one : State → Option Ruled
-next_one s = if nat_lt s.sent window then sends_one s (slice_get s.units s.sent) else None
+abbrev pub send_next : State → Option Ruled
+send_next s = if nat_lt s.sent window then send_unit s (slice_get s.units s.sent) else None
 
 abbrev pub or_stays : State → Option Ruled → (State → Ruled) → Ruled
 or_stays s None more = stays s
@@ -239,67 +240,67 @@ or_stays s (Some r) more = and_then r more
 -- so many units are sent at most
 abbrev pub fill : ℕ → State → Ruled
 fill zero s = stays s
-fill (suc n) s = or_stays s (next_one s) (fill n)
+fill (suc n) s = or_stays s (send_next s) (fill n)
 
-abbrev pub fills : State → Ruled
-fills s = fill window s
+abbrev pub fill_window : State → Ruled
+fill_window s = fill window s
 
 -- ---- the platform's answers
 
 -- the reply gives a code, which may have at most 255 octets (this project's own limit)
 abbrev pub is_registered : RegisterReply → Bool
-is_registered reply = (reply.result == 0) && nat_le (length reply.code) 255
+is_registered reply = (reply.result == 0) && nat_le (length reply.code) CODE_LIMIT
 
 -- the code is stored, and the terminal authenticates itself with it
-abbrev pub coded : State → List ℕ → Ruled
-coded s code = and_then (record { state = record s { code = Some code }; steps = Changes (Sets (Some code)) ∷ []; end = None }) (λ t. authenticates t code)
+abbrev pub store_code : State → List ℕ → Ruled
+store_code s code = and_then (record { state = record s { code = Some code }; steps = Changes (Sets (Some code)) ∷ []; end = None }) (λ t. authenticates t code)
 
 -- the reply to a registration
-abbrev pub replied : State → RegisterReply → List ℕ → Ruled
-replied s reply octets = if is_registered reply then coded s reply.code else gives_up s [] (Denied octets)
+abbrev pub take_reply : State → RegisterReply → List ℕ → Ruled
+take_reply s reply octets = if is_registered reply then store_code s reply.code else gives_up s [] (Denied octets)
 
 -- the code is removed, and the line given up
-abbrev pub forgets : State → List ℕ → Ruled
-forgets s octets = gives_up (record s { code = None }) (Changes (Sets None) ∷ []) (Denied octets)
+abbrev pub forget_code : State → List ℕ → Ruled
+forget_code s octets = gives_up (record s { code = None }) (Changes (Sets None) ∷ []) (Denied octets)
 
 -- the response to an authentication of this serial
-abbrev pub authenticated : State → ℕ → ℕ → List ℕ → Ruled
-authenticated s serial result octets =
+abbrev pub on_auth_response : State → ℕ → ℕ → List ℕ → Ruled
+on_auth_response s serial result octets =
     if result == 0
-    then fills (record s { phase = Live serial })
-    else forgets s octets
+    then fill_window (record s { phase = Live serial })
+    else forget_code s octets
 
 abbrev pub names : Acknowledgement → OneUnit → Bool
 names ack unit = (ack.reply == unit.serial) && (ack.id == unit.id)
 
 -- the oldest unit is accepted, and a wait for the next one begins
-abbrev pub accepted : State → OneUnit → List OneUnit → State
-accepted s unit more = record s { units = more; sent = s.sent - 1; mark = unit.serial; wait = begun s; accepted = risen s.accepted unit.count }
+abbrev pub after_acceptance : State → OneUnit → List OneUnit → State
+after_acceptance s unit more = record s { units = more; sent = s.sent - 1; mark = unit.serial; wait = first_wait s; accepted = capped_sum s.accepted unit.count }
 
-abbrev pub accepts : State → OneUnit → List OneUnit → Ruled
-accepts s unit more = and_then (record { state = accepted s unit more; steps = Changes Accepts ∷ []; end = None }) fills
+abbrev pub accept_oldest : State → OneUnit → List OneUnit → Ruled
+accept_oldest s unit more = and_then (record { state = after_acceptance s unit more; steps = Changes Accepts ∷ []; end = None }) fill_window
 
 -- a response while the terminal is Live
-abbrev pub answered : State → List OneUnit → Acknowledgement → List ℕ → Ruled
-answered s [] ack octets = fills s
-answered s (unit ∷ more) ack octets =
+abbrev pub on_unit_response : State → List OneUnit → Acknowledgement → List ℕ → Ruled
+on_unit_response s [] ack octets = fill_window s
+on_unit_response s (unit ∷ more) ack octets =
     if nat_lt 0 s.sent && names ack unit
-    then (if is_acceptance ack then accepts s unit more else gives_up s [] (Denied octets))
-    else fills s
+    then (if is_acceptance ack then accept_oldest s unit more else gives_up s [] (Denied octets))
+    else fill_window s
 
 -- a response, by the phase
-abbrev pub responded : Phase → State → Acknowledgement → List ℕ → Ruled
-responded Down s ack octets = stays s
-responded (Registering serial) s ack octets = stays s
-responded (Authenticating serial) s ack octets = if (ack.id == AUTH) && (ack.reply == serial) then authenticated s serial ack.result octets else stays s
-responded (Live serial) s ack octets = answered s s.units ack octets
+abbrev pub on_response : Phase → State → Acknowledgement → List ℕ → Ruled
+on_response Down s ack octets = stays s
+on_response (Registering serial) s ack octets = stays s
+on_response (Authenticating serial) s ack octets = if (ack.id == AUTH) && (ack.reply == serial) then on_auth_response s serial ack.result octets else stays s
+on_response (Live serial) s ack octets = on_unit_response s s.units ack octets
 
 -- a reply to a registration, by the phase
-abbrev pub registered : Phase → State → RegisterReply → List ℕ → Ruled
-registered (Registering serial) s reply octets = if reply.reply == serial then replied s reply octets else stays s
-registered Down s reply octets = stays s
-registered (Authenticating serial) s reply octets = stays s
-registered (Live serial) s reply octets = fills s
+abbrev pub on_register_reply : Phase → State → RegisterReply → List ℕ → Ruled
+on_register_reply (Registering serial) s reply octets = if reply.reply == serial then take_reply s reply octets else stays s
+on_register_reply Down s reply octets = stays s
+on_register_reply (Authenticating serial) s reply octets = stays s
+on_register_reply (Live serial) s reply octets = fill_window s
 
 -- ---- answers
 
@@ -330,18 +331,18 @@ abbrev pub answers : State → Answer → Ruled
 answers s a = says_answer (changed_by s a) a.says
 
 -- a terminal that is Live answers, and then fills its window
-abbrev pub answers_if_live : Phase → State → Answer → Ruled
-answers_if_live Down s a = stays s
-answers_if_live (Registering serial) s a = stays s
-answers_if_live (Authenticating serial) s a = stays s
-answers_if_live (Live serial) s a = and_then (answers s a) fills
+abbrev pub answer_if_live : Phase → State → Answer → Ruled
+answer_if_live Down s a = stays s
+answer_if_live (Registering serial) s a = stays s
+answer_if_live (Authenticating serial) s a = stays s
+answer_if_live (Live serial) s a = and_then (answers s a) fill_window
 
 -- a message of the platform
-abbrev pub received : State → Header → Message → Ruled
-received s h (message.PlatformAck reply id result) =
-    responded s.phase s (record { reply = reply; id = id; result = result }) (body_octets h.edition (message.PlatformAck reply id result))
-received s h (message.RegisterReply reply) = registered s.phase s reply (body_octets h.edition (message.RegisterReply reply))
-received s h m = answers_if_live s.phase s (answer_to s h m)
+abbrev pub on_message : State → Header → Message → Ruled
+on_message s h (message.PlatformAck reply id result) =
+    on_response s.phase s (record { reply = reply; id = id; result = result }) (body_octets h.edition (message.PlatformAck reply id result))
+on_message s h (message.RegisterReply reply) = on_register_reply s.phase s reply (body_octets h.edition (message.RegisterReply reply))
+on_message s h m = answer_if_live s.phase s (answer_to s h m)
 
 -- What a terminal hears on its line: a message, a body that is refused under its header, the last packet of a message whose others lack
 -- (the serial of packet 1 and the numbers), or a packet of too many.
@@ -351,16 +352,16 @@ pub data Heard : Type 0 where
   Lacks : Header → ℕ → List ℕ → Heard
   TooMany : Header → Heard
 
-abbrev pub heard : State → Heard → Ruled
-heard s (Whole h m) = received s h m
-heard s (Refused h) = answers_if_live s.phase s (answer_to_refused s h)
-heard s (Lacks h first numbers) = answers_if_live s.phase s (answer_to_lack s s.settings.phone.edition first numbers)
-heard s (TooMany h) = answers_if_live s.phase s (answer_to_refused s h)
+abbrev pub on_hearing : State → Heard → Ruled
+on_hearing s (Whole h m) = on_message s h m
+on_hearing s (Refused h) = answer_if_live s.phase s (answer_to_refused s h)
+on_hearing s (Lacks h first numbers) = answer_if_live s.phase s (answer_to_lack s s.settings.phone.edition first numbers)
+on_hearing s (TooMany h) = answer_if_live s.phase s (answer_to_refused s h)
 
 -- ---- heartbeats and moments
 
-abbrev pub beats : State → Ruled
-beats s = record {
+abbrev pub say_heartbeat : State → Ruled
+say_heartbeat s = record {
   state = record s { said = s.time; next = after_control s };
   steps = Says (header_of s.settings.phone HEARTBEAT s.next) [] ∷ [];
   end = None;
@@ -370,51 +371,51 @@ beats s = record {
 abbrev pub is_silent : State → Bool
 is_silent s = not (s.timing.heartbeat == 0) && nat_le (s.said + 1000 * s.timing.heartbeat) s.time
 
-abbrev pub beats_if_silent : State → Ruled
-beats_if_silent s = if is_silent s then beats s else stays s
+abbrev pub heartbeat_if_silent : State → Ruled
+heartbeat_if_silent s = if is_silent s then say_heartbeat s else stays s
 
 -- a heartbeat that is asked for
-abbrev pub beaten : Phase → State → Ruled
-beaten Down s = stays s
-beaten (Registering serial) s = stays s
-beaten (Authenticating serial) s = stays s
-beaten (Live serial) s = and_then (beats s) fills
+abbrev pub on_beat : Phase → State → Ruled
+on_beat Down s = stays s
+on_beat (Registering serial) s = stays s
+on_beat (Authenticating serial) s = stays s
+on_beat (Live serial) s = and_then (say_heartbeat s) fill_window
 
 -- what is waited for, sent again with the same octets under the same serial
 abbrev pub oldest_again : List OneUnit → List Step
 oldest_again [] = []
 oldest_again (unit ∷ more) = Sends 0 unit ∷ []
 
-abbrev pub again : State → Phase → List Step
-again s Down = []
-again s (Registering serial) = Says (header_of s.settings.phone REGISTER serial) (register_octets s.settings) ∷ []
-again s (Authenticating serial) = Says (header_of s.settings.phone AUTH serial) (auth_octets s.settings (unwrap_or s.code [])) ∷ []
-again s (Live serial) = oldest_again s.units
+abbrev pub steps_again : State → Phase → List Step
+steps_again s Down = []
+steps_again s (Registering serial) = Says (header_of s.settings.phone REGISTER serial) (register_octets s.settings) ∷ []
+steps_again s (Authenticating serial) = Says (header_of s.settings.phone AUTH serial) (auth_octets s.settings (unwrap_or s.code [])) ∷ []
+steps_again s (Live serial) = oldest_again s.units
 
-abbrev pub repeats : State → Ruled
-repeats s = record { state = record s { wait = sent_again s; said = s.time }; steps = again s s.phase; end = None }
+abbrev pub repeat_sending : State → Ruled
+repeat_sending s = record { state = record s { wait = repeat_wait s; said = s.time }; steps = steps_again s s.phase; end = None }
 
 -- a Live terminal looks at its heartbeat, and then fills its window
-abbrev pub goes_on : Phase → State → Ruled
-goes_on Down s = stays s
-goes_on (Registering serial) s = stays s
-goes_on (Authenticating serial) s = stays s
-goes_on (Live serial) s = and_then (beats_if_silent s) fills
+abbrev pub watch_and_fill : Phase → State → Ruled
+watch_and_fill Down s = stays s
+watch_and_fill (Registering serial) s = stays s
+watch_and_fill (Authenticating serial) s = stays s
+watch_and_fill (Live serial) s = and_then (heartbeat_if_silent s) fill_window
 
 -- waits come first: one repeat at most, or the line is given up
-abbrev pub ticked : State → Ruled
-ticked s =
+abbrev pub on_tick : State → Ruled
+on_tick s =
     if has_passed s
-    then (if nat_le s.wait.sendings s.wait.repeats then and_then (repeats s) (goes_on s.phase) else gives_up s [] (TimedOut s.wait.since s.time))
-    else goes_on s.phase s
+    then (if nat_le s.wait.sendings s.wait.repeats then and_then (repeat_sending s) (watch_and_fill s.phase) else gives_up s [] (TimedOut s.wait.since s.time))
+    else watch_and_fill s.phase s
 
 -- the rule
 abbrev pub rule : State → Event → Ruled
-rule s Opened = opened s
-rule s (Received h m) = received s h m
-rule s (Tick now) = ticked (record s { time = now })
-rule s Lost = lost s
-rule s Beat = beaten s.phase s
+rule s Opened = on_open s
+rule s (Received h m) = on_message s h m
+rule s (Tick now) = on_tick (record s { time = now })
+rule s Lost = on_loss s
+rule s Beat = on_beat s.phase s
 
 -- ---- what the terminal is told
 
@@ -426,6 +427,6 @@ first_named ack (suc n) (unit ∷ units) = if names ack unit then Some 0 else op
 
 -- how many units that are not accepted stand before the one whose acceptance this response tells, if it tells one: that unit was sent on
 -- this line. The rule accepts it where none stands before it.
-abbrev pub told : State → Option Acknowledgement → Option ℕ
-told s None = None
-told s (Some ack) = if is_acceptance ack then first_named ack s.sent s.units else None
+abbrev pub named_place : State → Option Acknowledgement → Option ℕ
+named_place s None = None
+named_place s (Some ack) = if is_acceptance ack then first_named ack s.sent s.units else None

@@ -96,16 +96,16 @@ abbrev pub without_line : Machine → Machine
 without_line m = record m { using = false; auths = []; ready = false; reach = m.accepted }
 
 -- the terminal after a step
-abbrev pub stepped : Machine → TerminalStep → Machine
-stepped m (Records fix) = record m { recorded = m.recorded ++ fix ∷ [] }
-stepped m (Forms unit) = record m { units = m.units ++ unit ∷ [] }
-stepped m Opens = record m { using = true; auths = []; ready = false; reach = m.accepted }
-stepped m (Sends place) = record m { reach = max m.reach (place + 1) }
-stepped m (Says h body) = record m { auths = auths_by m.auths h }
-stepped m Accepts = record m { accepted = m.accepted + 1 }
-stepped m Loses = without_line m
-stepped m (Restarts phone) = record (without_line m) { phone = phone }
-stepped m (Codes code) = record m { code = code }
+abbrev pub machine_after : Machine → TerminalStep → Machine
+machine_after m (Records fix) = record m { recorded = m.recorded ++ fix ∷ [] }
+machine_after m (Forms unit) = record m { units = m.units ++ unit ∷ [] }
+machine_after m Opens = record m { using = true; auths = []; ready = false; reach = m.accepted }
+machine_after m (Sends place) = record m { reach = max m.reach (place + 1) }
+machine_after m (Says h body) = record m { auths = auths_by m.auths h }
+machine_after m Accepts = record m { accepted = m.accepted + 1 }
+machine_after m Loses = without_line m
+machine_after m (Restarts phone) = record (without_line m) { phone = phone }
+machine_after m (Codes code) = record m { code = code }
 
 -- the response accepts an authentication of this line
 abbrev pub lets_in : List ℕ → Acknowledgement → Bool
@@ -135,12 +135,12 @@ writes m (Codes code) = []
 -- steps one after another, the first of them directly after `just`
 abbrev pub MayRun : Machine → Option Acknowledgement → List TerminalStep → Type 0
 MayRun m just [] = Unit {0}
-MayRun m just (step ∷ steps) = MayStep m just step × MayRun (stepped m step) None steps
+MayRun m just (step ∷ steps) = MayStep m just step × MayRun (machine_after m step) None steps
 
 -- the terminal after these steps
-abbrev pub run : Machine → List TerminalStep → Machine
-run m [] = m
-run m (step ∷ steps) = run (stepped m step) steps
+abbrev pub machine_run : Machine → List TerminalStep → Machine
+machine_run m [] = m
+machine_run m (step ∷ steps) = machine_run (machine_after m step) steps
 
 -- the first place, from this one on, of so many, whose unit the response names
 abbrev pub named_from : List Row → Acknowledgement → ℕ → ℕ → Option ℕ
@@ -148,6 +148,6 @@ named_from units ack place zero = None
 named_from units ack place (suc n) = if is_named ack (slice_get units place) then Some place else named_from units ack (place + 1) n
 
 -- the place of the unit whose acceptance the terminal is told: it was sent on this line, is not accepted, and the response names it
-abbrev pub told_by : Machine → Option Acknowledgement → Option ℕ
-told_by m None = None
-told_by m (Some ack) = if is_acceptance ack then named_from m.units ack m.accepted (m.reach - m.accepted) else None
+abbrev pub unit_named_by : Machine → Option Acknowledgement → Option ℕ
+unit_named_by m None = None
+unit_named_by m (Some ack) = if is_acceptance ack then named_from m.units ack m.accepted (m.reach - m.accepted) else None

@@ -3,6 +3,7 @@ use Rattle.std.specs.Prelude.{ℕ, nat_le, ◌&&◌, not, is_some, if◌then◌e
 use Rattle.std.specs.FinMap.{FinMap, empty, insert, remove, len}
 use Rattle.std.specs.Option.{option_map}
 use Rattle.std.specs.Ordering.{nat_cmp}
+use Rattle.jt_value.specs.declared.limits.TheConstants.{OCTET_COUNT_LIMIT}
 use Rattle.jt_params.specs.declared.param.Param.{Param}
 use Rattle.jt_params.specs.Tables.{Table}
 use Rattle.jt_region_bodies.specs.declared.circle.Circle.{Circle}
@@ -25,7 +26,7 @@ set_params (p ∷ params) table = set_params params (insert table p.id p.value)
 
 -- the most parameters that a table has
 abbrev pub param_limit : ℕ
-param_limit = 255
+param_limit = OCTET_COUNT_LIMIT
 
 -- the table with the parameters, unless it would have too many
 abbrev pub params_after : List Param → Table → Option Table

@@ -6,7 +6,7 @@ use Rattle.jt_terminal_rule.specs.declared.state.State.{State}
 use Rattle.jt_terminal_rule.specs.declared.state.Phase.{Phase}
 use Rattle.jt_terminal_rule.specs.declared.state.Phase.TheVariants.{Down, Registering, Authenticating, Live}
 use Rattle.jt_terminal_rule.specs.Answers.{Answer, answer_to}
-use Rattle.jt_terminal_rule.specs.Rule.{answers, received, sends}
+use Rattle.jt_terminal_rule.specs.Rule.{answers, on_message, sends}
 
 -- the units that were not sent on this line, and the fixes that wait
 abbrev pub unsent : State → ℕ
@@ -36,4 +36,4 @@ frames_of_answer s h m = frames_in s.phase s (answer_to s h m)
 -- At a message of the platform each frame that is sent, but for those of the answer, is one less that may still be said. Responses and
 -- replies have no answer.
 abbrev pub EachFrameIsOneLess : Type 0
-EachFrameIsOneLess = (s : State) (h : Header) (m : Message) → s.sent ≤ length s.units → length (sends s.settings (received s h m).steps) + unsaid (received s h m).state ≤ frames_of_answer s h m + unsaid s
+EachFrameIsOneLess = (s : State) (h : Header) (m : Message) → s.sent ≤ length s.units → length (sends s.settings (on_message s h m).steps) + unsaid (on_message s h m).state ≤ frames_of_answer s h m + unsaid s

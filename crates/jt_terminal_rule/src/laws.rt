@@ -36,7 +36,8 @@ pub fn law_rule()
 /// The rule at work: the waits for the reply to a registration, and responses that name a unit.
 pub fn law_examples()
     ensures waits { WaitsGrow }
-    ensures responses { (settings : Settings) (body : List ℕ) (h : Header) → ResponsesNameTheUnit settings body h }
+    ensures responses { (settings : Settings) (body : List ℕ) (h : Header) →
+        ResponsesNameTheUnit settings body h }
 {}
 
 /// A line is given up for want of an answer only once all waits have passed since the first sending, of which there were more

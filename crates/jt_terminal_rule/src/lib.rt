@@ -13,9 +13,10 @@ mod waits;
 pub use laws::{law_examples, law_forming, law_rule, law_unsaid, law_waits};
 pub use queue::Queue;
 pub use saying::{
-    beats, beats_if_silent, frame, header, lose, now_in, opened, repeats, say_auth, say_unit,
+    frame, header, heartbeat_if_silent, lose, now_in, on_open, repeat_sending, say_auth,
+    say_heartbeat, say_unit,
 };
 pub use settings::Settings;
 pub use state::{Acknowledgement, AnswerKind, Event, GiveUp, Phase, State, Timing, Wait};
 pub use units::unit_of;
-pub use waits::{after_packets, begun, has_passed, has_serial};
+pub use waits::{after_packets, first_wait, has_passed, has_serial};

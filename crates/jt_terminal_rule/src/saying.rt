@@ -1,13 +1,14 @@
 //! What a terminal says: its frames, and the messages that are no unit.
 
 ghost use Rattle.std.specs.Prelude.{◌≡◌, ◌<◌, ◌≤◌, ◌^◌, ◌++◌, ◌∷◌, [], length, slice_get, OnOk, OnErr, IfOk, IfSome};
+ghost use Rattle.jt_value.specs.declared.limits.TheConstants.{BODY_LIMIT, CODE_LIMIT};
 ghost use Rattle.jt_header.specs.Content.{IsHeader};
 ghost use Rattle.jt_terminal_rule.specs.Messages.{AreSettings, BeginsWith, frame_of, header_of, register_octets, auth_octets};
 ghost use Rattle.jt_terminal_rule.specs.Rule as rule;
 
 use crate::settings::Settings;
 use crate::state::{Phase, State, Wait};
-use crate::waits::{after_control, begun, is_silent};
+use crate::waits::{after_control, first_wait, is_silent};
 use arrayvec::ArrayVec;
 use jt_codec::frame_into;
 use jt_header::Header;
@@ -60,7 +61,8 @@ pub(crate) fn say(
 ) -> Result<(), Memory>
     requires good { AreSettings settings.now }
     requires body { length body.now < 2 ^ 10 }
-    ensures out { OnOk result (out.new ≡ out.old ++ frame_of (header_of settings.now.phone id serial) body.now ∷ []) }
+    ensures out { OnOk result
+        (out.new ≡ out.old ++ frame_of (header_of settings.now.phone id serial) body.now ∷ []) }
     ensures kept { BeginsWith out.new out.old }
 {
     let header = header(&settings.phone, id, serial);
@@ -79,7 +81,7 @@ fn register_body(alloc: Global, settings: &Settings) -> Result<Octets, Memory>
 // The body of an authentication with this code.
 fn auth_body(alloc: Global, settings: &Settings, code: &[u8]) -> Result<Octets, Memory>
     requires good { AreSettings settings.now }
-    requires short { length code.now ≤ 255 }
+    requires short { length code.now ≤ CODE_LIMIT }
     ensures { IfOk result (λ body. body ≡ auth_octets settings.now code.now) }
 {
     let auth = Auth {
@@ -98,7 +100,9 @@ pub(crate) fn say_register(
     out: &mut Seq<Octets>,
 ) -> Result<(), Memory>
     requires { AreSettings settings.now }
-    ensures out { OnOk result (out.new ≡ out.old ++ frame_of (header_of settings.now.phone 0x0100 serial) (register_octets settings.now) ∷ []) }
+    ensures out { OnOk result (out.new ≡ out.old
+        ++ frame_of (header_of settings.now.phone 0x0100 serial) (register_octets settings.now)
+        ∷ []) }
     ensures kept { BeginsWith out.new out.old }
 {
     let body = register_body(alloc, settings)?;
@@ -115,8 +119,10 @@ pub fn say_auth(
     out: &mut Seq<Octets>,
 ) -> Result<(), Memory>
     requires good { AreSettings settings.now }
-    requires short { length code.now ≤ 255 }
-    ensures out { OnOk result (out.new ≡ out.old ++ frame_of (header_of settings.now.phone 0x0102 serial) (auth_octets settings.now code.now) ∷ []) }
+    requires short { length code.now ≤ CODE_LIMIT }
+    ensures out { OnOk result (out.new ≡ out.old
+        ++ frame_of (header_of settings.now.phone 0x0102 serial) (auth_octets settings.now code.now)
+        ∷ []) }
     ensures kept { BeginsWith out.new out.old }
 {
     let body = auth_body(alloc, settings, code)?;
@@ -131,8 +137,9 @@ pub fn say_unit(
     out: &mut Seq<Octets>,
 ) -> Result<(), Memory>
     requires good { AreSettings settings.now }
-    requires body { length unit.now.body ≤ 1023 }
-    ensures out { OnOk result (out.new ≡ out.old ++ frame_of (header_of settings.now.phone unit.now.id unit.now.serial) unit.now.body ∷ []) }
+    requires body { length unit.now.body ≤ BODY_LIMIT }
+    ensures out { OnOk result (out.new ≡ out.old
+        ++ frame_of (header_of settings.now.phone unit.now.id unit.now.serial) unit.now.body ∷ []) }
     ensures kept { BeginsWith out.new out.old }
 {
     let Unit {
@@ -146,24 +153,25 @@ pub fn say_unit(
 
 /// A control message was sent that is waited for in this phase.
 pub fn now_in(state: &mut State, phase: Phase)
-    ensures { state.new ≡ rule.spoken state.old phase (rule.begun state.old) }
+    ensures { state.new ≡ rule.after_saying state.old phase (rule.first_wait state.old) }
 {
-    state.wait = begun(state);
+    state.wait = first_wait(state);
     state.said = state.time;
     state.next = after_control(state);
     state.phase = phase;
 }
 
 // With a stored code the terminal authenticates itself, and without one it registers.
-pub(crate) fn introduces(
+pub(crate) fn introduce(
     alloc: Global,
     state: &mut State,
     out: &mut Seq<Octets>,
 ) -> Result<(), Memory>
     requires good { AreSettings state.old.settings }
-    requires short { IfSome state.old.code (λ code. length code ≤ 255) }
-    ensures state { OnOk result (state.new ≡ (rule.introduces state.old state.old.code).state) }
-    ensures out { OnOk result (out.new ≡ out.old ++ rule.sends state.old.settings (rule.introduces state.old state.old.code).steps) }
+    requires short { IfSome state.old.code (λ code. length code ≤ CODE_LIMIT) }
+    ensures state { OnOk result (state.new ≡ (rule.introduce state.old state.old.code).state) }
+    ensures out { OnOk result (out.new ≡ out.old
+        ++ rule.sends state.old.settings (rule.introduce state.old state.old.code).steps) }
     ensures err { OnErr result (state.new ≡ state.old) }
     ensures kept { BeginsWith out.new out.old }
 {
@@ -182,23 +190,25 @@ pub(crate) fn introduces(
 }
 
 /// A line was opened.
-pub fn opened(alloc: Global, state: &mut State, out: &mut Seq<Octets>) -> Result<(), Memory>
+pub fn on_open(alloc: Global, state: &mut State, out: &mut Seq<Octets>) -> Result<(), Memory>
     requires good { AreSettings state.old.settings }
-    requires short { IfSome state.old.code (λ code. length code ≤ 255) }
-    ensures state { OnOk result (state.new ≡ (rule.opened state.old).state) }
-    ensures out { OnOk result (out.new ≡ out.old ++ rule.sends state.old.settings (rule.opened state.old).steps) }
+    requires short { IfSome state.old.code (λ code. length code ≤ CODE_LIMIT) }
+    ensures state { OnOk result (state.new ≡ (rule.on_open state.old).state) }
+    ensures out { OnOk result
+        (out.new ≡ out.old ++ rule.sends state.old.settings (rule.on_open state.old).steps) }
     ensures err { OnErr result (state.new ≡ record state.old { sent = 0 }) }
     ensures kept { BeginsWith out.new out.old }
 {
     state.sent = 0;
-    introduces(alloc, state, out)
+    introduce(alloc, state, out)
 }
 
 /// A heartbeat.
-pub fn beats(alloc: Global, state: &mut State, out: &mut Seq<Octets>) -> Result<(), Memory>
+pub fn say_heartbeat(alloc: Global, state: &mut State, out: &mut Seq<Octets>) -> Result<(), Memory>
     requires { AreSettings state.old.settings }
-    ensures state { OnOk result (state.new ≡ (rule.beats state.old).state) }
-    ensures out { OnOk result (out.new ≡ out.old ++ rule.sends state.old.settings (rule.beats state.old).steps) }
+    ensures state { OnOk result (state.new ≡ (rule.say_heartbeat state.old).state) }
+    ensures out { OnOk result
+        (out.new ≡ out.old ++ rule.sends state.old.settings (rule.say_heartbeat state.old).steps) }
     ensures err { OnErr result (state.new ≡ state.old) }
     ensures kept { BeginsWith out.new out.old }
 {
@@ -216,29 +226,31 @@ pub fn beats(alloc: Global, state: &mut State, out: &mut Seq<Octets>) -> Result<
 }
 
 /// A heartbeat, where nothing was sent for long enough.
-pub fn beats_if_silent(
+pub fn heartbeat_if_silent(
     alloc: Global,
     state: &mut State,
     out: &mut Seq<Octets>,
 ) -> Result<(), Memory>
     requires { AreSettings state.old.settings }
-    ensures state { OnOk result (state.new ≡ (rule.beats_if_silent state.old).state) }
-    ensures out { OnOk result (out.new ≡ out.old ++ rule.sends state.old.settings (rule.beats_if_silent state.old).steps) }
+    ensures state { OnOk result (state.new ≡ (rule.heartbeat_if_silent state.old).state) }
+    ensures out { OnOk result (out.new
+        ≡ out.old ++ rule.sends state.old.settings (rule.heartbeat_if_silent state.old).steps) }
     ensures err { OnErr result (state.new ≡ state.old) }
     ensures kept { BeginsWith out.new out.old }
 {
     if is_silent(state) {
-        return beats(alloc, state, out);
+        return say_heartbeat(alloc, state, out);
     }
     Ok(())
 }
 
 // What is waited for, again.
-fn again(alloc: Global, state: &State, out: &mut Seq<Octets>) -> Result<(), Memory>
+fn send_again(alloc: Global, state: &State, out: &mut Seq<Octets>) -> Result<(), Memory>
     requires good { AreSettings state.now.settings }
-    requires short { IfSome state.now.code (λ code. length code ≤ 255) }
-    requires units { IfSome (slice_get state.now.units 0) (λ unit. length unit.body ≤ 1023) }
-    ensures out { OnOk result (out.new ≡ out.old ++ rule.sends state.now.settings (rule.again state.now state.now.phase)) }
+    requires short { IfSome state.now.code (λ code. length code ≤ CODE_LIMIT) }
+    requires units { IfSome (slice_get state.now.units 0) (λ unit. length unit.body ≤ BODY_LIMIT) }
+    ensures out { OnOk result (out.new
+        ≡ out.old ++ rule.sends state.now.settings (rule.steps_again state.now state.now.phase)) }
     ensures kept { BeginsWith out.new out.old }
 {
     match state.phase {
@@ -256,17 +268,18 @@ fn again(alloc: Global, state: &State, out: &mut Seq<Octets>) -> Result<(), Memo
 }
 
 /// What is waited for is sent again, and the next wait begins.
-pub fn repeats(alloc: Global, state: &mut State, out: &mut Seq<Octets>) -> Result<(), Memory>
+pub fn repeat_sending(alloc: Global, state: &mut State, out: &mut Seq<Octets>) -> Result<(), Memory>
     requires good { AreSettings state.old.settings }
-    requires short { IfSome state.old.code (λ code. length code ≤ 255) }
-    requires units { IfSome (slice_get state.old.units 0) (λ unit. length unit.body ≤ 1023) }
+    requires short { IfSome state.old.code (λ code. length code ≤ CODE_LIMIT) }
+    requires units { IfSome (slice_get state.old.units 0) (λ unit. length unit.body ≤ BODY_LIMIT) }
     requires more { state.old.wait.sendings ≤ state.old.wait.repeats }
-    ensures state { OnOk result (state.new ≡ (rule.repeats state.old).state) }
-    ensures out { OnOk result (out.new ≡ out.old ++ rule.sends state.old.settings (rule.repeats state.old).steps) }
+    ensures state { OnOk result (state.new ≡ (rule.repeat_sending state.old).state) }
+    ensures out { OnOk result
+        (out.new ≡ out.old ++ rule.sends state.old.settings (rule.repeat_sending state.old).steps) }
     ensures err { OnErr result (state.new ≡ state.old) }
     ensures kept { BeginsWith out.new out.old }
 {
-    again(alloc, state, out)?;
+    send_again(alloc, state, out)?;
     let Wait {
         sendings,
         repeats,

@@ -7,10 +7,8 @@ ghost use Rattle.jt_terminal_rule.specs.Tails.{IsTail};
 
 use jt_layout::octets_fit;
 use jt_register::{AuthTail, Register};
+use jt_value::limits::PLATE_LIMIT;
 use jt_value::{Edition, Phone};
-
-// The most octets of a plate (this project's own limit).
-const PLATE_LIMIT: usize = 255;
 
 const IMEI_LEN: usize = 15;
 

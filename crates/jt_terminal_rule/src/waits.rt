@@ -6,9 +6,7 @@ ghost use Rattle.jt_terminal_rule.specs.Rule as rule;
 
 use crate::state::{Phase, State, Wait};
 use jt_value::gap;
-
-/// The gap of next from mark at which no unit may be formed.
-const FAR: u16 = 32_767;
+use jt_value::limits::{SERIAL_WINDOW, UNIT_WINDOW};
 
 // The longest wait, in milliseconds.
 const LONGEST: u64 = 1 << 62;
@@ -18,16 +16,16 @@ const SECOND: u64 = 1_000;
 
 /// Whether a unit of the next serial may be formed.
 pub fn has_serial(mark: u16, next: u16) -> bool
-    ensures { result ≡ nat_lt (gap_of mark next) 32767 }
+    ensures { result ≡ nat_lt (gap_of mark next) SERIAL_WINDOW }
 {
-    gap(mark, next) < FAR
+    gap(mark, next) < SERIAL_WINDOW
 }
 
 // A control message takes the next serial, and leaves the last one before the limit to a unit.
 pub(crate) fn after_control(state: &State) -> u16
     ensures { result ≡ rule.after_control state.now }
 {
-    if gap(state.mark, state.next) < FAR - 1 {
+    if gap(state.mark, state.next) < UNIT_WINDOW {
         state.next.wrapping_add(1)
     } else {
         state.next
@@ -39,16 +37,16 @@ pub fn after_packets(state: &State, count: usize) -> u16
     ensures { result ≡ rule.after_packets state.now count }
 {
     let gone = gap(state.mark, state.next);
-    if gone >= FAR - 1 {
+    if gone >= UNIT_WINDOW {
         return state.next;
     }
-    let taken = count.min(usize::from(FAR - 1 - gone)) as u16;
+    let taken = count.min(usize::from(UNIT_WINDOW - gone)) as u16;
     state.next.wrapping_add(taken)
 }
 
 /// A first sending now.
-pub fn begun(state: &State) -> Wait
-    ensures { result ≡ rule.begun state.now }
+pub fn first_wait(state: &State) -> Wait
+    ensures { result ≡ rule.first_wait state.now }
 {
     Wait {
         since: state.time,

@@ -9,13 +9,13 @@ use Rattle.jt_terminal_rule.specs.declared.settings.Settings.{Settings}
 use Rattle.jt_terminal_rule.specs.declared.state.GiveUp.{GiveUp}
 use Rattle.jt_terminal_rule.specs.Messages.{frame_of, header_of}
 use Rattle.jt_terminal_rule.specs.declared.state.State.{State}
-use Rattle.jt_terminal_rule.specs.Rule.{Step, Ruled, accepted, and_then, fill, fills, next_one, or_stays, stays, sends}
+use Rattle.jt_terminal_rule.specs.Rule.{Step, Ruled, after_acceptance, and_then, fill, fill_window, send_next, or_stays, stays, sends}
 use Rattle.jt_subpacket.specs.Parts.{Message as Packet}
 use Rattle.jt_terminal_rule.specs.declared.state.AnswerKind.{AnswerKind}
 use Rattle.jt_terminal_rule.specs.Answers.{Answer}
 use Rattle.jt_terminal_rule.specs.Machines.{held_after}
 use Rattle.jt_terminal_rule.specs.Rule as rule
-use Rattle.jt_terminal_steps.specs.Running.{CutShort, MayBeCut, Ran, Went, accepts_oldest, holds_after, took}
+use Rattle.jt_terminal_steps.specs.Running.{CutShort, MayBeCut, Ran, Went, accept_first, holds_after, took}
 
 pub sends-append : (settings : Settings) (a b : List Step) → sends settings (a ++ b) ≡ sends settings a ++ sends settings b
 sends-append settings [] b = refl
@@ -92,9 +92,9 @@ cut_none steps old now same = record { done = []; left = steps; parts = refl; he
 
 -- ---- the window
 
-pub fill-more : (n : ℕ) (s : State) → n ≢ 0 → fill n s ≡ or_stays s (next_one s) (fill (n - 1))
+pub fill-more : (n : ℕ) (s : State) → n ≢ 0 → fill n s ≡ or_stays s (send_next s) (fill (n - 1))
 fill-more zero s ne = absurd (ne refl)
-fill-more (suc n) s ne = let same : n ≡ suc n - 1 = omega arith in ap (λ (k : ℕ). or_stays s (next_one s) (fill k)) same
+fill-more (suc n) s ne = let same : n ≡ suc n - 1 = omega arith in ap (λ (k : ℕ). or_stays s (send_next s) (fill k)) same
 
 -- one more unit, and then the rest of the window
 pub filled_more : (settings : Settings) (n : ℕ) (o : Option Ruled) (s mid state : State) (old held_mid now : Option Held) (out out_mid out_now : List (List ℕ)) → mid.settings ≡ settings
@@ -120,15 +120,15 @@ filled_first n (Some r) s old now cut = cut_first r (fill n) old now cut
 -- ---- the oldest unit is accepted, and then the window is filled
 
 pub accepted_ran : (s : State) (units : List OneUnit) (mid state : State) (old held_mid now : Option Held) (out out_mid out_now : List (List ℕ)) → 0 < length units → mid ≡ took s units → held_mid ≡ changed Accepts old → out_mid ≡ out → mid.settings ≡ s.settings
-    → Ran mid.settings (fills mid) state held_mid now out_mid out_now None → Ran s.settings (accepts_oldest s units) state old now out out_now None
+    → Ran mid.settings (fill_window mid) state held_mid now out_mid out_now None → Ran s.settings (accept_first s units) state old now out out_now None
 accepted_ran s [] mid state old held_mid now out out_mid out_now some is held sent same ran = absurd (omega (arith, some))
 accepted_ran s (u ∷ more) mid state old held_mid now out out_mid out_now some is held sent same ran =
-    ran_then s.settings (record { state = accepted s u more; steps = rule.Changes Accepts ∷ []; end = None }) fills mid state old held_mid now out out_mid out_now None is held (sent ∙ sym (append-nil out)) same ran
+    ran_then s.settings (record { state = after_acceptance s u more; steps = rule.Changes Accepts ∷ []; end = None }) fill_window mid state old held_mid now out out_mid out_now None is held (sent ∙ sym (append-nil out)) same ran
 
 pub accepted_cut : (s : State) (units : List OneUnit) (mid : State) (old held_mid now : Option Held) → 0 < length units → mid ≡ took s units → held_mid ≡ changed Accepts old
-    → CutShort (fills mid).steps held_mid now → CutShort (accepts_oldest s units).steps old now
+    → CutShort (fill_window mid).steps held_mid now → CutShort (accept_first s units).steps old now
 accepted_cut s [] mid old held_mid now some is held cut = absurd (omega (arith, some))
-accepted_cut s (u ∷ more) mid old held_mid now some is held cut = cut_then (record { state = accepted s u more; steps = rule.Changes Accepts ∷ []; end = None }) fills mid old held_mid now is held cut
+accepted_cut s (u ∷ more) mid old held_mid now some is held cut = cut_then (record { state = after_acceptance s u more; steps = rule.Changes Accepts ∷ []; end = None }) fill_window mid old held_mid now is held cut
 
 -- ---- messages that are no units change nothing of the vault
 
@@ -136,16 +136,16 @@ quiet_oldest : (units : List OneUnit) (held : Option Held) → holds_after (rule
 quiet_oldest [] held = refl
 quiet_oldest (u ∷ units) held = refl
 
-pub quiet_again : (s : State) (p : Phase) (held : Option Held) → holds_after (rule.again s p) held ≡ held
+pub quiet_again : (s : State) (p : Phase) (held : Option Held) → holds_after (rule.steps_again s p) held ≡ held
 quiet_again s Down held = refl
 quiet_again s (Registering serial) held = refl
 quiet_again s (Authenticating serial) held = refl
 quiet_again s (Live serial) held = quiet_oldest s.units held
 
-pub quiet_beats : (s : State) (held : Option Held) → holds_after (rule.beats_if_silent s).steps held ≡ held
+pub quiet_beats : (s : State) (held : Option Held) → holds_after (rule.heartbeat_if_silent s).steps held ≡ held
 quiet_beats s held = by (rule.is_silent s)
   where
-    by : (b : Bool) → holds_after (cond b (rule.beats s) (rule.stays s)).steps held ≡ held
+    by : (b : Bool) → holds_after (cond b (rule.say_heartbeat s) (rule.stays s)).steps held ≡ held
     by true = refl
     by false = refl
 

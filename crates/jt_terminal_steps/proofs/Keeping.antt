@@ -8,8 +8,8 @@ use Rattle.std.proofs.lemmas.List.Elements.{All-drop, All-push}
 use Rattle.jt_value.specs.Serials.{serial_of, gap_of}
 use Rattle.jt_position.specs.Fixes.{IsFix, FixesAre}
 use Rattle.jt_store.specs.declared.unit.Unit.{Unit as OneUnit}
-use Rattle.jt_store.specs.Tables.{Told}
-use Rattle.jt_store.specs.Vaults.{Held, Change, Notes, Forms, Accepts, Sets, held_by, changed, settled, fixes_carried, AreInOrder, Gaps, IsUnit, gap_after}
+use Rattle.jt_store.specs.Tables.{WhereKnown}
+use Rattle.jt_store.specs.Vaults.{Held, Change, Notes, Forms, Accepts, Sets, held_by, changed, accepted_count, fixes_carried, AreInOrder, Gaps, IsUnit, gap_after}
 use Rattle.jt_store.specs.Vaults as vaults
 use Rattle.jt_terminal_rule.specs.declared.state.Phase.{Phase}
 use Rattle.jt_terminal_rule.specs.declared.state.Phase.TheVariants.{Down, Registering, Authenticating}
@@ -18,7 +18,7 @@ use Rattle.jt_terminal_rule.specs.Law.{UnitCarriesFirstFixes}
 use Rattle.jt_terminal_rule.specs.Rule as rule
 use Rattle.jt_terminal_rule.specs.declared.state.State.{State}
 use Rattle.jt_terminal_rule.specs.declared.state.Wait.{Wait}
-use Rattle.jt_terminal_rule.specs.Rule.{noted, accepted, one_sent, down, risen, spoken}
+use Rattle.jt_terminal_rule.specs.Rule.{with_fix, after_acceptance, one_sent, down, capped_sum, after_saying}
 use Rattle.jt_terminal_rule.specs.Machines.{IsPhase, IsInOrder, Agrees}
 use Rattle.jt_params.specs.Tables.{HasOctets}
 use Rattle.jt_terminal_rule.specs.declared.state.AnswerKind.{AnswerKind}
@@ -28,7 +28,7 @@ use Rattle.jt_terminal_rule.specs.Answers.{Answer, answer_to_lack}
 use Rattle.jt_terminal_rule.specs.Rule.{changed_by}
 use Rattle.jt_terminal_rule.proofs.Answering.{changed_agrees, changed_order, packets_agrees, packets_order}
 use Rattle.jt_terminal_answers.specs.Answering.{AllOrNothing}
-use Rattle.jt_terminal_steps.specs.Running.{IsSound, Counts, took}
+use Rattle.jt_terminal_steps.specs.Running.{IsSound, CountsAsVault, took}
 use Rattle.jt_terminal_rule.proofs.Batches.{unit_carries}
 use Rattle.jt_terminal_rule.proofs.Forming.{gaps_push, serials_push, counts_push, next_gap, after_push, unit_serial, form_steps, with_unit}
 use Rattle.jt_terminal_rule.proofs.Accepting.{accepted_order, accepted_agrees, found}
@@ -38,16 +38,16 @@ use Rattle.jt_terminal_rule.proofs.Measuring.{take_at}
 
 -- ---- facts where they are told
 
-told_map : (held : Option Held) (P Q : Held → Type 0) → ((h : Held) → P h → Q h) → Told held P → Told held Q
+told_map : (held : Option Held) (P Q : Held → Type 0) → ((h : Held) → P h → Q h) → WhereKnown held P → WhereKnown held Q
 told_map None P Q f t = tt
 told_map (Some h) P Q f t = f h t
 
-told_changed : (change : Change) (held : Option Held) (P Q : Held → Type 0) → ((h : Held) → P h → Q (held_by change h)) → Told held P → Told (changed change held) Q
+told_changed : (change : Change) (held : Option Held) (P Q : Held → Type 0) → ((h : Held) → P h → Q (held_by change h)) → WhereKnown held P → WhereKnown (changed change held) Q
 told_changed change None P Q f t = tt
 told_changed change (Some h) P Q f t = f h t
 
 abbrev AgreesWhole : State → Held → Type 0
-AgreesWhole s h = Agrees h s × Counts h s
+AgreesWhole s h = Agrees h s × CountsAsVault h s
 
 -- ---- states with the same lists
 
@@ -62,13 +62,13 @@ sound_kept held s p time w said sent is le sound = record {
       (λ h t. (keep_agrees h s p time w said sent t.0, record { recorded = t.1.recorded; accepted = t.1.accepted })) sound.agrees;
 }
 
-pub sound_spoken : (held : Option Held) (s : State) (p : Phase) (w : Wait) → IsPhase p → IsSound held s → IsSound held (spoken s p w)
+pub sound_spoken : (held : Option Held) (s : State) (p : Phase) (w : Wait) → IsPhase p → IsSound held s → IsSound held (after_saying s p w)
 sound_spoken held s p w is sound = record {
   good = sound.good;
   order = spoken_order s p w is sound.order;
   fixes = sound.fixes;
   params = sound.params;
-  agrees = told_map held (AgreesWhole s) (AgreesWhole (spoken s p w)) (λ h t. (spoken_agrees h s p w sound.order t.0, record { recorded = t.1.recorded; accepted = t.1.accepted })) sound.agrees;
+  agrees = told_map held (AgreesWhole s) (AgreesWhole (after_saying s p w)) (λ h t. (spoken_agrees h s p w sound.order t.0, record { recorded = t.1.recorded; accepted = t.1.accepted })) sound.agrees;
 }
 
 pub sound_down : (held : Option Held) (s : State) → IsSound held s → IsSound held (down s)
@@ -76,16 +76,16 @@ sound_down held s sound = sound_kept held s Down s.time s.wait s.said 0 tt (omeg
 
 -- ---- a fix is recorded
 
-counted_on : (a n : ℕ) → a ≡ min n (2 ^ 64 - 1) → risen a 1 ≡ min (n + 1) (2 ^ 64 - 1)
+counted_on : (a n : ℕ) → a ≡ min n (2 ^ 64 - 1) → capped_sum a 1 ≡ min (n + 1) (2 ^ 64 - 1)
 counted_on a n e = grind arith
 
-pub sound_noted : (held : Option Held) (s : State) (fix : List ℕ) → IsFix fix → IsSound held s → IsSound (changed (Notes fix) held) (noted s fix)
+pub sound_noted : (held : Option Held) (s : State) (fix : List ℕ) → IsFix fix → IsSound held s → IsSound (changed (Notes fix) held) (with_fix s fix)
 sound_noted held s fix is sound = record {
   good = sound.good;
   order = let o = sound.order in record { order = o.order; serials = o.serials; phase = o.phase; mark = o.mark; next = o.next; sent = o.sent };
   fixes = All-push IsFix s.waiting fix sound.fixes is;
   params = sound.params;
-  agrees = told_changed (Notes fix) held (AgreesWhole s) (AgreesWhole (noted s fix))
+  agrees = told_changed (Notes fix) held (AgreesWhole s) (AgreesWhole (with_fix s fix))
       (λ h t. (
         (noted_is_a_step h s fix is sound.order t.0).agrees,
         record {
@@ -124,7 +124,7 @@ module _ (carries : UnitCarriesFirstFixes) (s : State) (o : IsInOrder s) (fix : 
   formed_order : IsInOrder (with_unit s u (fix ∷ more))
   formed_order = record { order = order; serials = serials_push s.units u o.serials (let lt = o.next in omega (arith, serial, lt)); phase = o.phase; mark = o.mark; next = omega arith; sent = let le = o.sent in omega (arith, length-append s.units (u ∷ []), le) }
 
-settled_formed : (h : Held) (u : OneUnit) → h.accepted ≤ length h.units → settled (held_by (Forms u) h) ≡ settled h
+settled_formed : (h : Held) (u : OneUnit) → h.accepted ≤ length h.units → accepted_count (held_by (Forms u) h) ≡ accepted_count h
 settled_formed h u le = ap fixes_carried (take-append-le h.accepted h.units (u ∷ []) le)
 
 abbrev formed_by : State → OneUnit → State
@@ -156,7 +156,7 @@ formed_sound carries held s (fix ∷ more) unit waits is near sound =
     }))
 
 sent_sound : (held : Option Held) (s : State) → s.sent < length s.units → IsSound held s → IsSound held (one_sent s)
-sent_sound held s lt sound = sound_kept held s s.phase s.time (cond (s.sent == 0) (rule.begun s) s.wait) s.time (s.sent + 1) sound.order.phase (omega (arith, lt)) sound
+sent_sound held s lt sound = sound_kept held s s.phase s.time (cond (s.sent == 0) (rule.first_wait s) s.wait) s.time (s.sent + 1) sound.order.phase (omega (arith, lt)) sound
 
 -- a unit is formed and sent
 pub sound_formed : FixesAre → (held : Option Held) (s : State) (unit : OneUnit) → Some unit ≡ unit_from s.next s.waiting → nat_lt (gap_of s.mark s.next) 32767 ≡ true → IsSound held s
@@ -171,48 +171,48 @@ pub sound_sent : (held : Option Held) (s : State) (unit : OneUnit) → slice_get
 sound_sent held s unit there sound = sent_sound held s (slice_get_within s.units s.sent unit there) sound
 
 may_form : UnitCarriesFirstFixes → (held : Option Held) (s : State) (fixes : List (List ℕ)) (unit : OneUnit) → s.waiting ≡ fixes → Some unit ≡ unit_from s.next fixes → gap_of s.mark s.next < 32767 → IsSound held s
-    → IsUnit unit × Told held (λ h. vaults.MayCommit h unit)
+    → IsUnit unit × WhereKnown held (λ h. vaults.MayCommit h unit)
 may_form carries held s [] unit waits is near sound = absurd cc
 may_form carries held s (fix ∷ more) unit waits is near sound =
     let u = unit_of s.next fix (fix ∷ more) in
     let same = some_is unit u is in
     let are = subst (All IsFix) waits sound.fixes in
-    subst (λ (x : OneUnit). IsUnit x × Told held (λ h. vaults.MayCommit h x)) (sym same) (
+    subst (λ (x : OneUnit). IsUnit x × WhereKnown held (λ h. vaults.MayCommit h x)) (sym same) (
       carries.unit s.next fix more are,
       told_map held (AgreesWhole s) (λ h. vaults.MayCommit h u) (λ h t. (form_steps carries h s sound.order t.0 fix more waits near).commits.0.1) sound.agrees,
     )
 
 -- the vault takes the unit
 pub form_is_good : FixesAre → (held : Option Held) (s : State) (unit : OneUnit) → Some unit ≡ unit_from s.next s.waiting → nat_lt (gap_of s.mark s.next) 32767 ≡ true → IsSound held s
-    → IsUnit unit × Told held (λ h. vaults.MayCommit h unit)
+    → IsUnit unit × WhereKnown held (λ h. vaults.MayCommit h unit)
 form_is_good fixes_are held s unit is near sound = may_form (unit_carries fixes_are) held s s.waiting unit refl is (ltb-true (gap_of s.mark s.next) 32767 near) sound
 
 -- ---- the oldest unit is accepted
 
-risen_on : (a n by : ℕ) → a ≡ min n (2 ^ 64 - 1) → risen a by ≡ min (n + by) (2 ^ 64 - 1)
+risen_on : (a n by : ℕ) → a ≡ min n (2 ^ 64 - 1) → capped_sum a by ≡ min (n + by) (2 ^ 64 - 1)
 risen_on a n by e = grind arith
 
-settled_accepted : (h : Held) (u : OneUnit) → slice_get h.units h.accepted ≡ Some u → settled (held_by Accepts h) ≡ settled h + u.count
+settled_accepted : (h : Held) (u : OneUnit) → slice_get h.units h.accepted ≡ Some u → accepted_count (held_by Accepts h) ≡ accepted_count h + u.count
 settled_accepted h u there = ap fixes_carried (take_at h.units h.accepted u there) ∙ counts_push (take h.accepted h.units) u
 
-pub sound_accepted : (held : Option Held) (s : State) (u : OneUnit) (more : List OneUnit) → s.units ≡ u ∷ more → IsSound held s → IsSound (changed Accepts held) (accepted s u more)
+pub sound_accepted : (held : Option Held) (s : State) (u : OneUnit) (more : List OneUnit) → s.units ≡ u ∷ more → IsSound held s → IsSound (changed Accepts held) (after_acceptance s u more)
 sound_accepted held s u more is sound = record {
   good = sound.good;
   order = accepted_order s u more sound.order is;
   fixes = sound.fixes;
   params = sound.params;
-  agrees = told_changed Accepts held (AgreesWhole s) (AgreesWhole (accepted s u more))
+  agrees = told_changed Accepts held (AgreesWhole s) (AgreesWhole (after_acceptance s u more))
       (λ h t. (
         accepted_agrees h s u more sound.order t.0 is,
         record {
           recorded = t.1.recorded;
-          accepted = risen_on s.accepted (settled h) u.count t.1.accepted ∙ ap (λ (n : ℕ). min n (2 ^ 64 - 1)) (sym (settled_accepted h u (found h s u more sound.order t.0 is).4));
+          accepted = risen_on s.accepted (accepted_count h) u.count t.1.accepted ∙ ap (λ (n : ℕ). min n (2 ^ 64 - 1)) (sym (settled_accepted h u (found h s u more sound.order t.0 is).4));
         },
       )) sound.agrees;
 }
 
 -- the vault takes the acceptance
-pub accept_is_good : (held : Option Held) (s : State) (u : OneUnit) (more : List OneUnit) → s.units ≡ u ∷ more → IsSound held s → Told held (λ h. h.accepted < length h.units)
+pub accept_is_good : (held : Option Held) (s : State) (u : OneUnit) (more : List OneUnit) → s.units ≡ u ∷ more → IsSound held s → WhereKnown held (λ h. h.accepted < length h.units)
 accept_is_good held s u more is sound = told_map held (AgreesWhole s) (λ h. h.accepted < length h.units) (λ h t. (found h s u more sound.order t.0 is).3) sound.agrees
 
 -- ---- the code
@@ -238,8 +238,8 @@ pub sound_forgets : (held : Option Held) (s : State) → IsSound held s → IsSo
 sound_forgets held s sound = sound_down (changed (Sets None) held) (record s { code = None }) (sound_coded held s None tt sound)
 
 -- the code is stored, and an authentication sent
-pub sound_coded_on : (held : Option Held) (s : State) (code : List ℕ) → length code ≤ 255 → IsSound held s → IsSound (changed (Sets (Some code)) held) (spoken (record s { code = Some code }) (Authenticating s.next) (rule.begun s))
-sound_coded_on held s code short sound = sound_spoken (changed (Sets (Some code)) held) (record s { code = Some code }) (Authenticating s.next) (rule.begun s) sound.order.next (sound_coded held s (Some code) short sound)
+pub sound_coded_on : (held : Option Held) (s : State) (code : List ℕ) → length code ≤ 255 → IsSound held s → IsSound (changed (Sets (Some code)) held) (after_saying (record s { code = Some code }) (Authenticating s.next) (rule.first_wait s))
+sound_coded_on held s code short sound = sound_spoken (changed (Sets (Some code)) held) (record s { code = Some code }) (Authenticating s.next) (rule.first_wait s) sound.order.next (sound_coded held s (Some code) short sound)
 
 -- ---- the oldest unit, if there is one
 
@@ -247,33 +247,33 @@ pub sound_took : (held : Option Held) (s : State) (units : List OneUnit) → s.u
 sound_took held s [] is some sound = absurd (omega (arith, some))
 sound_took held s (u ∷ more) is some sound = sound_accepted held s u more is sound
 
-pub took_is_good : (held : Option Held) (s : State) (units : List OneUnit) → s.units ≡ units → 0 < length units → IsSound held s → Told held (λ h. h.accepted < length h.units)
+pub took_is_good : (held : Option Held) (s : State) (units : List OneUnit) → s.units ≡ units → 0 < length units → IsSound held s → WhereKnown held (λ h. h.accepted < length h.units)
 took_is_good held s [] is some sound = absurd (omega (arith, some))
 took_is_good held s (u ∷ more) is some sound = accept_is_good held s u more is sound
 
 -- ---- messages that are no units
 
-pub sound_beats : (held : Option Held) (s : State) → IsSound held s → IsSound held (rule.beats s).state
+pub sound_beats : (held : Option Held) (s : State) → IsSound held s → IsSound held (rule.say_heartbeat s).state
 sound_beats held s sound = sound_spoken held s s.phase s.wait sound.order.phase sound
 
-pub sound_beats_if_silent : (held : Option Held) (s : State) → IsSound held s → IsSound held (rule.beats_if_silent s).state
+pub sound_beats_if_silent : (held : Option Held) (s : State) → IsSound held s → IsSound held (rule.heartbeat_if_silent s).state
 sound_beats_if_silent held s sound = by (rule.is_silent s)
   where
-    by : (b : Bool) → IsSound held (cond b (rule.beats s) (rule.stays s)).state
+    by : (b : Bool) → IsSound held (cond b (rule.say_heartbeat s) (rule.stays s)).state
     by true = sound_beats held s sound
     by false = sound
 
-pub sound_repeats : (held : Option Held) (s : State) → IsSound held s → IsSound held (rule.repeats s).state
-sound_repeats held s sound = sound_kept held s s.phase s.time (rule.sent_again s) s.time s.sent sound.order.phase sound.order.sent sound
+pub sound_repeats : (held : Option Held) (s : State) → IsSound held s → IsSound held (rule.repeat_sending s).state
+sound_repeats held s sound = sound_kept held s s.phase s.time (rule.repeat_wait s) s.time s.sent sound.order.phase sound.order.sent sound
 
-pub sound_introduces : (held : Option Held) (s : State) (code : Option (List ℕ)) → IsSound held s → IsSound held (rule.introduces s code).state
-sound_introduces held s None sound = sound_spoken held s (Registering s.next) (rule.begun s) sound.order.next sound
-sound_introduces held s (Some code) sound = sound_spoken held s (Authenticating s.next) (rule.begun s) sound.order.next sound
+pub sound_introduces : (held : Option Held) (s : State) (code : Option (List ℕ)) → IsSound held s → IsSound held (rule.introduce s code).state
+sound_introduces held s None sound = sound_spoken held s (Registering s.next) (rule.first_wait s) sound.order.next sound
+sound_introduces held s (Some code) sound = sound_spoken held s (Authenticating s.next) (rule.first_wait s) sound.order.next sound
 
 pub sound_reopened : (held : Option Held) (s : State) → IsSound held s → IsSound held (record s { sent = 0 })
 sound_reopened held s sound = sound_kept held s s.phase s.time s.wait s.said 0 sound.order.phase (omega arith) sound
 
-pub sound_opened : (held : Option Held) (s : State) → IsSound held s → IsSound held (rule.opened s).state
+pub sound_opened : (held : Option Held) (s : State) → IsSound held s → IsSound held (rule.on_open s).state
 sound_opened held s sound = sound_introduces held (record s { sent = 0 }) s.code (sound_reopened held s sound)
 
 pub sound_ticked : (held : Option Held) (s : State) (now : ℕ) → IsSound held s → IsSound held (record s { time = now })

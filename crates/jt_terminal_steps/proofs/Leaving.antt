@@ -24,13 +24,13 @@ use Rattle.jt_terminal_rule.specs.Answers.{Answer, answer_to, answer_to_lack, id
 use Rattle.jt_terminal_rule.specs.Forming.{unit_of}
 use Rattle.jt_value.specs.declared.limits.TheConstants.{BODY_LIMIT}
 use Rattle.jt_terminal_rule.specs.Messages.{header_of}
-use Rattle.jt_terminal_rule.specs.Rule.{Step, Ruled, accepted, accepts, after_packets, and_then, answer_packets, answers, beats, beats_if_silent, changed_by, fill, fills, forms_one, message_limit, next_one, one_sent, or_stays, repeats, says_answer, says_each, says_packets, sends_one, stays, window}
+use Rattle.jt_terminal_rule.specs.Rule.{Step, Ruled, after_acceptance, accept_oldest, after_packets, and_then, answer_packets, answers, say_heartbeat, heartbeat_if_silent, changed_by, fill, fill_window, form_unit, message_limit, send_next, one_sent, or_stays, repeat_sending, says_answer, says_each, says_packets, send_unit, stays, window}
 use Rattle.jt_terminal_rule.specs.Rule as rule
 use Rattle.jt_value.specs.declared.phone.Edition.{Edition}
 use Rattle.jt_value.specs.declared.phone.Edition.TheVariants.{E2013, E2019}
 use Rattle.jt_terminal_answers.specs.Answering.{AllOrNothing}
 use Rattle.jt_terminal_steps.specs.AfterError.{AllTablesOrNone, AreSameParams, AreSameTables, CutLists, Lists, lists_accepted, lists_after, lists_changed, lists_of, next_said, sets_params_in}
-use Rattle.jt_terminal_steps.specs.Running.{Went, accepts_oldest, took}
+use Rattle.jt_terminal_steps.specs.Running.{Went, accept_first, took}
 
 -- ---- one list of steps after another
 
@@ -85,15 +85,15 @@ formed_lists s fix more waits true =
     let unit = unit_of s.next fix (fix ∷ more) in
     ap (λ (fixes : List (List ℕ)). record (lists_of s) { units = s.units ++ unit ∷ []; waiting = drop unit.count fixes; next = serial_of (s.next + 1) }) (sym waits)
 
-forms_lists : (s : State) (fixes : List (List ℕ)) → s.waiting ≡ fixes → ListsIf s (forms_one s fixes)
+forms_lists : (s : State) (fixes : List (List ℕ)) → s.waiting ≡ fixes → ListsIf s (form_unit s fixes)
 forms_lists s [] waits = tt
 forms_lists s (fix ∷ more) waits = formed_lists s fix more waits (nat_lt (gap_of s.mark s.next) 32767)
 
-sends_lists : (s : State) (unit : Option OneUnit) → ListsIf s (sends_one s unit)
+sends_lists : (s : State) (unit : Option OneUnit) → ListsIf s (send_unit s unit)
 sends_lists s None = forms_lists s s.waiting refl
 sends_lists s (Some u) = refl
 
-pub next_lists : (s : State) (unit : Option OneUnit) (b : Bool) → ListsIf s (cond b (sends_one s unit) None)
+pub next_lists : (s : State) (unit : Option OneUnit) (b : Bool) → ListsIf s (cond b (send_unit s unit) None)
 next_lists s unit true = sends_lists s unit
 next_lists s unit false = tt
 
@@ -104,16 +104,16 @@ filled_lists settings n None s mid old held_mid out out_mid now own went cut = a
 filled_lists settings n (Some r) s mid old held_mid out out_mid now own went cut = lists_then r (fill n) s mid now went.is_state own cut
 
 pub lists_filled : (settings : Settings) (n : ℕ) (s mid : State) (old held_mid : Option Held) (out out_mid : List (List ℕ)) (now : Lists)
-    → Went settings (next_one s) true s mid old held_mid out out_mid → CutLists (fill n mid).steps (lists_of mid) now → CutLists (or_stays s (next_one s) (fill n)).steps (lists_of s) now
-lists_filled settings n s mid old held_mid out out_mid now went cut = filled_lists settings n (next_one s) s mid old held_mid out out_mid now (next_lists s (slice_get s.units s.sent) (nat_lt s.sent window)) went cut
+    → Went settings (send_next s) true s mid old held_mid out out_mid → CutLists (fill n mid).steps (lists_of mid) now → CutLists (or_stays s (send_next s) (fill n)).steps (lists_of s) now
+lists_filled settings n s mid old held_mid out out_mid now went cut = filled_lists settings n (send_next s) s mid old held_mid out out_mid now (next_lists s (slice_get s.units s.sent) (nat_lt s.sent window)) went cut
 
 -- ---- the oldest unit is accepted
 
 pub lists_took : (s : State) (units : List OneUnit) (mid : State) (now : Lists) → s.units ≡ units → 0 < length units → mid ≡ took s units
-    → CutLists (fills mid).steps (lists_of mid) now → CutLists (accepts_oldest s units).steps (lists_of s) now
+    → CutLists (fill_window mid).steps (lists_of mid) now → CutLists (accept_first s units).steps (lists_of s) now
 lists_took s [] mid now are some is cut = absurd (omega (arith, some))
 lists_took s (u ∷ more) mid now are some is cut =
-    lists_then (record { state = accepted s u more; steps = rule.Changes Accepts ∷ []; end = None }) fills s mid now is (ap (λ (units : List OneUnit). lists_accepted units (lists_of s)) (sym are)) cut
+    lists_then (record { state = after_acceptance s u more; steps = rule.Changes Accepts ∷ []; end = None }) fill_window s mid now is (ap (λ (units : List OneUnit). lists_accepted units (lists_of s)) (sym are)) cut
 
 -- ---- messages that are no units
 
@@ -142,13 +142,13 @@ said_far mark next serial far = by (nat_lt (gap_of mark next) 32766) refl
     by true e = let lt = ltb-true (gap_of mark next) 32766 e in absurd (omega (arith, lt, far))
     by false e = refl
 
-pub lists_beats : (s : State) → HasItsLists s (beats s)
+pub lists_beats : (s : State) → HasItsLists s (say_heartbeat s)
 lists_beats s = ap (λ (n : ℕ). record (lists_of s) { next = n }) (said_now s.mark s.next)
 
-pub lists_beats_if_silent : (s : State) → HasItsLists s (beats_if_silent s)
+pub lists_beats_if_silent : (s : State) → HasItsLists s (heartbeat_if_silent s)
 lists_beats_if_silent s = by (rule.is_silent s)
   where
-    by : (b : Bool) → HasItsLists s (cond b (beats s) (stays s))
+    by : (b : Bool) → HasItsLists s (cond b (say_heartbeat s) (stays s))
     by true = lists_beats s
     by false = refl
 
@@ -161,13 +161,13 @@ no_steps [] left k e = refl
 no_steps (x ∷ done) left k e = absurd cc
 
 -- what is waited for is sent again, and then the terminal's way on was cut short, which has steps where it is Live alone
-pub lists_repeats : (s mid : State) (p : Phase) (now : Lists) → mid ≡ record s { wait = rule.sent_again s; said = s.time } → CutLists (rule.goes_on p mid).steps (lists_of mid) now
-    → CutLists (rule.again s p ++ (rule.goes_on p (record s { wait = rule.sent_again s; said = s.time })).steps) (lists_of s) now
+pub lists_repeats : (s mid : State) (p : Phase) (now : Lists) → mid ≡ record s { wait = rule.repeat_wait s; said = s.time } → CutLists (rule.watch_and_fill p mid).steps (lists_of mid) now
+    → CutLists (rule.steps_again s p ++ (rule.watch_and_fill p (record s { wait = rule.repeat_wait s; said = s.time })).steps) (lists_of s) now
 lists_repeats s mid Down now is cut = lists_none [] (lists_of s) now (cut.lists ∙ (no_steps cut.done cut.left (lists_of mid) cut.parts ∙ ap lists_of is))
 lists_repeats s mid (Registering serial) now is cut = lists_none _ (lists_of s) now (cut.lists ∙ (no_steps cut.done cut.left (lists_of mid) cut.parts ∙ ap lists_of is))
 lists_repeats s mid (Authenticating serial) now is cut = lists_none _ (lists_of s) now (cut.lists ∙ (no_steps cut.done cut.left (lists_of mid) cut.parts ∙ ap lists_of is))
 lists_repeats s mid (Live serial) now is cut =
-    lists_then (record { state = record s { wait = rule.sent_again s; said = s.time }; steps = rule.oldest_again s.units; end = None }) (rule.goes_on (Live serial)) s mid now is (oldest_lists s.units (lists_of s)) cut
+    lists_then (record { state = record s { wait = rule.repeat_wait s; said = s.time }; steps = rule.oldest_again s.units; end = None }) (rule.watch_and_fill (Live serial)) s mid now is (oldest_lists s.units (lists_of s)) cut
 
 -- ---- the packets of an answer
 
@@ -298,28 +298,28 @@ formed_tables : (s : State) (fix : List ℕ) (more : List (List ℕ)) (b : Bool)
 formed_tables s fix more true = record { timing = refl; params = refl; regions = refl }
 formed_tables s fix more false = tt
 
-waiting_tables : (s : State) (fixes : List (List ℕ)) → TablesIf s (forms_one s fixes)
+waiting_tables : (s : State) (fixes : List (List ℕ)) → TablesIf s (form_unit s fixes)
 waiting_tables s [] = tt
 waiting_tables s (fix ∷ more) = formed_tables s fix more (nat_lt (gap_of s.mark s.next) 32767)
 
-sends_tables : (s : State) (unit : Option OneUnit) → TablesIf s (sends_one s unit)
+sends_tables : (s : State) (unit : Option OneUnit) → TablesIf s (send_unit s unit)
 sends_tables s None = waiting_tables s s.waiting
 sends_tables s (Some u) = record { timing = refl; params = refl; regions = refl }
 
-next_tables : (s : State) (unit : Option OneUnit) (b : Bool) → TablesIf s (cond b (sends_one s unit) None)
+next_tables : (s : State) (unit : Option OneUnit) (b : Bool) → TablesIf s (cond b (send_unit s unit) None)
 next_tables s unit true = sends_tables s unit
 next_tables s unit false = tt
 
 fill_tables : (n : ℕ) (s : State) → AreSameTables s (fill n s).state
 fill_tables zero s = record { timing = refl; params = refl; regions = refl }
-fill_tables (suc n) s = by (next_one s) (next_tables s (slice_get s.units s.sent) (nat_lt s.sent window)) (λ t. fill_tables n t)
+fill_tables (suc n) s = by (send_next s) (next_tables s (slice_get s.units s.sent) (nat_lt s.sent window)) (λ t. fill_tables n t)
   where
     by : (r : Option Ruled) → TablesIf s r → ((t : State) → AreSameTables t (fill n t).state) → AreSameTables s (or_stays s r (fill n)).state
     by None one rest = record { timing = refl; params = refl; regions = refl }
     by (Some r) one rest = tables_on s r.state (fill n r.state).state one (rest r.state)
 
 -- the window leaves them
-pub fills_tables : (s : State) → AreSameTables s (fills s).state
+pub fills_tables : (s : State) → AreSameTables s (fill_window s).state
 fills_tables s = fill_tables window s
 
 says_tables : (s : State) (says : Option (AnswerKind × List ℕ)) → AreSameTables s (says_answer s says).state
@@ -339,7 +339,7 @@ tables_back a b now one two = record { timing = two.timing ∙ sym one.timing; p
 
 -- an answer, and then the window
 abbrev pub answers_and_fills : State → Answer → Ruled
-answers_and_fills s a = and_then (answers s a) fills
+answers_and_fills s a = and_then (answers s a) fill_window
 
 -- nothing of an answer was done, or its times and tables were taken
 pub left_lists : (s now : State) (a : Answer) → AllOrNothing s a now → lists_of now ≡ lists_of s

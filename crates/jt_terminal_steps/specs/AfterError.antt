@@ -1,5 +1,6 @@
 -- What an error in an event leaves of a terminal's state, beside that no line is in use. To be believed.
 use Rattle.std.specs.Prelude.{ℕ, ◌≡◌, ◌⊎◌, ◌+◌, List, [], ◌∷◌, ◌++◌, drop, Option, Bool, true, false, ◌==◌, ◌&&◌, nat_lt, if◌then◌else◌}
+use Rattle.jt_value.specs.declared.limits.TheConstants.{UNIT_WINDOW}
 use Rattle.jt_value.specs.Serials.{gap_of, serial_of}
 use Rattle.jt_codec.specs.declared.message.Message.{Message}
 use Rattle.jt_codec.specs.declared.message.Message.TheVariants as message
@@ -8,7 +9,7 @@ use Rattle.jt_store.specs.Vaults.{Change, Notes, Forms, Accepts, Sets}
 use Rattle.jt_terminal_rule.specs.declared.state.State.{State}
 use Rattle.jt_terminal_rule.specs.declared.state.Event.{Event}
 use Rattle.jt_terminal_rule.specs.declared.state.Event.TheVariants.{Opened, Received, Tick, Lost, Beat}
-use Rattle.jt_terminal_rule.specs.Rule.{Step, risen}
+use Rattle.jt_terminal_rule.specs.Rule.{Step, capped_sum}
 use Rattle.jt_terminal_rule.specs.Rule as rule
 
 -- ---- fixes, units and serials
@@ -29,11 +30,11 @@ lists_of s = record { units = s.units; waiting = s.waiting; mark = s.mark; next 
 -- the oldest of these units is accepted, if there is one
 abbrev pub lists_accepted : List OneUnit → Lists → Lists
 lists_accepted [] k = k
-lists_accepted (unit ∷ more) k = record k { units = more; mark = unit.serial; accepted = risen k.accepted unit.count }
+lists_accepted (unit ∷ more) k = record k { units = more; mark = unit.serial; accepted = capped_sum k.accepted unit.count }
 
 -- the vault committed a change
 abbrev pub lists_changed : Change → Lists → Lists
-lists_changed (Notes fix) k = record k { waiting = k.waiting ++ fix ∷ []; recorded = risen k.recorded 1 }
+lists_changed (Notes fix) k = record k { waiting = k.waiting ++ fix ∷ []; recorded = capped_sum k.recorded 1 }
 lists_changed (Forms unit) k = record k { units = k.units ++ unit ∷ []; waiting = drop unit.count k.waiting; next = serial_of (k.next + 1) }
 lists_changed Accepts k = lists_accepted k.units k
 lists_changed (Sets code) k = record k { code = code }
@@ -41,7 +42,7 @@ lists_changed (Sets code) k = record k { code = code }
 -- The serial that is next once a message that is no unit was sent under this one: it is taken if it was next, unless the gap from the mark is
 -- 32,766 or more.
 abbrev pub next_said : ℕ → ℕ → ℕ → ℕ
-next_said mark next serial = if nat_lt (gap_of mark next) 32766 && (serial == next) then serial_of (next + 1) else next
+next_said mark next serial = if nat_lt (gap_of mark next) UNIT_WINDOW && (serial == next) then serial_of (next + 1) else next
 
 -- these steps were done
 abbrev pub lists_after : List Step → Lists → Lists

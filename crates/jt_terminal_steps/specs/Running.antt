@@ -6,10 +6,10 @@ use Rattle.jt_position.specs.Fixes.{IsFix}
 use Rattle.jt_store.specs.declared.unit.Unit.{Unit as OneUnit}
 use Rattle.jt_store.specs.declared.error.StoreError.{StoreError}
 use Rattle.jt_store.specs.declared.error.StoreError.TheVariants.{Failed, Full}
-use Rattle.jt_store.specs.Tables.{Told}
+use Rattle.jt_store.specs.Tables.{WhereKnown}
 use Rattle.jt_value.specs.Counts.{Rose}
 use Rattle.jt_store.specs.declared.unit.Loaded.{Loaded}
-use Rattle.jt_store.specs.Vaults.{Held, AreInOrder, IsLoaded, changed, settled}
+use Rattle.jt_store.specs.Vaults.{Held, AreInOrder, IsLoaded, changed, accepted_count}
 use Rattle.jt_terminal_rule.specs.declared.state.Phase.TheVariants.{Down}
 use Rattle.jt_terminal_rule.specs.declared.settings.Settings.{Settings}
 use Rattle.jt_terminal_rule.specs.declared.state.GiveUp.{GiveUp}
@@ -20,7 +20,7 @@ use Rattle.jt_terminal_rule.specs.Messages.{AreSettings}
 use Rattle.jt_terminal_rule.specs.declared.state.State.{State}
 use Rattle.jt_terminal_rule.specs.declared.state.Event.{Event}
 use Rattle.jt_terminal_rule.specs.declared.state.Event.TheVariants.{Opened, Received, Tick, Lost, Beat}
-use Rattle.jt_terminal_rule.specs.Rule.{Step, Ruled, sends, stays, names, accepted}
+use Rattle.jt_terminal_rule.specs.Rule.{Step, Ruled, sends, stays, names, after_acceptance}
 use Rattle.jt_terminal_rule.specs.Rule as rule
 use Rattle.jt_terminal_rule.specs.Machines.{IsInOrder, Agrees}
 
@@ -66,17 +66,17 @@ oldest_is s ack (unit ∷ more) = nat_lt 0 s.sent && names ack unit
 -- the oldest unit was accepted, if there is one
 abbrev pub took : State → List OneUnit → State
 took s [] = s
-took s (unit ∷ more) = accepted s unit more
+took s (unit ∷ more) = after_acceptance s unit more
 
 -- the same, and the window is filled
-abbrev pub accepts_oldest : State → List OneUnit → Ruled
-accepts_oldest s [] = stays s
-accepts_oldest s (unit ∷ more) = rule.accepts s unit more
+abbrev pub accept_first : State → List OneUnit → Ruled
+accept_first s [] = stays s
+accept_first s (unit ∷ more) = rule.accept_oldest s unit more
 
 -- the terminal's counts are the vault's
-pub record Counts (held : Held) (s : State) : Type 0 where
+pub record CountsAsVault (held : Held) (s : State) : Type 0 where
   pub recorded : s.recorded ≡ min (length held.recorded) (2 ^ 64 - 1)
-  pub accepted : s.accepted ≡ min (settled held) (2 ^ 64 - 1)
+  pub accepted : s.accepted ≡ min (accepted_count held) (2 ^ 64 - 1)
 
 -- a terminal that is in order, with good settings, and agrees with what its vault holds where that is told
 pub record IsSound (held : Option Held) (s : State) : Type 0 where
@@ -84,7 +84,7 @@ pub record IsSound (held : Option Held) (s : State) : Type 0 where
   pub order : IsInOrder s
   pub fixes : All IsFix s.waiting
   pub params : HasOctets s.params
-  pub agrees : Told held (λ h. Agrees h s × Counts h s)
+  pub agrees : WhereKnown held (λ h. Agrees h s × CountsAsVault h s)
 
 -- what no event changes, and what none but a Tick does
 pub record IsSame (old now : State) : Type 0 where
@@ -116,8 +116,8 @@ pub record TerminalValue (V : Type 0) : Type 0 where
 -- a terminal that started over a vault, from what the vault loaded
 pub record IsStarted (settings : Settings) (held : Option Held) (s : State) : Type 0 where
   pub loaded : Loaded
-  pub state : s ≡ rule.started settings loaded
-  pub is : Told held (λ h. IsLoaded h loaded)
+  pub state : s ≡ rule.start_state settings loaded
+  pub is : WhereKnown held (λ h. IsLoaded h loaded)
   pub order : AreInOrder loaded.mark loaded.next loaded.units loaded.code
 
 -- no line is in use

@@ -1,24 +1,25 @@
 //! What a terminal does at the platform's messages.
 
 ghost use Rattle.std.specs.Prelude.{◌≡◌, ◌≤◌, ◌<◌, IfOk, IsOk, OnOk, OnErr, None, Some, false, length};
+ghost use Rattle.jt_value.specs.declared.limits.TheConstants.{OCTET_COUNT_LIMIT};
 ghost use Rattle.jt_codec.specs.Bodies.{Fits, body_octets};
 ghost use Rattle.jt_store.specs.Vaults.{Accepts, changed};
 ghost use Rattle.jt_terminal_rule.specs.Messages as messages;
 ghost use Rattle.jt_terminal_rule.specs.Answers as table;
 ghost use Rattle.jt_terminal_rule.specs.Rule as rule;
 ghost use Rattle.jt_terminal_steps.specs.AfterError.{AllTablesOrNone, AreSameParams, AreSameTables, CutLists, lists_of, sets_params_in};
-ghost use Rattle.jt_terminal_steps.specs.Running.{CutShort, IsSame, IsSound, Outside, Ran, accepts_oldest, oldest_is, took};
+ghost use Rattle.jt_terminal_steps.specs.Running.{CutShort, IsSame, IsSound, Outside, Ran, accept_first, oldest_is, took};
 ghost use Rattle.jt_terminal_rule.specs.declared.state.GiveUp.TheVariants.{Denied};
 ghost use Rattle.jt_terminal_rule.specs.declared.state.Phase.TheVariants.{Down};
 
 use crate::error::{TerminalError, trouble};
-use crate::window::fills;
+use crate::window::fill_window;
 use jt_codec::{Message, write_body};
 use jt_header::Header;
 use jt_register::RegisterReply;
 use jt_store::{Unit, Vault};
 use jt_terminal_answers::{answer, answer_lack, answer_refused};
-use jt_terminal_rule::{Acknowledgement, GiveUp, Phase, State, begun, lose, now_in, say_auth};
+use jt_terminal_rule::{Acknowledgement, GiveUp, Phase, State, first_wait, lose, now_in, say_auth};
 use jt_value::ids::AUTH;
 use jt_value::limits::CODE_LIMIT;
 use jt_value::results::{ALARM_HANDLED, SUCCESS};
@@ -26,7 +27,7 @@ use jt_value::{Edition, Memory, Octets, Seq};
 use std::alloc::Global;
 
 // The line is given up, since the platform answered so.
-fn denied(
+fn deny(
     alloc: Global,
     state: &mut State,
     edition: Edition,
@@ -50,22 +51,26 @@ fn is_registered(reply: &RegisterReply) -> bool
 }
 
 // The platform gave a code: it is committed, and the terminal authenticates itself.
-fn coded<V: Vault>(
+fn store_code<V: Vault>(
     alloc: Global,
     vault: &mut V,
     state: &mut State,
     out: &mut Seq<Octets>,
     code: &Octets,
 ) -> Result<(), TerminalError>
-    requires short { length code.now ≤ 255 }
+    requires short { length code.now ≤ CODE_LIMIT }
     requires sound { IsSound (V.holds vault.old) state.old }
-    ensures ok { OnOk result (Ran state.old.settings (rule.coded state.old code.now) state.new (V.holds vault.old) (V.holds vault.new) out.old out.new None) }
-    ensures err { OnErr result (CutShort (rule.coded state.old code.now).steps (V.holds vault.old) (V.holds vault.new)) }
-    ensures lists { OnErr result (CutLists (rule.coded state.old code.now).steps (lists_of state.old) (lists_of state.new)) }
+    ensures ok { OnOk result (Ran state.old.settings (rule.store_code state.old code.now) state.new
+        (V.holds vault.old) (V.holds vault.new) out.old out.new None) }
+    ensures err { OnErr result (CutShort (rule.store_code state.old code.now).steps
+        (V.holds vault.old) (V.holds vault.new)) }
+    ensures lists { OnErr result (CutLists (rule.store_code state.old code.now).steps
+        (lists_of state.old) (lists_of state.new)) }
     ensures sound { IsSound (V.holds vault.new) state.new }
     ensures same { IsSame state.old state.new }
     ensures tables { AreSameTables state.old state.new }
-    ensures outside { Outside (V.faults vault.old) (V.faults vault.new) (V.limit vault.old) (V.limit vault.new) (V.may_fail vault.old) (V.may_fail vault.new) result }
+    ensures outside { Outside (V.faults vault.old) (V.faults vault.new) (V.limit vault.old)
+        (V.limit vault.new) (V.may_fail vault.old) (V.may_fail vault.new) result }
 {
     let copy = code.copy(alloc)?;
     say_auth(alloc, &state.settings, state.next, code.as_slice(), out)?;
@@ -80,7 +85,7 @@ fn coded<V: Vault>(
 }
 
 // The reply to the registration.
-fn replied<V: Vault>(
+fn take_reply<V: Vault>(
     alloc: Global,
     vault: &mut V,
     state: &mut State,
@@ -91,23 +96,30 @@ fn replied<V: Vault>(
 ) -> Result<Option<GiveUp>, TerminalError>
     requires fits { Fits edition message.now }
     requires sound { IsSound (V.holds vault.old) state.old }
-    ensures ok { IfOk result (λ end. Ran state.old.settings (rule.replied state.old reply.now (body_octets edition message.now)) state.new (V.holds vault.old) (V.holds vault.new) out.old out.new end) }
-    ensures err { OnErr result (CutShort (rule.replied state.old reply.now (body_octets edition message.now)).steps (V.holds vault.old) (V.holds vault.new)) }
-    ensures lists { OnErr result (CutLists (rule.replied state.old reply.now (body_octets edition message.now)).steps (lists_of state.old) (lists_of state.new)) }
+    ensures ok { IfOk result (λ end. Ran state.old.settings
+        (rule.take_reply state.old reply.now (body_octets edition message.now)) state.new
+        (V.holds vault.old) (V.holds vault.new) out.old out.new end) }
+    ensures err { OnErr result
+        (CutShort (rule.take_reply state.old reply.now (body_octets edition message.now)).steps
+        (V.holds vault.old) (V.holds vault.new)) }
+    ensures lists { OnErr result
+        (CutLists (rule.take_reply state.old reply.now (body_octets edition message.now)).steps
+        (lists_of state.old) (lists_of state.new)) }
     ensures sound { IsSound (V.holds vault.new) state.new }
     ensures same { IsSame state.old state.new }
     ensures tables { AreSameTables state.old state.new }
-    ensures outside { Outside (V.faults vault.old) (V.faults vault.new) (V.limit vault.old) (V.limit vault.new) (V.may_fail vault.old) (V.may_fail vault.new) result }
+    ensures outside { Outside (V.faults vault.old) (V.faults vault.new) (V.limit vault.old)
+        (V.limit vault.new) (V.may_fail vault.old) (V.may_fail vault.new) result }
 {
     if is_registered(reply) {
-        coded(alloc, vault, state, out, &reply.code)?;
+        store_code(alloc, vault, state, out, &reply.code)?;
         return Ok(None);
     }
-    Ok(denied(alloc, state, edition, message)?)
+    Ok(deny(alloc, state, edition, message)?)
 }
 
 // The code is removed, and the line given up.
-fn forgets<V: Vault>(
+fn forget_code<V: Vault>(
     alloc: Global,
     vault: &mut V,
     state: &mut State,
@@ -117,13 +129,20 @@ fn forgets<V: Vault>(
 ) -> Result<Option<GiveUp>, TerminalError>
     requires fits { Fits edition message.now }
     requires sound { IsSound (V.holds vault.old) state.old }
-    ensures ok { IfOk result (λ end. Ran state.old.settings (rule.forgets state.old (body_octets edition message.now)) state.new (V.holds vault.old) (V.holds vault.new) out.now out.now end) }
-    ensures err { OnErr result (CutShort (rule.forgets state.old (body_octets edition message.now)).steps (V.holds vault.old) (V.holds vault.new)) }
-    ensures lists { OnErr result (CutLists (rule.forgets state.old (body_octets edition message.now)).steps (lists_of state.old) (lists_of state.new)) }
+    ensures ok { IfOk result (λ end.
+        Ran state.old.settings (rule.forget_code state.old (body_octets edition message.now))
+        state.new (V.holds vault.old) (V.holds vault.new) out.now out.now end) }
+    ensures err { OnErr result
+        (CutShort (rule.forget_code state.old (body_octets edition message.now)).steps
+        (V.holds vault.old) (V.holds vault.new)) }
+    ensures lists { OnErr result
+        (CutLists (rule.forget_code state.old (body_octets edition message.now)).steps
+        (lists_of state.old) (lists_of state.new)) }
     ensures sound { IsSound (V.holds vault.new) state.new }
     ensures same { IsSame state.old state.new }
     ensures tables { AreSameTables state.old state.new }
-    ensures outside { Outside (V.faults vault.old) (V.faults vault.new) (V.limit vault.old) (V.limit vault.new) (V.may_fail vault.old) (V.may_fail vault.new) result }
+    ensures outside { Outside (V.faults vault.old) (V.faults vault.new) (V.limit vault.old)
+        (V.limit vault.new) (V.may_fail vault.old) (V.may_fail vault.new) result }
 {
     let _frames = out;
     let octets = write_body(alloc, edition, message)?;
@@ -138,7 +157,7 @@ fn forgets<V: Vault>(
 }
 
 // The response to the authentication of this serial.
-fn authenticated<V: Vault>(
+fn on_auth_response<V: Vault>(
     alloc: Global,
     vault: &mut V,
     state: &mut State,
@@ -150,20 +169,25 @@ fn authenticated<V: Vault>(
 ) -> Result<Option<GiveUp>, TerminalError>
     requires fits { Fits edition message.now }
     requires sound { IsSound (V.holds vault.old) state.old }
-    ensures ok { IfOk result (λ end. Ran state.old.settings (rule.authenticated state.old serial answer (body_octets edition message.now)) state.new (V.holds vault.old) (V.holds vault.new) out.old out.new end) }
-    ensures err { OnErr result (CutShort (rule.authenticated state.old serial answer (body_octets edition message.now)).steps (V.holds vault.old) (V.holds vault.new)) }
-    ensures lists { OnErr result (CutLists (rule.authenticated state.old serial answer (body_octets edition message.now)).steps (lists_of state.old) (lists_of state.new)) }
+    ensures ok { IfOk result (λ end. Ran state.old.settings
+        (rule.on_auth_response state.old serial answer (body_octets edition message.now)) state.new
+        (V.holds vault.old) (V.holds vault.new) out.old out.new end) }
+    ensures err { OnErr result (CutShort (rule.on_auth_response state.old serial answer
+        (body_octets edition message.now)).steps (V.holds vault.old) (V.holds vault.new)) }
+    ensures lists { OnErr result (CutLists (rule.on_auth_response state.old serial answer
+        (body_octets edition message.now)).steps (lists_of state.old) (lists_of state.new)) }
     ensures sound { IsSound (V.holds vault.new) state.new }
     ensures same { IsSame state.old state.new }
     ensures tables { AreSameTables state.old state.new }
-    ensures outside { Outside (V.faults vault.old) (V.faults vault.new) (V.limit vault.old) (V.limit vault.new) (V.may_fail vault.old) (V.may_fail vault.new) result }
+    ensures outside { Outside (V.faults vault.old) (V.faults vault.new) (V.limit vault.old)
+        (V.limit vault.new) (V.may_fail vault.old) (V.may_fail vault.new) result }
 {
     if answer == 0 {
         state.phase = Phase::Live(serial);
-        fills(alloc, vault, state, out)?;
+        fill_window(alloc, vault, state, out)?;
         return Ok(None);
     }
-    forgets(alloc, vault, state, out, edition, message)
+    forget_code(alloc, vault, state, out, edition, message)
 }
 
 /// Whether the response names the unit.
@@ -198,7 +222,7 @@ fn oldest_accepted(state: &mut State)
         let Unit { serial, count, .. } = &unit;
         state.mark = *serial;
         state.sent = state.sent.saturating_sub(1);
-        state.wait = begun(state);
+        state.wait = first_wait(state);
         state.accepted = state.accepted.saturating_add(u64::from(*count));
     }
 }
@@ -207,12 +231,14 @@ fn oldest_accepted(state: &mut State)
 fn accept<V: Vault>(alloc: Global, vault: &mut V, state: &mut State) -> Result<(), TerminalError>
     requires some { 0 < length state.old.units }
     requires sound { IsSound (V.holds vault.old) state.old }
-    ensures ok { OnOk result ((state.new ≡ took state.old state.old.units) × (V.holds vault.new ≡ changed Accepts (V.holds vault.old))) }
+    ensures ok { OnOk result ((state.new ≡ took state.old state.old.units)
+        × (V.holds vault.new ≡ changed Accepts (V.holds vault.old))) }
     ensures err { OnErr result ((state.new ≡ state.old) × (V.holds vault.new ≡ V.holds vault.old)) }
     ensures sound { IsSound (V.holds vault.new) state.new }
     ensures same { IsSame state.old state.new }
     ensures tables { AreSameTables state.old state.new }
-    ensures outside { Outside (V.faults vault.old) (V.faults vault.new) (V.limit vault.old) (V.limit vault.new) (V.may_fail vault.old) (V.may_fail vault.new) result }
+    ensures outside { Outside (V.faults vault.old) (V.faults vault.new) (V.limit vault.old)
+        (V.limit vault.new) (V.may_fail vault.old) (V.may_fail vault.new) result }
 {
     match vault.accept(alloc) {
         Ok(()) => {
@@ -224,7 +250,7 @@ fn accept<V: Vault>(alloc: Global, vault: &mut V, state: &mut State) -> Result<(
 }
 
 // The oldest unit is accepted, and the window is filled.
-fn accepts<V: Vault>(
+fn accept_oldest<V: Vault>(
     alloc: Global,
     vault: &mut V,
     state: &mut State,
@@ -232,20 +258,24 @@ fn accepts<V: Vault>(
 ) -> Result<(), TerminalError>
     requires some { 0 < length state.old.units }
     requires sound { IsSound (V.holds vault.old) state.old }
-    ensures ok { OnOk result (Ran state.old.settings (accepts_oldest state.old state.old.units) state.new (V.holds vault.old) (V.holds vault.new) out.old out.new None) }
-    ensures err { OnErr result (CutShort (accepts_oldest state.old state.old.units).steps (V.holds vault.old) (V.holds vault.new)) }
-    ensures lists { OnErr result (CutLists (accepts_oldest state.old state.old.units).steps (lists_of state.old) (lists_of state.new)) }
+    ensures ok { OnOk result (Ran state.old.settings (accept_first state.old state.old.units)
+        state.new (V.holds vault.old) (V.holds vault.new) out.old out.new None) }
+    ensures err { OnErr result (CutShort (accept_first state.old state.old.units).steps
+        (V.holds vault.old) (V.holds vault.new)) }
+    ensures lists { OnErr result (CutLists (accept_first state.old state.old.units).steps
+        (lists_of state.old) (lists_of state.new)) }
     ensures sound { IsSound (V.holds vault.new) state.new }
     ensures same { IsSame state.old state.new }
     ensures tables { AreSameTables state.old state.new }
-    ensures outside { Outside (V.faults vault.old) (V.faults vault.new) (V.limit vault.old) (V.limit vault.new) (V.may_fail vault.old) (V.may_fail vault.new) result }
+    ensures outside { Outside (V.faults vault.old) (V.faults vault.new) (V.limit vault.old)
+        (V.limit vault.new) (V.may_fail vault.old) (V.may_fail vault.new) result }
 {
     accept(alloc, vault, state)?;
-    fills(alloc, vault, state, out)
+    fill_window(alloc, vault, state, out)
 }
 
 // A response while the terminal is Live.
-fn answered<V: Vault>(
+fn on_unit_response<V: Vault>(
     alloc: Global,
     vault: &mut V,
     state: &mut State,
@@ -256,27 +286,32 @@ fn answered<V: Vault>(
 ) -> Result<Option<GiveUp>, TerminalError>
     requires fits { Fits edition message.now }
     requires sound { IsSound (V.holds vault.old) state.old }
-    ensures ok { IfOk result (λ end. Ran state.old.settings (rule.answered state.old state.old.units ack (body_octets edition message.now)) state.new (V.holds vault.old) (V.holds vault.new) out.old out.new end) }
-    ensures err { OnErr result (CutShort (rule.answered state.old state.old.units ack (body_octets edition message.now)).steps (V.holds vault.old) (V.holds vault.new)) }
-    ensures lists { OnErr result (CutLists (rule.answered state.old state.old.units ack (body_octets edition message.now)).steps (lists_of state.old) (lists_of state.new)) }
+    ensures ok { IfOk result (λ end. Ran state.old.settings
+        (rule.on_unit_response state.old state.old.units ack (body_octets edition message.now))
+        state.new (V.holds vault.old) (V.holds vault.new) out.old out.new end) }
+    ensures err { OnErr result (CutShort (rule.on_unit_response state.old state.old.units ack
+        (body_octets edition message.now)).steps (V.holds vault.old) (V.holds vault.new)) }
+    ensures lists { OnErr result (CutLists (rule.on_unit_response state.old state.old.units ack
+        (body_octets edition message.now)).steps (lists_of state.old) (lists_of state.new)) }
     ensures sound { IsSound (V.holds vault.new) state.new }
     ensures same { IsSame state.old state.new }
     ensures tables { AreSameTables state.old state.new }
-    ensures outside { Outside (V.faults vault.old) (V.faults vault.new) (V.limit vault.old) (V.limit vault.new) (V.may_fail vault.old) (V.may_fail vault.new) result }
+    ensures outside { Outside (V.faults vault.old) (V.faults vault.new) (V.limit vault.old)
+        (V.limit vault.new) (V.may_fail vault.old) (V.may_fail vault.new) result }
 {
     if !names_oldest(state, ack) {
-        fills(alloc, vault, state, out)?;
+        fill_window(alloc, vault, state, out)?;
         return Ok(None);
     }
     if is_acceptance(ack) {
-        accepts(alloc, vault, state, out)?;
+        accept_oldest(alloc, vault, state, out)?;
         return Ok(None);
     }
-    Ok(denied(alloc, state, edition, message)?)
+    Ok(deny(alloc, state, edition, message)?)
 }
 
 // A response, by the phase.
-fn responded<V: Vault>(
+fn on_response<V: Vault>(
     alloc: Global,
     vault: &mut V,
     state: &mut State,
@@ -287,31 +322,36 @@ fn responded<V: Vault>(
 ) -> Result<Option<GiveUp>, TerminalError>
     requires fits { Fits edition message.now }
     requires sound { IsSound (V.holds vault.old) state.old }
-    ensures ok { IfOk result (λ end. Ran state.old.settings (rule.responded state.old.phase state.old ack (body_octets edition message.now)) state.new (V.holds vault.old) (V.holds vault.new) out.old out.new end) }
-    ensures err { OnErr result (CutShort (rule.responded state.old.phase state.old ack (body_octets edition message.now)).steps (V.holds vault.old) (V.holds vault.new)) }
-    ensures lists { OnErr result (CutLists (rule.responded state.old.phase state.old ack (body_octets edition message.now)).steps (lists_of state.old) (lists_of state.new)) }
+    ensures ok { IfOk result (λ end. Ran state.old.settings
+        (rule.on_response state.old.phase state.old ack (body_octets edition message.now)) state.new
+        (V.holds vault.old) (V.holds vault.new) out.old out.new end) }
+    ensures err { OnErr result (CutShort (rule.on_response state.old.phase state.old ack
+        (body_octets edition message.now)).steps (V.holds vault.old) (V.holds vault.new)) }
+    ensures lists { OnErr result (CutLists (rule.on_response state.old.phase state.old ack
+        (body_octets edition message.now)).steps (lists_of state.old) (lists_of state.new)) }
     ensures quiet { state.old.phase ≡ Down → IsOk result }
     ensures sound { IsSound (V.holds vault.new) state.new }
     ensures same { IsSame state.old state.new }
     ensures tables { AreSameTables state.old state.new }
-    ensures outside { Outside (V.faults vault.old) (V.faults vault.new) (V.limit vault.old) (V.limit vault.new) (V.may_fail vault.old) (V.may_fail vault.new) result }
+    ensures outside { Outside (V.faults vault.old) (V.faults vault.new) (V.limit vault.old)
+        (V.limit vault.new) (V.may_fail vault.old) (V.may_fail vault.new) result }
 {
     match state.phase {
         Phase::Down | Phase::Registering(_) => Ok(None),
         Phase::Authenticating(serial) => {
             if ack.id == AUTH && ack.reply == serial {
-                return authenticated(
+                return on_auth_response(
                     alloc, vault, state, out, serial, ack.result, edition, message,
                 );
             }
             Ok(None)
         }
-        Phase::Live(_) => answered(alloc, vault, state, out, ack, edition, message),
+        Phase::Live(_) => on_unit_response(alloc, vault, state, out, ack, edition, message),
     }
 }
 
 // A reply to a registration, by the phase.
-fn registered<V: Vault>(
+fn on_register_reply<V: Vault>(
     alloc: Global,
     vault: &mut V,
     state: &mut State,
@@ -322,24 +362,30 @@ fn registered<V: Vault>(
 ) -> Result<Option<GiveUp>, TerminalError>
     requires fits { Fits edition message.now }
     requires sound { IsSound (V.holds vault.old) state.old }
-    ensures ok { IfOk result (λ end. Ran state.old.settings (rule.registered state.old.phase state.old reply.now (body_octets edition message.now)) state.new (V.holds vault.old) (V.holds vault.new) out.old out.new end) }
-    ensures err { OnErr result (CutShort (rule.registered state.old.phase state.old reply.now (body_octets edition message.now)).steps (V.holds vault.old) (V.holds vault.new)) }
-    ensures lists { OnErr result (CutLists (rule.registered state.old.phase state.old reply.now (body_octets edition message.now)).steps (lists_of state.old) (lists_of state.new)) }
+    ensures ok { IfOk result (λ end. Ran state.old.settings (rule.on_register_reply state.old.phase
+        state.old reply.now (body_octets edition message.now))
+        state.new (V.holds vault.old) (V.holds vault.new) out.old out.new end) }
+    ensures err { OnErr result (CutShort (rule.on_register_reply state.old.phase state.old reply.now
+        (body_octets edition message.now)).steps (V.holds vault.old) (V.holds vault.new)) }
+    ensures lists { OnErr result (CutLists (rule.on_register_reply state.old.phase state.old
+        reply.now (body_octets edition message.now)).steps
+        (lists_of state.old) (lists_of state.new)) }
     ensures quiet { state.old.phase ≡ Down → IsOk result }
     ensures sound { IsSound (V.holds vault.new) state.new }
     ensures same { IsSame state.old state.new }
     ensures tables { AreSameTables state.old state.new }
-    ensures outside { Outside (V.faults vault.old) (V.faults vault.new) (V.limit vault.old) (V.limit vault.new) (V.may_fail vault.old) (V.may_fail vault.new) result }
+    ensures outside { Outside (V.faults vault.old) (V.faults vault.new) (V.limit vault.old)
+        (V.limit vault.new) (V.may_fail vault.old) (V.may_fail vault.new) result }
 {
     match state.phase {
         Phase::Registering(serial) => {
             if reply.reply == serial {
-                return replied(alloc, vault, state, out, reply, edition, message);
+                return take_reply(alloc, vault, state, out, reply, edition, message);
             }
             Ok(None)
         }
         Phase::Live(_) => {
-            fills(alloc, vault, state, out)?;
+            fill_window(alloc, vault, state, out)?;
             Ok(None)
         }
         Phase::Down | Phase::Authenticating(_) => Ok(None),
@@ -347,7 +393,7 @@ fn registered<V: Vault>(
 }
 
 // A Live terminal answers a message, and fills its window.
-fn answers_and_fills<V: Vault>(
+fn answer_and_fill<V: Vault>(
     alloc: Global,
     vault: &mut V,
     state: &mut State,
@@ -357,21 +403,30 @@ fn answers_and_fills<V: Vault>(
 ) -> Result<(), TerminalError>
     requires fits { Fits header.now.edition message.now }
     requires sound { IsSound (V.holds vault.old) state.old }
-    ensures ok { OnOk result (Ran state.old.settings (rule.and_then (rule.answers state.old (table.answer_to state.old header.now message.now)) rule.fills) state.new (V.holds vault.old) (V.holds vault.new) out.old out.new None) }
-    ensures err { OnErr result (CutShort (rule.and_then (rule.answers state.old (table.answer_to state.old header.now message.now)) rule.fills).steps (V.holds vault.old) (V.holds vault.new)) }
-    ensures lists { OnErr result (CutLists (rule.and_then (rule.answers state.old (table.answer_to state.old header.now message.now)) rule.fills).steps (lists_of state.old) (lists_of state.new)) }
+    ensures ok { OnOk result (Ran state.old.settings
+        (rule.and_then (rule.answers state.old (table.answer_to state.old header.now message.now))
+        rule.fill_window) state.new (V.holds vault.old) (V.holds vault.new) out.old out.new None) }
+    ensures err { OnErr result (CutShort (rule.and_then (rule.answers state.old
+        (table.answer_to state.old header.now message.now)) rule.fill_window).steps
+        (V.holds vault.old) (V.holds vault.new)) }
+    ensures lists { OnErr result (CutLists (rule.and_then (rule.answers state.old
+        (table.answer_to state.old header.now message.now)) rule.fill_window).steps
+        (lists_of state.old) (lists_of state.new)) }
     ensures sound { IsSound (V.holds vault.new) state.new }
     ensures same { IsSame state.old state.new }
-    ensures tables { OnErr result (AllTablesOrNone state.old (rule.and_then (rule.answers state.old (table.answer_to state.old header.now message.now)) rule.fills).state state.new) }
+    ensures tables { OnErr result (AllTablesOrNone state.old
+        (rule.and_then (rule.answers state.old (table.answer_to state.old header.now message.now))
+        rule.fill_window).state state.new) }
     ensures params { sets_params_in message.now ≡ false → AreSameParams state.old state.new }
-    ensures outside { Outside (V.faults vault.old) (V.faults vault.new) (V.limit vault.old) (V.limit vault.new) (V.may_fail vault.old) (V.may_fail vault.new) result }
+    ensures outside { Outside (V.faults vault.old) (V.faults vault.new) (V.limit vault.old)
+        (V.limit vault.new) (V.may_fail vault.old) (V.may_fail vault.new) result }
 {
     answer(alloc, state, header, message, out)?;
-    fills(alloc, vault, state, out)
+    fill_window(alloc, vault, state, out)
 }
 
 // A message that is answered by a terminal that is Live alone.
-fn answers_if_live<V: Vault>(
+fn answer_if_live<V: Vault>(
     alloc: Global,
     vault: &mut V,
     state: &mut State,
@@ -381,24 +436,32 @@ fn answers_if_live<V: Vault>(
 ) -> Result<(), TerminalError>
     requires fits { Fits header.now.edition message.now }
     requires sound { IsSound (V.holds vault.old) state.old }
-    ensures ok { OnOk result (Ran state.old.settings (rule.answers_if_live state.old.phase state.old (table.answer_to state.old header.now message.now)) state.new (V.holds vault.old) (V.holds vault.new) out.old out.new None) }
-    ensures err { OnErr result (CutShort (rule.answers_if_live state.old.phase state.old (table.answer_to state.old header.now message.now)).steps (V.holds vault.old) (V.holds vault.new)) }
-    ensures lists { OnErr result (CutLists (rule.answers_if_live state.old.phase state.old (table.answer_to state.old header.now message.now)).steps (lists_of state.old) (lists_of state.new)) }
+    ensures ok { OnOk result (Ran state.old.settings (rule.answer_if_live state.old.phase state.old
+        (table.answer_to state.old header.now message.now))
+        state.new (V.holds vault.old) (V.holds vault.new) out.old out.new None) }
+    ensures err { OnErr result (CutShort (rule.answer_if_live state.old.phase state.old
+        (table.answer_to state.old header.now message.now)).steps
+        (V.holds vault.old) (V.holds vault.new)) }
+    ensures lists { OnErr result (CutLists (rule.answer_if_live state.old.phase state.old
+        (table.answer_to state.old header.now message.now)).steps
+        (lists_of state.old) (lists_of state.new)) }
     ensures quiet { state.old.phase ≡ Down → IsOk result }
     ensures sound { IsSound (V.holds vault.new) state.new }
     ensures same { IsSame state.old state.new }
-    ensures tables { OnErr result (AllTablesOrNone state.old (rule.answers_if_live state.old.phase state.old (table.answer_to state.old header.now message.now)).state state.new) }
+    ensures tables { OnErr result (AllTablesOrNone state.old (rule.answer_if_live state.old.phase
+        state.old (table.answer_to state.old header.now message.now)).state state.new) }
     ensures params { sets_params_in message.now ≡ false → AreSameParams state.old state.new }
-    ensures outside { Outside (V.faults vault.old) (V.faults vault.new) (V.limit vault.old) (V.limit vault.new) (V.may_fail vault.old) (V.may_fail vault.new) result }
+    ensures outside { Outside (V.faults vault.old) (V.faults vault.new) (V.limit vault.old)
+        (V.limit vault.new) (V.may_fail vault.old) (V.may_fail vault.new) result }
 {
     match state.phase {
-        Phase::Live(_) => answers_and_fills(alloc, vault, state, out, header, message),
+        Phase::Live(_) => answer_and_fill(alloc, vault, state, out, header, message),
         Phase::Down | Phase::Registering(_) | Phase::Authenticating(_) => Ok(()),
     }
 }
 
 // A Live terminal answers a body that is refused or a packet of too many, and fills its window.
-fn refuses_and_fills<V: Vault>(
+fn refuse_and_fill<V: Vault>(
     alloc: Global,
     vault: &mut V,
     state: &mut State,
@@ -406,20 +469,27 @@ fn refuses_and_fills<V: Vault>(
     header: &Header,
 ) -> Result<(), TerminalError>
     requires sound { IsSound (V.holds vault.old) state.old }
-    ensures ok { OnOk result (Ran state.old.settings (rule.and_then (rule.answers state.old (table.answer_to_refused state.old header.now)) rule.fills) state.new (V.holds vault.old) (V.holds vault.new) out.old out.new None) }
-    ensures err { OnErr result (CutShort (rule.and_then (rule.answers state.old (table.answer_to_refused state.old header.now)) rule.fills).steps (V.holds vault.old) (V.holds vault.new)) }
-    ensures lists { OnErr result (CutLists (rule.and_then (rule.answers state.old (table.answer_to_refused state.old header.now)) rule.fills).steps (lists_of state.old) (lists_of state.new)) }
+    ensures ok { OnOk result (Ran state.old.settings
+        (rule.and_then (rule.answers state.old (table.answer_to_refused state.old header.now))
+        rule.fill_window) state.new (V.holds vault.old) (V.holds vault.new) out.old out.new None) }
+    ensures err { OnErr result (CutShort (rule.and_then (rule.answers state.old
+        (table.answer_to_refused state.old header.now)) rule.fill_window).steps
+        (V.holds vault.old) (V.holds vault.new)) }
+    ensures lists { OnErr result (CutLists (rule.and_then (rule.answers state.old
+        (table.answer_to_refused state.old header.now)) rule.fill_window).steps
+        (lists_of state.old) (lists_of state.new)) }
     ensures sound { IsSound (V.holds vault.new) state.new }
     ensures same { IsSame state.old state.new }
     ensures tables { AreSameTables state.old state.new }
-    ensures outside { Outside (V.faults vault.old) (V.faults vault.new) (V.limit vault.old) (V.limit vault.new) (V.may_fail vault.old) (V.may_fail vault.new) result }
+    ensures outside { Outside (V.faults vault.old) (V.faults vault.new) (V.limit vault.old)
+        (V.limit vault.new) (V.may_fail vault.old) (V.may_fail vault.new) result }
 {
     answer_refused(alloc, state, header, out)?;
-    fills(alloc, vault, state, out)
+    fill_window(alloc, vault, state, out)
 }
 
 /// A body that is refused or a packet of too many, which is answered by a terminal that is Live alone.
-pub fn refuses_if_live<V: Vault>(
+pub fn refuse_if_live<V: Vault>(
     alloc: Global,
     vault: &mut V,
     state: &mut State,
@@ -427,23 +497,30 @@ pub fn refuses_if_live<V: Vault>(
     header: &Header,
 ) -> Result<(), TerminalError>
     requires sound { IsSound (V.holds vault.old) state.old }
-    ensures ok { OnOk result (Ran state.old.settings (rule.answers_if_live state.old.phase state.old (table.answer_to_refused state.old header.now)) state.new (V.holds vault.old) (V.holds vault.new) out.old out.new None) }
-    ensures err { OnErr result (CutShort (rule.answers_if_live state.old.phase state.old (table.answer_to_refused state.old header.now)).steps (V.holds vault.old) (V.holds vault.new)) }
-    ensures lists { OnErr result (CutLists (rule.answers_if_live state.old.phase state.old (table.answer_to_refused state.old header.now)).steps (lists_of state.old) (lists_of state.new)) }
+    ensures ok { OnOk result (Ran state.old.settings (rule.answer_if_live state.old.phase state.old
+        (table.answer_to_refused state.old header.now))
+        state.new (V.holds vault.old) (V.holds vault.new) out.old out.new None) }
+    ensures err { OnErr result (CutShort (rule.answer_if_live state.old.phase state.old
+        (table.answer_to_refused state.old header.now)).steps
+        (V.holds vault.old) (V.holds vault.new)) }
+    ensures lists { OnErr result (CutLists (rule.answer_if_live state.old.phase state.old
+        (table.answer_to_refused state.old header.now)).steps
+        (lists_of state.old) (lists_of state.new)) }
     ensures quiet { state.old.phase ≡ Down → IsOk result }
     ensures sound { IsSound (V.holds vault.new) state.new }
     ensures same { IsSame state.old state.new }
     ensures tables { AreSameTables state.old state.new }
-    ensures outside { Outside (V.faults vault.old) (V.faults vault.new) (V.limit vault.old) (V.limit vault.new) (V.may_fail vault.old) (V.may_fail vault.new) result }
+    ensures outside { Outside (V.faults vault.old) (V.faults vault.new) (V.limit vault.old)
+        (V.limit vault.new) (V.may_fail vault.old) (V.may_fail vault.new) result }
 {
     match state.phase {
-        Phase::Live(_) => refuses_and_fills(alloc, vault, state, out, header),
+        Phase::Live(_) => refuse_and_fill(alloc, vault, state, out, header),
         Phase::Down | Phase::Registering(_) | Phase::Authenticating(_) => Ok(()),
     }
 }
 
 // A Live terminal answers the last packet of a message whose others lack, and fills its window.
-fn asks_and_fills<V: Vault>(
+fn ask_and_fill<V: Vault>(
     alloc: Global,
     vault: &mut V,
     state: &mut State,
@@ -452,21 +529,28 @@ fn asks_and_fills<V: Vault>(
     numbers: Seq<u16>,
 ) -> Result<(), TerminalError>
     requires sound { IsSound (V.holds vault.old) state.old }
-    requires few { length numbers ≤ 255 }
-    ensures ok { OnOk result (Ran state.old.settings (rule.and_then (rule.answers state.old (table.answer_to_lack state.old state.old.settings.phone.edition first numbers)) rule.fills) state.new (V.holds vault.old) (V.holds vault.new) out.old out.new None) }
-    ensures err { OnErr result (CutShort (rule.and_then (rule.answers state.old (table.answer_to_lack state.old state.old.settings.phone.edition first numbers)) rule.fills).steps (V.holds vault.old) (V.holds vault.new)) }
-    ensures lists { OnErr result (CutLists (rule.and_then (rule.answers state.old (table.answer_to_lack state.old state.old.settings.phone.edition first numbers)) rule.fills).steps (lists_of state.old) (lists_of state.new)) }
+    requires few { length numbers ≤ OCTET_COUNT_LIMIT }
+    ensures ok { OnOk result (Ran state.old.settings (rule.and_then (rule.answers state.old
+        (table.answer_to_lack state.old state.old.settings.phone.edition first numbers))
+        rule.fill_window) state.new (V.holds vault.old) (V.holds vault.new) out.old out.new None) }
+    ensures err { OnErr result (CutShort (rule.and_then (rule.answers state.old
+        (table.answer_to_lack state.old state.old.settings.phone.edition first numbers))
+        rule.fill_window).steps (V.holds vault.old) (V.holds vault.new)) }
+    ensures lists { OnErr result (CutLists (rule.and_then (rule.answers state.old
+        (table.answer_to_lack state.old state.old.settings.phone.edition first numbers))
+        rule.fill_window).steps (lists_of state.old) (lists_of state.new)) }
     ensures sound { IsSound (V.holds vault.new) state.new }
     ensures same { IsSame state.old state.new }
     ensures tables { AreSameTables state.old state.new }
-    ensures outside { Outside (V.faults vault.old) (V.faults vault.new) (V.limit vault.old) (V.limit vault.new) (V.may_fail vault.old) (V.may_fail vault.new) result }
+    ensures outside { Outside (V.faults vault.old) (V.faults vault.new) (V.limit vault.old)
+        (V.limit vault.new) (V.may_fail vault.old) (V.may_fail vault.new) result }
 {
     answer_lack(alloc, state, first, numbers, out)?;
-    fills(alloc, vault, state, out)
+    fill_window(alloc, vault, state, out)
 }
 
 /// The last packet of a message whose others lack, which is answered by a terminal that is Live alone.
-pub fn asks_if_live<V: Vault>(
+pub fn ask_if_live<V: Vault>(
     alloc: Global,
     vault: &mut V,
     state: &mut State,
@@ -475,24 +559,31 @@ pub fn asks_if_live<V: Vault>(
     numbers: Seq<u16>,
 ) -> Result<(), TerminalError>
     requires sound { IsSound (V.holds vault.old) state.old }
-    requires few { length numbers ≤ 255 }
-    ensures ok { OnOk result (Ran state.old.settings (rule.answers_if_live state.old.phase state.old (table.answer_to_lack state.old state.old.settings.phone.edition first numbers)) state.new (V.holds vault.old) (V.holds vault.new) out.old out.new None) }
-    ensures err { OnErr result (CutShort (rule.answers_if_live state.old.phase state.old (table.answer_to_lack state.old state.old.settings.phone.edition first numbers)).steps (V.holds vault.old) (V.holds vault.new)) }
-    ensures lists { OnErr result (CutLists (rule.answers_if_live state.old.phase state.old (table.answer_to_lack state.old state.old.settings.phone.edition first numbers)).steps (lists_of state.old) (lists_of state.new)) }
+    requires few { length numbers ≤ OCTET_COUNT_LIMIT }
+    ensures ok { OnOk result (Ran state.old.settings (rule.answer_if_live state.old.phase state.old
+        (table.answer_to_lack state.old state.old.settings.phone.edition first numbers))
+        state.new (V.holds vault.old) (V.holds vault.new) out.old out.new None) }
+    ensures err { OnErr result (CutShort (rule.answer_if_live state.old.phase state.old
+        (table.answer_to_lack state.old state.old.settings.phone.edition first numbers)).steps
+        (V.holds vault.old) (V.holds vault.new)) }
+    ensures lists { OnErr result (CutLists (rule.answer_if_live state.old.phase state.old
+        (table.answer_to_lack state.old state.old.settings.phone.edition first numbers)).steps
+        (lists_of state.old) (lists_of state.new)) }
     ensures quiet { state.old.phase ≡ Down → IsOk result }
     ensures sound { IsSound (V.holds vault.new) state.new }
     ensures same { IsSame state.old state.new }
     ensures tables { AreSameTables state.old state.new }
-    ensures outside { Outside (V.faults vault.old) (V.faults vault.new) (V.limit vault.old) (V.limit vault.new) (V.may_fail vault.old) (V.may_fail vault.new) result }
+    ensures outside { Outside (V.faults vault.old) (V.faults vault.new) (V.limit vault.old)
+        (V.limit vault.new) (V.may_fail vault.old) (V.may_fail vault.new) result }
 {
     match state.phase {
-        Phase::Live(_) => asks_and_fills(alloc, vault, state, out, first, numbers),
+        Phase::Live(_) => ask_and_fill(alloc, vault, state, out, first, numbers),
         Phase::Down | Phase::Registering(_) | Phase::Authenticating(_) => Ok(()),
     }
 }
 
 /// A message of the platform.
-pub fn received<V: Vault>(
+pub fn on_message<V: Vault>(
     alloc: Global,
     vault: &mut V,
     state: &mut State,
@@ -502,15 +593,21 @@ pub fn received<V: Vault>(
 ) -> Result<Option<GiveUp>, TerminalError>
     requires fits { Fits header.now.edition message.now }
     requires sound { IsSound (V.holds vault.old) state.old }
-    ensures ok { IfOk result (λ end. Ran state.old.settings (rule.received state.old header.now message.now) state.new (V.holds vault.old) (V.holds vault.new) out.old out.new end) }
-    ensures err { OnErr result (CutShort (rule.received state.old header.now message.now).steps (V.holds vault.old) (V.holds vault.new)) }
-    ensures lists { OnErr result (CutLists (rule.received state.old header.now message.now).steps (lists_of state.old) (lists_of state.new)) }
+    ensures ok { IfOk result (λ end.
+        Ran state.old.settings (rule.on_message state.old header.now message.now) state.new
+        (V.holds vault.old) (V.holds vault.new) out.old out.new end) }
+    ensures err { OnErr result (CutShort (rule.on_message state.old header.now message.now).steps
+        (V.holds vault.old) (V.holds vault.new)) }
+    ensures lists { OnErr result (CutLists (rule.on_message state.old header.now message.now).steps
+        (lists_of state.old) (lists_of state.new)) }
     ensures quiet { state.old.phase ≡ Down → IsOk result }
     ensures sound { IsSound (V.holds vault.new) state.new }
     ensures same { IsSame state.old state.new }
-    ensures tables { OnErr result (AllTablesOrNone state.old (rule.received state.old header.now message.now).state state.new) }
+    ensures tables { OnErr result (AllTablesOrNone state.old
+        (rule.on_message state.old header.now message.now).state state.new) }
     ensures params { sets_params_in message.now ≡ false → AreSameParams state.old state.new }
-    ensures outside { Outside (V.faults vault.old) (V.faults vault.new) (V.limit vault.old) (V.limit vault.new) (V.may_fail vault.old) (V.may_fail vault.new) result }
+    ensures outside { Outside (V.faults vault.old) (V.faults vault.new) (V.limit vault.old)
+        (V.limit vault.new) (V.may_fail vault.old) (V.may_fail vault.new) result }
 {
     match message {
         Message::PlatformAck {
@@ -523,13 +620,13 @@ pub fn received<V: Vault>(
                 id: *id,
                 result: *answer,
             };
-            responded(alloc, vault, state, out, ack, header.edition, message)
+            on_response(alloc, vault, state, out, ack, header.edition, message)
         }
         Message::RegisterReply(reply) => {
-            registered(alloc, vault, state, out, reply, header.edition, message)
+            on_register_reply(alloc, vault, state, out, reply, header.edition, message)
         }
         _ => {
-            answers_if_live(alloc, vault, state, out, header, message)?;
+            answer_if_live(alloc, vault, state, out, header, message)?;
             Ok(None)
         }
     }

@@ -7,5 +7,5 @@ mod ticking;
 mod window;
 
 pub use error::TerminalError;
-pub use hearing::{asks_if_live, is_acceptance, names, received, refuses_if_live};
-pub use ticking::{beaten, ticked};
+pub use hearing::{ask_if_live, is_acceptance, names, on_message, refuse_if_live};
+pub use ticking::{on_beat, on_tick};

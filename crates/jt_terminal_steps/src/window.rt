@@ -1,7 +1,7 @@
 //! The window: units are sent, and formed of the fixes that wait.
 
 ghost use Rattle.std.specs.Prelude.{◌≡◌, ◌<◌, ◌≤◌, ◌^◌, ◌++◌, ◌∷◌, [], None, Some, length, OnOk, OnErr, IfOk, if◌then◌else◌, ◌==◌};
-ghost use Rattle.jt_store.specs.Tables.{Told};
+ghost use Rattle.jt_store.specs.Tables.{WhereKnown};
 ghost use Rattle.jt_store.specs.Vaults.{Forms, IsUnit, MayCommit, changed};
 ghost use Rattle.jt_terminal_rule.specs.Rule as rule;
 ghost use Rattle.jt_terminal_steps.specs.AfterError.{AreSameTables, CutLists, lists_of};
@@ -9,7 +9,7 @@ ghost use Rattle.jt_terminal_steps.specs.Running.{CutShort, IsSame, IsSound, May
 
 use crate::error::{TerminalError, trouble};
 use jt_store::{Unit, Vault};
-use jt_terminal_rule::{Queue, State, Wait, begun, has_serial, say_unit, unit_of};
+use jt_terminal_rule::{Queue, State, Wait, first_wait, has_serial, say_unit, unit_of};
 use jt_value::{Octets, Seq};
 use std::alloc::Global;
 
@@ -18,10 +18,10 @@ const WINDOW: usize = 16;
 
 // The wait behind the sending of one unit more: it begins where none was sent before.
 fn wait_of(state: &State) -> Wait
-    ensures { result ≡ (if state.now.sent == 0 then rule.begun state.now else state.now.wait) }
+    ensures { result ≡ (if state.now.sent == 0 then rule.first_wait state.now else state.now.wait) }
 {
     if state.sent == 0 {
-        begun(state)
+        first_wait(state)
     } else {
         state.wait
     }
@@ -45,10 +45,12 @@ fn commit<V: Vault>(
     unit: &Unit,
 ) -> Result<(), TerminalError>
     requires unit { IsUnit unit.now }
-    requires may { Told (V.holds vault.old) (λ held. MayCommit held unit.now) }
-    ensures ok { OnOk result ((V.holds vault.new ≡ changed (Forms unit.now) (V.holds vault.old)) × (units.new ≡ units.old ++ unit.now ∷ [])) }
+    requires may { WhereKnown (V.holds vault.old) (λ held. MayCommit held unit.now) }
+    ensures ok { OnOk result ((V.holds vault.new ≡ changed (Forms unit.now) (V.holds vault.old))
+        × (units.new ≡ units.old ++ unit.now ∷ [])) }
     ensures err { OnErr result ((V.holds vault.new ≡ V.holds vault.old) × (units.new ≡ units.old)) }
-    ensures outside { Outside (V.faults vault.old) (V.faults vault.new) (V.limit vault.old) (V.limit vault.new) (V.may_fail vault.old) (V.may_fail vault.new) result }
+    ensures outside { Outside (V.faults vault.old) (V.faults vault.new) (V.limit vault.old)
+        (V.limit vault.new) (V.may_fail vault.old) (V.may_fail vault.new) result }
 {
     let copy = unit.clone()?;
     units.push(copy)?;
@@ -62,7 +64,7 @@ fn commit<V: Vault>(
 }
 
 // The unit of the fixes that wait is formed and sent, if there are fixes and the gap leaves it a serial. Whether it was.
-fn forms_one<V: Vault>(
+fn form_unit<V: Vault>(
     alloc: Global,
     vault: &mut V,
     state: &mut State,
@@ -70,13 +72,17 @@ fn forms_one<V: Vault>(
 ) -> Result<bool, TerminalError>
     requires few { state.old.sent < 16 }
     requires sound { IsSound (V.holds vault.old) state.old }
-    ensures ok { IfOk result (λ more. Went state.old.settings (rule.forms_one state.old state.old.waiting) more state.old state.new (V.holds vault.old) (V.holds vault.new) out.old out.new) }
-    ensures err { OnErr result (MayBeCut (rule.forms_one state.old state.old.waiting) (V.holds vault.old) (V.holds vault.new)) }
+    ensures ok { IfOk result (λ more.
+        Went state.old.settings (rule.form_unit state.old state.old.waiting) more
+        state.old state.new (V.holds vault.old) (V.holds vault.new) out.old out.new) }
+    ensures err { OnErr result (MayBeCut (rule.form_unit state.old state.old.waiting)
+        (V.holds vault.old) (V.holds vault.new)) }
     ensures lists { OnErr result (lists_of state.new ≡ lists_of state.old) }
     ensures sound { IsSound (V.holds vault.new) state.new }
     ensures same { IsSame state.old state.new }
     ensures tables { AreSameTables state.old state.new }
-    ensures outside { Outside (V.faults vault.old) (V.faults vault.new) (V.limit vault.old) (V.limit vault.new) (V.may_fail vault.old) (V.may_fail vault.new) result }
+    ensures outside { Outside (V.faults vault.old) (V.faults vault.new) (V.limit vault.old)
+        (V.limit vault.new) (V.may_fail vault.old) (V.may_fail vault.new) result }
 {
     if state.waiting.is_empty() {
         return Ok(false);
@@ -96,26 +102,29 @@ fn forms_one<V: Vault>(
 }
 
 // The next unit is sent, or formed and sent, where the window has room. Whether one was.
-fn next_one<V: Vault>(
+fn send_next<V: Vault>(
     alloc: Global,
     vault: &mut V,
     state: &mut State,
     out: &mut Seq<Octets>,
 ) -> Result<bool, TerminalError>
     requires sound { IsSound (V.holds vault.old) state.old }
-    ensures ok { IfOk result (λ more. Went state.old.settings (rule.next_one state.old) more state.old state.new (V.holds vault.old) (V.holds vault.new) out.old out.new) }
-    ensures err { OnErr result (MayBeCut (rule.next_one state.old) (V.holds vault.old) (V.holds vault.new)) }
+    ensures ok { IfOk result (λ more. Went state.old.settings (rule.send_next state.old) more
+        state.old state.new (V.holds vault.old) (V.holds vault.new) out.old out.new) }
+    ensures err { OnErr result
+        (MayBeCut (rule.send_next state.old) (V.holds vault.old) (V.holds vault.new)) }
     ensures lists { OnErr result (lists_of state.new ≡ lists_of state.old) }
     ensures sound { IsSound (V.holds vault.new) state.new }
     ensures same { IsSame state.old state.new }
     ensures tables { AreSameTables state.old state.new }
-    ensures outside { Outside (V.faults vault.old) (V.faults vault.new) (V.limit vault.old) (V.limit vault.new) (V.may_fail vault.old) (V.may_fail vault.new) result }
+    ensures outside { Outside (V.faults vault.old) (V.faults vault.new) (V.limit vault.old)
+        (V.limit vault.new) (V.may_fail vault.old) (V.may_fail vault.new) result }
 {
     if state.sent >= WINDOW {
         return Ok(false);
     }
     let Some(unit) = state.units.get(state.sent) else {
-        return forms_one(alloc, vault, state, out);
+        return form_unit(alloc, vault, state, out);
     };
     say_unit(alloc, &state.settings, unit, out)?;
     one_sent(state);
@@ -131,38 +140,46 @@ fn fill<V: Vault>(
     room: usize,
 ) -> Result<(), TerminalError>
     requires sound { IsSound (V.holds vault.old) state.old }
-    ensures ok { OnOk result (Ran state.old.settings (rule.fill room state.old) state.new (V.holds vault.old) (V.holds vault.new) out.old out.new None) }
-    ensures err { OnErr result (CutShort (rule.fill room state.old).steps (V.holds vault.old) (V.holds vault.new)) }
-    ensures lists { OnErr result (CutLists (rule.fill room state.old).steps (lists_of state.old) (lists_of state.new)) }
+    ensures ok { OnOk result (Ran state.old.settings (rule.fill room state.old) state.new
+        (V.holds vault.old) (V.holds vault.new) out.old out.new None) }
+    ensures err { OnErr result
+        (CutShort (rule.fill room state.old).steps (V.holds vault.old) (V.holds vault.new)) }
+    ensures lists { OnErr result
+        (CutLists (rule.fill room state.old).steps (lists_of state.old) (lists_of state.new)) }
     ensures sound { IsSound (V.holds vault.new) state.new }
     ensures same { IsSame state.old state.new }
     ensures tables { AreSameTables state.old state.new }
-    ensures outside { Outside (V.faults vault.old) (V.faults vault.new) (V.limit vault.old) (V.limit vault.new) (V.may_fail vault.old) (V.may_fail vault.new) result }
+    ensures outside { Outside (V.faults vault.old) (V.faults vault.new) (V.limit vault.old)
+        (V.limit vault.new) (V.may_fail vault.old) (V.may_fail vault.new) result }
 {
     if room == 0 {
         return Ok(());
     }
-    if next_one(alloc, vault, state, out)? {
+    if send_next(alloc, vault, state, out)? {
         return fill(alloc, vault, state, out, room - 1);
     }
     Ok(())
 }
 
 /// The window is filled.
-pub fn fills<V: Vault>(
+pub fn fill_window<V: Vault>(
     alloc: Global,
     vault: &mut V,
     state: &mut State,
     out: &mut Seq<Octets>,
 ) -> Result<(), TerminalError>
     requires sound { IsSound (V.holds vault.old) state.old }
-    ensures ok { OnOk result (Ran state.old.settings (rule.fills state.old) state.new (V.holds vault.old) (V.holds vault.new) out.old out.new None) }
-    ensures err { OnErr result (CutShort (rule.fills state.old).steps (V.holds vault.old) (V.holds vault.new)) }
-    ensures lists { OnErr result (CutLists (rule.fills state.old).steps (lists_of state.old) (lists_of state.new)) }
+    ensures ok { OnOk result (Ran state.old.settings (rule.fill_window state.old) state.new
+        (V.holds vault.old) (V.holds vault.new) out.old out.new None) }
+    ensures err { OnErr result
+        (CutShort (rule.fill_window state.old).steps (V.holds vault.old) (V.holds vault.new)) }
+    ensures lists { OnErr result
+        (CutLists (rule.fill_window state.old).steps (lists_of state.old) (lists_of state.new)) }
     ensures sound { IsSound (V.holds vault.new) state.new }
     ensures same { IsSame state.old state.new }
     ensures tables { AreSameTables state.old state.new }
-    ensures outside { Outside (V.faults vault.old) (V.faults vault.new) (V.limit vault.old) (V.limit vault.new) (V.may_fail vault.old) (V.may_fail vault.new) result }
+    ensures outside { Outside (V.faults vault.old) (V.faults vault.new) (V.limit vault.old)
+        (V.limit vault.new) (V.may_fail vault.old) (V.may_fail vault.new) result }
 {
     fill(alloc, vault, state, out, WINDOW)
 }

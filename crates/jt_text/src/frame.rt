@@ -130,7 +130,8 @@ fn put_packet(line: &mut Line, packet: Option<Packet>)
 
 fn put_phone(line: &mut Line, phone: &Phone)
     requires { length line.old ≤ 400 }
-    ensures text { line.new ≡ codes " phone=" ++ (encode_lower (field_of phone.now.edition phone.now.digits) ++ line.old) }
+    ensures text { line.new ≡ codes " phone="
+        ++ (encode_lower (field_of phone.now.edition phone.now.digits) ++ line.old) }
     ensures room { length line.new ≤ length line.old + 27 }
 {
     match phone.edition {
@@ -143,7 +144,8 @@ fn put_phone(line: &mut Line, phone: &Phone)
 fn put_header_end(line: &mut Line, header: &Header, body_len: u16)
     requires { length line.old ≤ 230 }
     ensures text { line.new ≡ version_text header.now.edition header.now.version
-        ++ (bit15_text header.now.bit15 ++ (packet_text header.now.packet ++ (codes " body=" ++ (decimal body_len ++ line.old)))) }
+        ++ (bit15_text header.now.bit15
+        ++ (packet_text header.now.packet ++ (codes " body=" ++ (decimal body_len ++ line.old)))) }
     ensures room { length line.new ≤ length line.old + 110 }
 {
     line.put_named_number(" body=", body_len as u64);
@@ -184,7 +186,8 @@ fn put_frame_start(line: &mut Line, place: u64, header: &Header, name: &str)
 pub(crate) fn put_front(line: &mut Line, place: u64, header: &Header, name: &str, body_len: u16)
     requires line { length line.old ≤ 230 }
     requires name { length name.now ≤ 17 }
-    ensures text { line.new ≡ frame_start place header.now name.now ++ (header_fields header.now body_len ++ line.old) }
+    ensures text { line.new
+        ≡ frame_start place header.now name.now ++ (header_fields header.now body_len ++ line.old) }
     ensures room { length line.new ≤ length line.old + 219 }
 {
     put_header_fields(line, header, body_len);
@@ -203,7 +206,8 @@ pub fn push_message_line(
     message: &Message,
     body_len: u16,
 ) -> Result<(), AllocError>
-    ensures text { OnOk result (string_bytes text.new ≡ string_bytes text.old ++ view_line place header.now message.now body_len) }
+    ensures text { OnOk result (string_bytes text.new
+        ≡ string_bytes text.old ++ view_line place header.now message.now body_len) }
     ensures kept { StartsWith (string_bytes text.new) (string_bytes text.old) }
 {
     line.clear();

@@ -25,7 +25,8 @@ static PAIRS: [u8; 512] =
 // The two digits of an octet.
 #[inline(always)]
 fn digits(octet: u8) -> (u8, u8)
-    ensures { (result.0 ≡ slice_index lower_digits (octet / 16)) × (result.1 ≡ slice_index lower_digits (octet % 16)) }
+    ensures { (result.0 ≡ slice_index lower_digits (octet / 16))
+        × (result.1 ≡ slice_index lower_digits (octet % 16)) }
 {
     let from = octet as usize * 2;
     (PAIRS[from], PAIRS[from + 1])

@@ -68,7 +68,8 @@ pub fn push_refusal_line_with(
     line: &mut Line,
     refusal: &Refusal,
 ) -> Result<(), AllocError>
-    ensures text { OnOk result (string_bytes text.new ≡ string_bytes text.old ++ refusal_line refusal.now) }
+    ensures text { OnOk result
+        (string_bytes text.new ≡ string_bytes text.old ++ refusal_line refusal.now) }
     ensures kept { StartsWith (string_bytes text.new) (string_bytes text.old) }
 {
     line.clear();
@@ -79,7 +80,8 @@ pub fn push_refusal_line_with(
 /// Puts the line of a refusal at the end of a text: its place, its offset and its reason. Where memory is refused, the text
 /// still begins with what it held.
 pub fn push_refusal_line(text: &mut String, refusal: &Refusal) -> Result<(), AllocError>
-    ensures text { OnOk result (string_bytes text.new ≡ string_bytes text.old ++ refusal_line refusal.now) }
+    ensures text { OnOk result
+        (string_bytes text.new ≡ string_bytes text.old ++ refusal_line refusal.now) }
     ensures kept { StartsWith (string_bytes text.new) (string_bytes text.old) }
 {
     push_refusal_line_with(text, &mut Line::new(), refusal)

@@ -36,7 +36,8 @@ pub(crate) fn push_text(text: &mut String, octets: &[u8]) -> Result<(), AllocErr
 
 // Lower-case hexadecimal digits, two an octet, a room full of them at a time.
 fn push_hex(text: &mut String, line: &mut Line, octets: &[u8]) -> Result<(), AllocError>
-    ensures text { OnOk result (string_bytes text.new ≡ string_bytes text.old ++ encode_lower octets.now) }
+    ensures text { OnOk result
+        (string_bytes text.new ≡ string_bytes text.old ++ encode_lower octets.now) }
     ensures kept { StartsWith (string_bytes text.new) (string_bytes text.old) }
 {
     let mut left = octets;
@@ -54,7 +55,8 @@ fn push_hex(text: &mut String, line: &mut Line, octets: &[u8]) -> Result<(), All
 #[inline(always)]
 fn push_named_number(text: &mut String, name: &str, number: u64) -> Result<(), AllocError>
     requires { length name.now ≤ 16 }
-    ensures text { OnOk result (string_bytes text.new ≡ string_bytes text.old ++ (name.now ++ decimal number)) }
+    ensures text { OnOk result
+        (string_bytes text.new ≡ string_bytes text.old ++ (name.now ++ decimal number)) }
     ensures kept { StartsWith (string_bytes text.new) (string_bytes text.old) }
 {
     let mut room = [0; ROOM];
@@ -67,7 +69,8 @@ fn push_named_number(text: &mut String, name: &str, number: u64) -> Result<(), A
 /// A number in decimal behind its name.
 #[inline(always)]
 pub(crate) fn push_number(text: &mut String, name: &str, number: u64) -> Result<(), AllocError>
-    ensures text { OnOk result (string_bytes text.new ≡ string_bytes text.old ++ (name.now ++ decimal number)) }
+    ensures text { OnOk result
+        (string_bytes text.new ≡ string_bytes text.old ++ (name.now ++ decimal number)) }
     ensures kept { StartsWith (string_bytes text.new) (string_bytes text.old) }
 {
     if name.len() <= NAME {
@@ -85,7 +88,8 @@ fn push_digits(
     name: &str,
     octets: &[u8],
 ) -> Result<(), AllocError>
-    ensures text { OnOk result (string_bytes text.new ≡ string_bytes text.old ++ (name.now ++ encode_lower octets.now)) }
+    ensures text { OnOk result
+        (string_bytes text.new ≡ string_bytes text.old ++ (name.now ++ encode_lower octets.now)) }
     ensures kept { StartsWith (string_bytes text.new) (string_bytes text.old) }
 {
     if name.len() <= NAME && octets.len() <= BEHIND_NAME {
@@ -105,7 +109,8 @@ pub(crate) fn push_octets(
     name: &str,
     octets: &[u8],
 ) -> Result<(), AllocError>
-    ensures text { OnOk result (string_bytes text.new ≡ string_bytes text.old ++ (name.now ++ octets_text octets.now)) }
+    ensures text { OnOk result
+        (string_bytes text.new ≡ string_bytes text.old ++ (name.now ++ octets_text octets.now)) }
     ensures kept { StartsWith (string_bytes text.new) (string_bytes text.old) }
 {
     if octets.is_empty() {
@@ -139,7 +144,8 @@ pub(crate) fn push_value(
     octets: &[u8],
 ) -> Result<(), AllocError>
     requires { (length name.now ≤ 16) × (length id.now ≤ 4) }
-    ensures text { OnOk result (string_bytes text.new ≡ string_bytes text.old ++ (name.now ++ (encode_lower id.now ++ (codes ":" ++ octets_text octets.now)))) }
+    ensures text { OnOk result (string_bytes text.new ≡ string_bytes text.old
+        ++ (name.now ++ (encode_lower id.now ++ (codes ":" ++ octets_text octets.now)))) }
     ensures kept { StartsWith (string_bytes text.new) (string_bytes text.old) }
 {
     if octets.len() <= SHORT {

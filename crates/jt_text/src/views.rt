@@ -3,7 +3,7 @@
 ghost use Rattle.std.specs.Prelude.{◌≡◌, ℕ, ◌≤◌, ◌++◌, length, string_bytes, codes, OnOk};
 ghost use Rattle.std.specs.Io.{StartsWith};
 ghost use Rattle.jt_codec.specs.declared.message.Message.TheVariants as message;
-ghost use Rattle.jt_codec.specs.Viewing.{viewed};
+ghost use Rattle.jt_codec.specs.Viewing.{message_in_view};
 ghost use Rattle.jt_text.specs.Fields.{ack_fields};
 ghost use Rattle.jt_text.specs.Frames.{frame_start, header_fields, view_line};
 
@@ -31,8 +31,9 @@ fn push_behind_front(
 ) -> Result<(), AllocError>
     requires line { length line.old ≤ 230 }
     requires name { length name.now ≤ 17 }
-    ensures text { OnOk result (string_bytes text.new ≡ string_bytes text.old
-        ++ (frame_start place header.now name.now ++ (header_fields header.now body_len ++ line.old))) }
+    ensures text { OnOk result
+        (string_bytes text.new ≡ string_bytes text.old ++ (frame_start place header.now name.now
+        ++ (header_fields header.now body_len ++ line.old))) }
     ensures kept { StartsWith (string_bytes text.new) (string_bytes text.old) }
 {
     put_front(line, place, header, name, body_len);
@@ -48,7 +49,8 @@ fn push_heartbeat_line(
     header: &Header,
     body_len: u16,
 ) -> Result<(), AllocError>
-    ensures text { OnOk result (string_bytes text.new ≡ string_bytes text.old ++ view_line place header.now message.Heartbeat body_len) }
+    ensures text { OnOk result (string_bytes text.new
+        ≡ string_bytes text.old ++ view_line place header.now message.Heartbeat body_len) }
     ensures kept { StartsWith (string_bytes text.new) (string_bytes text.old) }
 {
     line.clear();
@@ -68,8 +70,9 @@ fn push_empty_line(
     body_len: u16,
 ) -> Result<(), AllocError>
     requires name { length name.now ≤ 17 }
-    ensures text { OnOk result (string_bytes text.new ≡ string_bytes text.old
-        ++ (frame_start place header.now name.now ++ (header_fields header.now body_len ++ codes "\n"))) }
+    ensures text { OnOk result
+        (string_bytes text.new ≡ string_bytes text.old ++ (frame_start place header.now name.now
+        ++ (header_fields header.now body_len ++ codes "\n"))) }
     ensures kept { StartsWith (string_bytes text.new) (string_bytes text.old) }
 {
     line.clear();
@@ -87,7 +90,8 @@ fn push_track_line(
     validity: Option<u32>,
     body_len: u16,
 ) -> Result<(), AllocError>
-    ensures text { OnOk result (string_bytes text.new ≡ string_bytes text.old ++ view_line place header.now (message.Track interval validity) body_len) }
+    ensures text { OnOk result (string_bytes text.new ≡ string_bytes text.old
+        ++ view_line place header.now (message.Track interval validity) body_len) }
     ensures kept { StartsWith (string_bytes text.new) (string_bytes text.old) }
 {
     line.clear();
@@ -108,7 +112,8 @@ fn push_text_line(
     octets: &[u8],
     body_len: u16,
 ) -> Result<(), AllocError>
-    ensures text { OnOk result (string_bytes text.new ≡ string_bytes text.old ++ view_line place header.now (message.Text flag kind octets.now) body_len) }
+    ensures text { OnOk result (string_bytes text.new ≡ string_bytes text.old
+        ++ view_line place header.now (message.Text flag kind octets.now) body_len) }
     ensures kept { StartsWith (string_bytes text.new) (string_bytes text.old) }
 {
     line.clear();
@@ -128,7 +133,8 @@ fn push_control_line(
     octets: &[u8],
     body_len: u16,
 ) -> Result<(), AllocError>
-    ensures text { OnOk result (string_bytes text.new ≡ string_bytes text.old ++ view_line place header.now (message.Control command octets.now) body_len) }
+    ensures text { OnOk result (string_bytes text.new ≡ string_bytes text.old
+        ++ view_line place header.now (message.Control command octets.now) body_len) }
     ensures kept { StartsWith (string_bytes text.new) (string_bytes text.old) }
 {
     line.clear();
@@ -159,8 +165,10 @@ fn push_position_line(
     view: PositionView<'_>,
     body_len: u16,
 ) -> Result<(), AllocError>
-    ensures text { OnOk result (string_bytes text.new ≡ string_bytes text.old
-        ++ view_line place header.now (message.Position (record { fixed = view.entry.fixed; items = view.entry.items })) body_len) }
+    ensures text { OnOk result
+        (string_bytes text.new ≡ string_bytes text.old ++ view_line place header.now
+        (message.Position (record { fixed = view.entry.fixed; items = view.entry.items }))
+        body_len) }
     ensures kept { StartsWith (string_bytes text.new) (string_bytes text.old) }
 {
     line.clear();
@@ -180,8 +188,9 @@ fn push_batch_line(
     view: BatchView<'_>,
     body_len: u16,
 ) -> Result<(), AllocError>
-    ensures text { OnOk result (string_bytes text.new ≡ string_bytes text.old
-        ++ view_line place header.now (message.Batch (record { kind = view.entry.kind; fixes = view.entry.fixes })) body_len) }
+    ensures text { OnOk result
+        (string_bytes text.new ≡ string_bytes text.old ++ view_line place header.now
+        (message.Batch (record { kind = view.entry.kind; fixes = view.entry.fixes })) body_len) }
     ensures kept { StartsWith (string_bytes text.new) (string_bytes text.old) }
 {
     line.clear();
@@ -203,7 +212,8 @@ fn push_opaque_line(
     body: &[u8],
     body_len: u16,
 ) -> Result<(), AllocError>
-    ensures text { (id : ℕ) → OnOk result (string_bytes text.new ≡ string_bytes text.old ++ view_line place header.now (message.Opaque id body.now) body_len) }
+    ensures text { (id : ℕ) → OnOk result (string_bytes text.new ≡ string_bytes text.old
+        ++ view_line place header.now (message.Opaque id body.now) body_len) }
     ensures kept { StartsWith (string_bytes text.new) (string_bytes text.old) }
 {
     line.clear();
@@ -223,7 +233,8 @@ fn push_part_line(
     part: &[u8],
     body_len: u16,
 ) -> Result<(), AllocError>
-    ensures text { OnOk result (string_bytes text.new ≡ string_bytes text.old ++ view_line place header.now (message.Part part.now) body_len) }
+    ensures text { OnOk result (string_bytes text.new
+        ≡ string_bytes text.old ++ view_line place header.now (message.Part part.now) body_len) }
     ensures kept { StartsWith (string_bytes text.new) (string_bytes text.old) }
 {
     line.clear();
@@ -251,7 +262,8 @@ pub fn push_message_view_line(
     view: MessageView<'_>,
     body_len: u16,
 ) -> Result<(), AllocError>
-    ensures text { OnOk result (string_bytes text.new ≡ string_bytes text.old ++ view_line place header.now (viewed view.entry) body_len) }
+    ensures text { OnOk result (string_bytes text.new ≡ string_bytes text.old
+        ++ view_line place header.now (message_in_view view.entry) body_len) }
     ensures kept { StartsWith (string_bytes text.new) (string_bytes text.old) }
 {
     match view {

@@ -34,6 +34,8 @@ pub trait Desk {
     fn act(&mut self, session: u32, ask: &Self::Ask) -> Self::Answer
         ensures opening { opening self.new ≡ opening self.old }
         ensures faults { faults self.old ≤ faults self.new }
-        ensures answer { gives (opening self.old) (history self.old) (faults self.old) (faults self.new) session ask.now result }
-        ensures history { history self.new ≡ history self.old ++ entry_if (enters result) session ask.now result };
+        ensures answer { gives (opening self.old) (history self.old)
+            (faults self.old) (faults self.new) session ask.now result }
+        ensures history { history self.new
+            ≡ history self.old ++ entry_if (enters result) session ask.now result };
 }

@@ -75,7 +75,21 @@ impl<D: Desk> Turn<D> {
     /// A turn over a desk whose history is empty, and its first pass, of number 0. Memory gives the desk back.
     pub fn begin(alloc: Global, desk: D) -> Result<(Turn<D>, Pass<D>), (D, Memory)>
         requires { D.history desk ≡ [] }
-        ensures ok { IfOk result (λ begun. begun.1 ≡ record { turn = begun.0; number = 0; opening = D.opening desk; base = D.faults desk; seen = []; mine = []; faults = D.faults desk; found = []; found_faults = 0; failed = 0; ended = []; lent = 0; given = 0 }) }
+        ensures ok { IfOk result (λ begun. begun.1 ≡ record {
+          turn = begun.0;
+          number = 0;
+          opening = D.opening desk;
+          base = D.faults desk;
+          seen = [];
+          mine = [];
+          faults = D.faults desk;
+          found = [];
+          found_faults = 0;
+          failed = 0;
+          ended = [];
+          lent = 0;
+          given = 0;
+        }) }
         ensures err { IfErr result (λ refused. refused.0 ≡ desk) }
     {
         let start = Snapshot::of(&desk);
@@ -112,8 +126,18 @@ impl<D: Desk> Turn<D> {
         requires turn { pass.old.turn ≡ self.now }
         requires root { pass.old.number ≡ 0 }
         requires above { pass.old.given < number }
-        ensures ok { IfOk result (λ new. new ≡ record pass.old { number = number; mine = []; found = []; found_faults = 0; failed = 0; ended = []; lent = 0; given = 0 }) }
-        ensures giver { OnOk result (pass.new ≡ record pass.old { lent = pass.old.lent + 1; given = number }) }
+        ensures ok { IfOk result (λ new. new ≡ record pass.old {
+          number = number;
+          mine = [];
+          found = [];
+          found_faults = 0;
+          failed = 0;
+          ended = [];
+          lent = 0;
+          given = 0;
+        }) }
+        ensures giver { OnOk result
+            (pass.new ≡ record pass.old { lent = pass.old.lent + 1; given = number }) }
         ensures err { OnErr result (pass.new ≡ pass.old) }
     {
         Ok(self.split_as::<Brand>(pass, number))
@@ -124,7 +148,16 @@ impl<D: Desk> Turn<D> {
         requires turn { pass.old.turn ≡ self.now }
         requires root { pass.old.number ≡ 0 }
         requires above { pass.old.given < number }
-        ensures given { result ≡ record pass.old { number = number; mine = []; found = []; found_faults = 0; failed = 0; ended = []; lent = 0; given = 0 } }
+        ensures given { result ≡ record pass.old {
+          number = number;
+          mine = [];
+          found = [];
+          found_faults = 0;
+          failed = 0;
+          ended = [];
+          lent = 0;
+          given = 0;
+        } }
         ensures giver { pass.new ≡ record pass.old { lent = pass.old.lent + 1; given = number } }
     {
         Pass {
@@ -140,12 +173,19 @@ impl<D: Desk> Turn<D> {
         ensures found { IsPrefix pass.old.seen pass.new.found }
         ensures found_mine { entries_of pass.old.number pass.new.found ≡ pass.old.mine }
         ensures found_faults { pass.old.faults ≤ pass.new.found_faults }
-        ensures answer { D.gives pass.old.opening pass.new.found pass.new.found_faults pass.new.faults pass.old.number ask.now result }
-        ensures seen { pass.new.seen ≡ pass.new.found ++ entry_if (D.enters result) pass.old.number ask.now result }
-        ensures mine { pass.new.mine ≡ pass.old.mine ++ entry_if (D.enters result) pass.old.number ask.now result }
+        ensures answer { D.gives pass.old.opening pass.new.found pass.new.found_faults
+            pass.new.faults pass.old.number ask.now result }
+        ensures seen { pass.new.seen
+            ≡ pass.new.found ++ entry_if (D.enters result) pass.old.number ask.now result }
+        ensures mine { pass.new.mine
+            ≡ pass.old.mine ++ entry_if (D.enters result) pass.old.number ask.now result }
         ensures faults { pass.new.found_faults ≤ pass.new.faults }
-        ensures failed { pass.new.failed ≡ pass.old.failed + (if pass.new.faults == pass.new.found_faults then 0 else 1) }
-        ensures stays { (pass.new.turn ≡ pass.old.turn) × (pass.new.number ≡ pass.old.number) × (pass.new.opening ≡ pass.old.opening) × (pass.new.base ≡ pass.old.base) × (pass.new.ended ≡ pass.old.ended) × (pass.new.lent ≡ pass.old.lent) × (pass.new.given ≡ pass.old.given) }
+        ensures failed { pass.new.failed
+            ≡ pass.old.failed + (if pass.new.faults == pass.new.found_faults then 0 else 1) }
+        ensures stays { (pass.new.turn ≡ pass.old.turn) × (pass.new.number ≡ pass.old.number)
+            × (pass.new.opening ≡ pass.old.opening) × (pass.new.base ≡ pass.old.base)
+            × (pass.new.ended ≡ pass.old.ended) × (pass.new.lent ≡ pass.old.lent)
+            × (pass.new.given ≡ pass.old.given) }
     {
         self.lock(rt, &mut pass.seat);
         let ticket = self.draw(&mut pass.seat);
@@ -161,11 +201,14 @@ impl<D: Desk> Turn<D> {
         requires root { pass.old.number ≡ 0 }
         ensures seen { pass.new.seen ≡ longer pass.old.seen other.seen }
         ensures begins { IsPrefix pass.old.seen pass.new.seen × IsPrefix other.seen pass.new.seen }
-        ensures ended { pass.new.ended ≡ pass.old.ended ++ record { number = other.number; mine = other.mine } ∷ [] }
+        ensures ended { pass.new.ended
+            ≡ pass.old.ended ++ record { number = other.number; mine = other.mine } ∷ [] }
         ensures failed { pass.new.failed ≡ pass.old.failed + other.failed }
         ensures faults { pass.new.faults ≡ max pass.old.faults other.faults }
         ensures lent { pass.old.lent ≡ pass.new.lent + 1 }
-        ensures stays { (pass.new.turn ≡ pass.old.turn) × (pass.new.number ≡ pass.old.number) × (pass.new.mine ≡ pass.old.mine) × (pass.new.opening ≡ pass.old.opening) × (pass.new.base ≡ pass.old.base) × (pass.new.given ≡ pass.old.given) }
+        ensures stays { (pass.new.turn ≡ pass.old.turn) × (pass.new.number ≡ pass.old.number)
+            × (pass.new.mine ≡ pass.old.mine) × (pass.new.opening ≡ pass.old.opening)
+            × (pass.new.base ≡ pass.old.base) × (pass.new.given ≡ pass.old.given) }
     {
         let Pass { seat, number: _ } = other;
         self.table.shared.join_seat::<TakesIn>(&mut pass.seat, seat);
@@ -181,7 +224,8 @@ impl<D: Desk> Turn<D> {
         ensures seen { IsPrefix pass.seen (D.history result) }
         ensures mine { entries_of pass.number (D.history result) ≡ pass.mine }
         ensures ended { HasEach (D.history result) pass.ended }
-        ensures others { (n : ℕ) → n ≢ pass.number → IsNoneOf n pass.ended → entries_of n (D.history result) ≡ [] }
+        ensures others { (n : ℕ) → n ≢ pass.number → IsNoneOf n pass.ended →
+            entries_of n (D.history result) ≡ [] }
         ensures faults { pass.base + pass.failed ≤ D.faults result }
         ensures count { pass.faults ≤ D.faults result }
     {
@@ -292,9 +336,11 @@ impl<D: Desk> Turn<D> {
 
     fn draw(&self, seat: &mut Seat<Option<D>, Option<Known<D::Ask, D::Answer, D::Opening>>>) -> u64
         requires table { seat.old.table_id ≡ self.now }
-        requires idle { (k : Known D.Ask D.Answer D.Opening) × (seat.old.me ≡ (Some k, [])) × (k.waits ≡ false) × (k.turn ≡ false) }
+        requires idle { (k : Known D.Ask D.Answer D.Opening) × (seat.old.me ≡ (Some k, []))
+            × (k.waits ≡ false) × (k.turn ≡ false) }
         ensures table { seat.new.table_id ≡ seat.old.table_id }
-        ensures drawn { IfSome seat.old.me.0 (λ k. (t : ℕ) × (t % 2 ^ 64 ≡ result) × (seat.new.me ≡ (Some (record k { waits = true; ticket = t }), []))) }
+        ensures drawn { IfSome seat.old.me.0 (λ k. (t : ℕ) × (t % 2 ^ 64 ≡ result)
+            × (seat.new.me ≡ (Some (record k { waits = true; ticket = t }), []))) }
     {
         self.table.shared.fetch_add::<Draw<D>>(seat, TICKET, 1)
     }
@@ -344,9 +390,15 @@ impl<D: Desk> Turn<D> {
         ask: &D::Ask,
     ) -> D::Answer
         requires table { seat.old.table_id ≡ self.now }
-        requires turn { (k : Known D.Ask D.Answer D.Opening) × (d : D) × (seat.old.me ≡ (Some (taking D.history D.faults D.opening d k), (0, Some d) ∷ [])) × Meets D.history D.faults D.opening k d × (k.number ≡ number) }
+        requires turn { (k : Known D.Ask D.Answer D.Opening) × (d : D)
+            × (seat.old.me ≡ (Some (taking D.history D.faults D.opening d k), (0, Some d) ∷ []))
+            × Meets D.history D.faults D.opening k d × (k.number ≡ number) }
         ensures table { seat.new.table_id ≡ seat.old.table_id }
-        ensures acted { (k : Known D.Ask D.Answer D.Opening) (d : D) → seat.old.me ≡ (Some (taking D.history D.faults D.opening d k), (0, Some d) ∷ []) → Meets D.history D.faults D.opening k d → (after : Known D.Ask D.Answer D.Opening) × (seat.new.me ≡ (Some after, [])) × (after.waits ≡ false) × (after.turn ≡ false) × Acts D.gives D.enters k ask.now result after }
+        ensures acted { (k : Known D.Ask D.Answer D.Opening) (d : D) →
+            seat.old.me ≡ (Some (taking D.history D.faults D.opening d k), (0, Some d) ∷ []) →
+            Meets D.history D.faults D.opening k d → (after : Known D.Ask D.Answer D.Opening)
+            × (seat.new.me ≡ (Some after, [])) × (after.waits ≡ false) × (after.turn ≡ false)
+            × Acts D.gives D.enters k ask.now result after }
     {
         let answer = self.act_in_place(seat, number, ask);
         self.table.shared.fetch_add::<Publish<D>>(seat, SERVING, 1);
@@ -364,7 +416,9 @@ impl<D: Desk> Turn<D> {
         requires desk { (d : D) × (seat.old.me.1 ≡ (0, Some d) ∷ []) }
         ensures table { seat.new.table_id ≡ seat.old.table_id }
         ensures view { seat.new.me.0 ≡ seat.old.me.0 }
-        ensures acted { (d : D) → seat.old.me.1 ≡ (0, Some d) ∷ [] → (after : D) × (seat.new.me.1 ≡ (0, Some after) ∷ []) × HasActed D.history D.faults D.opening D.gives D.enters number ask.now result d after }
+        ensures acted { (d : D) → seat.old.me.1 ≡ (0, Some d) ∷ [] →
+            (after : D) × (seat.new.me.1 ≡ (0, Some after) ∷ [])
+            × HasActed D.history D.faults D.opening D.gives D.enters number ask.now result d after }
     {
         match seat.slot_mut(&self.table.shared, DESK) {
             Some(desk) => desk.act(number, ask),

@@ -3,13 +3,11 @@
 ghost use Rattle.std.specs.Prelude.{◌≡◌, ◌↔◌, ◌≤◌, ◌<◌, ◌^◌, ℕ, Bool, IfSome, IsTrue};
 ghost use Rattle.jt_value.specs.Serials.{gap_of, verdict_at, IsPlace, IsVerdict, SerialsTell, Verdict};
 
+use crate::limits::SERIAL_WINDOW;
 use crate::placing::Place;
 
 // How many serials there are.
 const SERIALS: u64 = 65_536;
-
-// The greatest gap of a new unit.
-const NEAR: u64 = 32_767;
 
 /// How far the serial `to` is above the serial `from`: 0 to 65,535, counted on over the wrap.
 pub fn gap(from: u16, to: u16) -> u16
@@ -22,7 +20,8 @@ pub fn gap(from: u16, to: u16) -> u16
 pub fn place(last: Option<u64>, serial: u16) -> Place
     requires { IfSome last (λ n. n ≤ 2 ^ 62) }
     ensures place { IsPlace last serial result }
-    ensures verdict { (has : ℕ → Bool) (v : Verdict) → IsVerdict last (λ n. IsTrue (has n)) serial v ↔ (v ≡ verdict_at result has) }
+    ensures verdict { (has : ℕ → Bool) (v : Verdict) →
+        IsVerdict last (λ n. IsTrue (has n)) serial v ↔ (v ≡ verdict_at result has) }
 {
     place_of(last, serial)
 }
@@ -37,7 +36,7 @@ fn place_of(last: Option<u64>, serial: u16) -> Place
         return Place::First(serial);
     };
     let gap = (serial + SERIALS - last % SERIALS) % SERIALS;
-    if 0 < gap && gap <= NEAR {
+    if 0 < gap && gap <= u64::from(SERIAL_WINDOW) {
         return Place::New(last + gap);
     }
     let back = (SERIALS - gap) % SERIALS;

@@ -11,7 +11,7 @@ use Rattle.jt_view.specs.Entry.{Entry, Frame, Refused, line_of, lines, entries_o
 use Rattle.jt_text.specs.Refusals.{refusal_line}
 use Rattle.jt_view.specs.Line.{counts_line, ok_line, too_long_line, hex_refused_line}
 use Rattle.jt_view.specs.Report.{view_text, check_text}
-use Rattle.jt_view.specs.Reporting.{Tally, Counts, Closes}
+use Rattle.jt_view.specs.Reporting.{Tally, CountsEntries, Closes}
 use Rattle.jt_view.proofs.Counting.{frames-append, refusals-append}
 use Rattle.jt_view.proofs.EntriesTold.{first_refusal-append}
 
@@ -26,7 +26,7 @@ no_refusals (Frame place header message body_len ∷ entries) e = no_refusals en
 no_refusals (Refused refusal ∷ entries) e = absurd (cc)
 
 pub closed_view : (tally : Tally) (end : Option Refusal) (refused : ℕ) (text text_now : List ℕ)
-    → ((octets : List ℕ) → Counts tally octets → end ≡ end_of_stream octets)
+    → ((octets : List ℕ) → CountsEntries tally octets → end ≡ end_of_stream octets)
     → refused ≡ tally.refused + refusals (end_entries end)
     → text_now ≡ (text ++ lines (end_entries end)) ++ counts_line tally.frames refused
     → Closes View Whole tally text text_now (cond (refused == 0) status.Done status.Refused)
@@ -48,7 +48,7 @@ closed_view tally end refused text text_now is_end total is = record {
 }
 
 pub closed_check_refused : (tally : Tally) (refusal : Refusal) (text text_now : List ℕ)
-    → ((octets : List ℕ) → Counts tally octets → Some refusal ≡ end_of_stream octets)
+    → ((octets : List ℕ) → CountsEntries tally octets → Some refusal ≡ end_of_stream octets)
     → text_now ≡ text ++ refusal_line refusal → Closes Check Whole tally text text_now status.Refused
 unfolding check_text
 closed_check_refused tally refusal text text_now is_end is = record {
@@ -61,7 +61,7 @@ closed_check_refused tally refusal text text_now is_end is = record {
 }
 
 pub closed_check_ok : (tally : Tally) (text text_now : List ℕ)
-    → ((octets : List ℕ) → Counts tally octets → None ≡ end_of_stream octets)
+    → ((octets : List ℕ) → CountsEntries tally octets → None ≡ end_of_stream octets)
     → text_now ≡ text ++ ok_line tally.frames → Closes Check Whole tally text text_now status.Done
 unfolding check_text
 closed_check_ok tally text text_now is_end is = record {

@@ -5,7 +5,7 @@ use Rattle.std.specs.Prelude.{option_to_list}
 use Rattle.jt_stream.specs.Item.{Item, Items, all_items}
 use Rattle.jt_stream.specs.Stream.{GainsInPlace}
 use Rattle.jt_view.specs.Entry.{Entry, Frame, Refused, entry_of, entries_of, frames, refusals}
-use Rattle.jt_view.specs.Reporting.{Tally, Counts, Brings, IsCounted}
+use Rattle.jt_view.specs.Reporting.{Tally, CountsEntries, Brings, IsCounted}
 
 pub frames-append : (xs ys : List Entry) → frames (xs ++ ys) ≡ frames xs + frames ys
 frames-append [] ys = omega arith
@@ -35,9 +35,9 @@ pub brings : ((stream : List ℕ) (list : List Item) → Items stream list → l
     → mid.stream.splitter.place ≡ old.stream.splitter.place + length octets
     → mid.frames ≡ old.frames → mid.refused ≡ old.refused → IsCounted mid new entry → Brings old new octets entry
 brings only old mid new octets gained entry gains is place frames_kept refused_kept counted =
-    let items_more : (before : List ℕ) → Counts old before → all_items (before ++ octets) ≡ all_items before ++ gained =
+    let items_more : (before : List ℕ) → CountsEntries old before → all_items (before ++ octets) ≡ all_items before ++ gained =
     λ before counts. all_items-more only before octets gained (gains.items before (all_items before) counts.continues counts.items) in
-    let entries_more : (before : List ℕ) → Counts old before → entries_of (before ++ octets) ≡ entries_of before ++ option_to_list entry =
+    let entries_more : (before : List ℕ) → CountsEntries old before → entries_of (before ++ octets) ≡ entries_of before ++ option_to_list entry =
     λ before counts. entries_of-more before octets gained (items_more before counts) ∙ ap (λ (xs : List Entry). entries_of before ++ xs) (sym is) in
     record {
       counts = λ before counts. record {

@@ -9,7 +9,7 @@ use Rattle.jt_stream.specs.Item.{Item, all_items}
 use Rattle.jt_view.specs.declared.command.Report.TheVariants.{View, Check}
 use Rattle.jt_view.specs.Entry.{Entry, Frame, Refused, line_of, lines, entries_of, first_refusal}
 use Rattle.jt_text.specs.Refusals.{refusal_line}
-use Rattle.jt_view.specs.Reporting.{Tally, Counts, Brings, GoesOn, TellsOn, TellsLast}
+use Rattle.jt_view.specs.Reporting.{Tally, CountsEntries, Brings, GoesOn, TellsOn, TellsLast}
 use Rattle.jt_view.proofs.Counting.{entries_of-front}
 
 -- ---- views
@@ -45,8 +45,8 @@ viewed_then old now next octets more text text_now text_next entry so_far brings
 
 -- some octets were taken and brought no refusal
 pub record ChecksOn (old now : Tally) (octets : List ℕ) : Type 0 where
-  pub counts : (before : List ℕ) → Counts old before → Counts now (before ++ octets)
-  pub goes_on : (before : List ℕ) → Counts old before → GoesOn Check before → GoesOn Check (before ++ octets)
+  pub counts : (before : List ℕ) → CountsEntries old before → CountsEntries now (before ++ octets)
+  pub goes_on : (before : List ℕ) → CountsEntries old before → GoesOn Check before → GoesOn Check (before ++ octets)
 
 pub checked_none : (tally : Tally) → ChecksOn tally tally []
 checked_none tally = record {

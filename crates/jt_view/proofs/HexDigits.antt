@@ -11,7 +11,7 @@ use Rattle.std.proofs.lemmas.List.Sums.{prefix_len-le-length, length-filter, cou
 use Rattle.std.proofs.Math.Seq.{take-append-add}
 use Rattle.hex.specs.Hex.{hex_digit_value, is_hex_digit, digit_or_error, decode_pairs, decode_sized, ◌>>=◌}
 use Rattle.hex.specs.declared.error.FromHexError.{FromHexError}
-use Rattle.jt_view.specs.HexInput.{is_blank, is_wrong, first_wrong, digits, octet_of, octets_of, unpaired, IsOdd}
+use Rattle.jt_view.specs.HexInput.{is_blank, is_wrong, first_wrong, digits, octet_of, octets_of_digits, unpaired, IsOdd}
 
 -- how many octets stand before the first wrong one
 abbrev pub right_len : List ℕ → ℕ
@@ -90,8 +90,8 @@ digits_after front rest e =
     ap (λ (xs : List ℕ). filter is_hex_digit xs) cut ∙ filter-append is_hex_digit front (take (right_len rest) rest) ∙ ap (λ (xs : List ℕ). filter is_hex_digit xs ++ filter is_hex_digit (take (right_len rest) rest)) (sym whole)
 
 -- octets of digits that go on
-pub octets_after : (before more : List ℕ) → octets_of (before ++ more) ≡ octets_of before ++ octets_of (option_to_list (unpaired before) ++ more)
-unfolding octets_of unpaired
+pub octets_after : (before more : List ℕ) → octets_of_digits (before ++ more) ≡ octets_of_digits before ++ octets_of_digits (option_to_list (unpaired before) ++ more)
+unfolding octets_of_digits unpaired
 octets_after [] more = refl
 octets_after (digit ∷ []) more = refl
 octets_after (high ∷ low ∷ rest) more = ap (λ octets. octet_of high low ∷ octets) (octets_after rest more)
@@ -103,8 +103,8 @@ unpaired_after (digit ∷ []) more = refl
 unpaired_after (high ∷ low ∷ rest) more = unpaired_after rest more
 
 -- two digits are an octet
-pub octets_half : (given : List ℕ) → 2 * length (octets_of given) ≤ length given
-unfolding octets_of
+pub octets_half : (given : List ℕ) → 2 * length (octets_of_digits given) ≤ length given
+unfolding octets_of_digits
 octets_half [] = omega arith
 octets_half (digit ∷ []) = omega arith
 octets_half (high ∷ low ∷ rest) = omega (arith, octets_half rest)
@@ -121,12 +121,12 @@ odd_waits (high ∷ low ∷ rest) =
     let less = odd_waits rest in
     (λ e. two_more (length rest) ∙ less.0 e, λ e. less.1 (sym (two_more (length rest)) ∙ e))
 
-front_octets_at : (front rest : List ℕ) (wrong : Option ℕ) → first_wrong front ≡ wrong → (more : List ℕ) × (octets_of (digits (front ++ rest)) ≡ octets_of (digits front) ++ more)
-front_octets_at front rest None e = (octets_of (option_to_list (unpaired (digits front)) ++ digits rest), ap octets_of (digits_after front rest e) ∙ octets_after (digits front) (digits rest))
-front_octets_at front rest (Some place) e = ([], ap octets_of (digits_stay front rest place e) ∙ sym (append-nil (octets_of (digits front))))
+front_octets_at : (front rest : List ℕ) (wrong : Option ℕ) → first_wrong front ≡ wrong → (more : List ℕ) × (octets_of_digits (digits (front ++ rest)) ≡ octets_of_digits (digits front) ++ more)
+front_octets_at front rest None e = (octets_of_digits (option_to_list (unpaired (digits front)) ++ digits rest), ap octets_of_digits (digits_after front rest e) ∙ octets_after (digits front) (digits rest))
+front_octets_at front rest (Some place) e = ([], ap octets_of_digits (digits_stay front rest place e) ∙ sym (append-nil (octets_of_digits (digits front))))
 
 -- the octets of a front are the first ones
-pub front_octets : (front rest : List ℕ) → (more : List ℕ) × (octets_of (digits (front ++ rest)) ≡ octets_of (digits front) ++ more)
+pub front_octets : (front rest : List ℕ) → (more : List ℕ) × (octets_of_digits (digits (front ++ rest)) ≡ octets_of_digits (digits front) ++ more)
 front_octets front rest = front_octets_at front rest (first_wrong front) refl
 
 pair_of : (high low : ℕ) (h l : Option ℕ) → is_some h ≡ true → is_some l ≡ true
@@ -148,8 +148,8 @@ pub first_waits : (waiting : Option ℕ) (digit : ℕ) → waiting ≡ None → 
 unfolding unpaired
 first_waits waiting digit e = rw e refl
 
-pub first_octets : (waiting : Option ℕ) (digit : ℕ) (octets : List ℕ) → waiting ≡ None → octets ≡ octets ++ octets_of (option_to_list waiting ++ digit ∷ [])
-unfolding octets_of
+pub first_octets : (waiting : Option ℕ) (digit : ℕ) (octets : List ℕ) → waiting ≡ None → octets ≡ octets ++ octets_of_digits (option_to_list waiting ++ digit ∷ [])
+unfolding octets_of_digits
 first_octets waiting digit octets e = rw e (sym (append-nil octets))
 
 pub second_waits : (waiting now : Option ℕ) (high low : ℕ) → waiting ≡ Some high → now ≡ None → now ≡ unpaired (option_to_list waiting ++ low ∷ [])
@@ -157,8 +157,8 @@ unfolding unpaired
 second_waits waiting now high low e n = rw (e, n) refl
 
 pub second_octets : (waiting : Option ℕ) (octet high low : ℕ) (octets : List ℕ) → waiting ≡ Some high → octet ≡ octet_of high low
-    → octets ++ octet ∷ [] ≡ octets ++ octets_of (option_to_list waiting ++ low ∷ [])
-unfolding octets_of
+    → octets ++ octet ∷ [] ≡ octets ++ octets_of_digits (option_to_list waiting ++ low ∷ [])
+unfolding octets_of_digits
 second_octets waiting octet high low octets e o = rw (e, o) refl
 
 -- one octet more, a blank or a digit
@@ -193,7 +193,7 @@ unfolding unpaired
 waiting_alone None = refl
 waiting_alone (Some digit) = refl
 
-pub waiting_no_octet : (waiting : Option ℕ) (octets : List ℕ) → octets ≡ octets ++ octets_of (option_to_list waiting ++ [])
-unfolding octets_of
+pub waiting_no_octet : (waiting : Option ℕ) (octets : List ℕ) → octets ≡ octets ++ octets_of_digits (option_to_list waiting ++ [])
+unfolding octets_of_digits
 waiting_no_octet None octets = sym (append-nil octets)
 waiting_no_octet (Some digit) octets = sym (append-nil octets)

@@ -2,7 +2,7 @@
 use Rattle.std.proofs.Common.{◌≡◌, ◌<◌, ◌≤◌, ◌+◌, ℕ, true, false, List, [], ◌∷◌, ◌++◌, Option, Some, None, length, take, drop, get_or, option_to_list, refl, sym, ap, arith, ◌∙◌, length-append, append_assoc, append-nil}
 use Rattle.std.proofs.lemmas.List.{take_all, take_more, drop_more, take-append-drop, length-take-le}
 use Rattle.hex.specs.Hex.{is_hex_digit}
-use Rattle.jt_view.specs.HexInput.{is_blank, first_wrong, digits, octets_of, unpaired, StandsFor, Completes}
+use Rattle.jt_view.specs.HexInput.{is_blank, first_wrong, digits, octets_of_digits, unpaired, StandsFor, Completes}
 use Rattle.jt_view.proofs.HexDigits.{wrong_after, none_after, digits_after, octets_after, octets_half, unpaired_after, blank_alone, digit_alone, wrong_first, digits_few, waiting_one, waiting_alone, waiting_no_octet}
 
 -- the digits of a piece, after the one that waited for its second
@@ -13,7 +13,7 @@ given waiting piece = option_to_list waiting ++ digits piece
 pub record HexSoFar (first now : Option ℕ) (front before octets : List ℕ) : Type 0 where
   pub right : first_wrong front ≡ None
   pub waits : now ≡ unpaired (given first front)
-  pub gained : octets ≡ before ++ octets_of (given first front)
+  pub gained : octets ≡ before ++ octets_of_digits (given first front)
 
 nothing_right : (first_wrong [] ≡ None) × (digits [] ≡ [])
 unfolding first_wrong digits
@@ -39,7 +39,7 @@ hex_blank first now piece before octets i c d h e b x so_far =
     }
 
 pub hex_digit : (first now next : Option ℕ) (piece before octets more : List ℕ) (i c d : ℕ) → i < length piece → c ≡ get_or piece i d
-    → is_hex_digit c ≡ true → next ≡ unpaired (option_to_list now ++ c ∷ []) → more ≡ octets ++ octets_of (option_to_list now ++ c ∷ [])
+    → is_hex_digit c ≡ true → next ≡ unpaired (option_to_list now ++ c ∷ []) → more ≡ octets ++ octets_of_digits (option_to_list now ++ c ∷ [])
     → HexSoFar first now (take i piece) before octets → HexSoFar first next (take (i + 1) piece) before more
 hex_digit first now next piece before octets more i c d h e x w o so_far =
     let alone = digit_alone c x in
@@ -48,30 +48,30 @@ hex_digit first now next piece before octets more i c d h e x w o so_far =
     record {
       right = rw front (none_after (take i piece) (c ∷ []) so_far.right alone.0);
       waits = rw grown (w ∙ ap (λ digit. unpaired (option_to_list digit ++ c ∷ [])) so_far.waits ∙ sym (unpaired_after (given first (take i piece)) (c ∷ [])));
-      gained = rw grown (o ∙ ap (λ xs. xs ++ octets_of (option_to_list now ++ c ∷ [])) so_far.gained ∙ append_assoc before (octets_of (given first (take i piece))) (octets_of (option_to_list now ++ c ∷ []))
-          ∙ ap (λ digit. before ++ (octets_of (given first (take i piece)) ++ octets_of (option_to_list digit ++ c ∷ []))) so_far.waits ∙ ap (λ xs. before ++ xs) (sym (octets_after (given first (take i piece)) (c ∷ []))));
+      gained = rw grown (o ∙ ap (λ xs. xs ++ octets_of_digits (option_to_list now ++ c ∷ [])) so_far.gained ∙ append_assoc before (octets_of_digits (given first (take i piece))) (octets_of_digits (option_to_list now ++ c ∷ []))
+          ∙ ap (λ digit. before ++ (octets_of_digits (given first (take i piece)) ++ octets_of_digits (option_to_list digit ++ c ∷ []))) so_far.waits ∙ ap (λ xs. before ++ xs) (sym (octets_after (given first (take i piece)) (c ∷ []))));
     }
 
 -- a piece was read as far as its digits go
-pub hex_completes : (first : Option ℕ) (piece before octets : List ℕ) → octets ≡ before ++ octets_of (given first piece) → Completes first piece before octets
+pub hex_completes : (first : Option ℕ) (piece before octets : List ℕ) → octets ≡ before ++ octets_of_digits (given first piece) → Completes first piece before octets
 hex_completes first piece before octets e = record {
-  more = octets_of (given first piece);
+  more = octets_of_digits (given first piece);
   appended = e;
   few = omega (arith, octets_half (given first piece), digits_few piece, waiting_one first, length-append (option_to_list first) (digits piece));
-  octets = λ seen stands. ap octets_of (digits_after seen piece stands.right) ∙ octets_after (digits seen) (digits piece) ∙ ap (λ digit. octets_of (digits seen) ++ octets_of (given digit piece)) (sym stands.waits);
+  octets = λ seen stands. ap octets_of_digits (digits_after seen piece stands.right) ∙ octets_after (digits seen) (digits piece) ∙ ap (λ digit. octets_of_digits (digits seen) ++ octets_of_digits (given digit piece)) (sym stands.waits);
 }
 
 -- the next octet is wrong
 pub hex_wrong : (first now : Option ℕ) (piece before octets : List ℕ) (i c d : ℕ) → i < length piece → c ≡ get_or piece i d
     → is_blank c ≡ false → is_hex_digit c ≡ false → HexSoFar first now (take i piece) before octets
-    → (first_wrong piece ≡ Some i) × (octets ≡ before ++ octets_of (given first piece))
+    → (first_wrong piece ≡ Some i) × (octets ≡ before ++ octets_of_digits (given first piece))
 hex_wrong first now piece before octets i c d h e b x so_far =
     let last = wrong_first c (drop (i + 1) piece) b x in
     let cut : piece ≡ take i piece ++ (c ∷ drop (i + 1) piece) = sym (take-append-drop i piece) ∙ ap (λ xs. take i piece ++ xs) (rw e (drop_more piece i d h)) in
     let place = wrong_after (take i piece) (c ∷ drop (i + 1) piece) 0 so_far.right last.0 in
     let same = digits_after (take i piece) (c ∷ drop (i + 1) piece) so_far.right ∙ ap (λ ds. digits (take i piece) ++ ds) last.1 ∙ append-nil (digits (take i piece)) in (
       ap first_wrong cut ∙ place ∙ ap Some (omega (arith, length-take-le i piece (omega arith))),
-      so_far.gained ∙ ap (λ ds. before ++ octets_of (option_to_list first ++ ds)) (sym (ap digits cut ∙ same)),
+      so_far.gained ∙ ap (λ ds. before ++ octets_of_digits (option_to_list first ++ ds)) (sym (ap digits cut ∙ same)),
     )
 
 pub wrong_seen : (first : Option ℕ) (piece : List ℕ) (i : ℕ) → first_wrong piece ≡ Some i → (seen : List ℕ) → StandsFor first seen → first_wrong (seen ++ piece) ≡ Some (length seen + i)

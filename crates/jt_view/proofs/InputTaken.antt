@@ -19,8 +19,8 @@ use Rattle.jt_input.specs.declared.status.Status.{Status}
 use Rattle.jt_input.specs.declared.status.Status.TheVariants.{Refused}
 use Rattle.jt_view.specs.HexInput as hex
 use Rattle.jt_text.specs.Refusals.{refusal_line}
-use Rattle.jt_view.specs.Report.{decoded, wrong_place, closing_of, closed_entries, report_text, check_text, answer_of, printed}
-use Rattle.jt_view.specs.Reporting.{Tally, Counts, GoesOn, TellsOn, TellsLast, Closes}
+use Rattle.jt_view.specs.Report.{stream_of_input, wrong_place, closing_of, closed_entries, report_text, check_text, answer_of, printed}
+use Rattle.jt_view.specs.Reporting.{Tally, CountsEntries, GoesOn, TellsOn, TellsLast, Closes}
 use Rattle.jt_view.specs.Taking.{IsRead, Stands, printed_of, TakesOn, TakesLast, EndsTooLong}
 use Rattle.jt_view.proofs.Counting.{entries_of-front}
 use Rattle.jt_view.proofs.EntriesTold.{first_refusal-front}
@@ -31,11 +31,11 @@ ItemsOfFront = (front rest : List ℕ) → (more : List Item) × (all_items (fro
 
 -- the octets of a front come first
 abbrev pub OctetsOfFront : Type 0
-OctetsOfFront = (front rest : List ℕ) → (more : List ℕ) × (hex.octets_of (hex.digits (front ++ rest)) ≡ hex.octets_of (hex.digits front) ++ more)
+OctetsOfFront = (front rest : List ℕ) → (more : List ℕ) × (hex.octets_of_digits (hex.digits (front ++ rest)) ≡ hex.octets_of_digits (hex.digits front) ++ more)
 
-pub decoded-front : OctetsOfFront → (encoding : Encoding) (front rest : List ℕ) → (more : List ℕ) × (decoded encoding (front ++ rest) ≡ decoded encoding front ++ more)
-decoded-front fronts Octets front rest = (rest, refl)
-decoded-front fronts Hex front rest = fronts front rest
+pub stream_of_input-front : OctetsOfFront → (encoding : Encoding) (front rest : List ℕ) → (more : List ℕ) × (stream_of_input encoding (front ++ rest) ≡ stream_of_input encoding front ++ more)
+stream_of_input-front fronts Octets front rest = (rest, refl)
+stream_of_input-front fronts Hex front rest = fronts front rest
 
 -- as many as may be taken, where a front fits
 pub take-front : (most : ℕ) (front rest : List ℕ) → length front ≤ most → take most (front ++ rest) ≡ front ++ take (most - length front) rest
@@ -64,24 +64,24 @@ checked closing entries refusal e = rw e refl
 
 -- a check answers with the refusal in a front, whatever follows
 answer_refused : ItemsOfFront → OctetsOfFront → (command : Command) (most : ℕ) (front rest : List ℕ) (refusal : Refusal)
-    → command.report ≡ Check → length front ≤ most → first_refusal (entries_of (decoded command.encoding front)) ≡ Some refusal
+    → command.report ≡ Check → length front ≤ most → first_refusal (entries_of (stream_of_input command.encoding front)) ≡ Some refusal
     → answer_of command most (front ++ rest) ≡ record { text = refusal_line refusal; status = Refused }
 unfolding answer_of
 answer_refused items octets command most front rest refusal check fits e =
     let closing = closing_of command.encoding most (front ++ rest) in
     let tail = take (most - length front) rest in
     let cut : take most (front ++ rest) ≡ front ++ tail = take-front most front rest fits in
-    let more = decoded-front octets command.encoding front tail in
-    let stream : decoded command.encoding (take most (front ++ rest)) ≡ decoded command.encoding front ++ more.0 =
-    ap (decoded command.encoding) cut ∙ more.1 in
-    let found : first_refusal (closed_entries closing (decoded command.encoding (take most (front ++ rest)))) ≡ Some refusal =
-    rw stream (closed-front items closing (decoded command.encoding front) more.0 refusal e) in
-    ap (λ (report : Report). report_text report closing (closed_entries closing (decoded command.encoding (take most (front ++ rest))))) check
-    ∙ checked closing (closed_entries closing (decoded command.encoding (take most (front ++ rest)))) refusal found
+    let more = stream_of_input-front octets command.encoding front tail in
+    let stream : stream_of_input command.encoding (take most (front ++ rest)) ≡ stream_of_input command.encoding front ++ more.0 =
+    ap (stream_of_input command.encoding) cut ∙ more.1 in
+    let found : first_refusal (closed_entries closing (stream_of_input command.encoding (take most (front ++ rest)))) ≡ Some refusal =
+    rw stream (closed-front items closing (stream_of_input command.encoding front) more.0 refusal e) in
+    ap (λ (report : Report). report_text report closing (closed_entries closing (stream_of_input command.encoding (take most (front ++ rest))))) check
+    ∙ checked closing (closed_entries closing (stream_of_input command.encoding (take most (front ++ rest)))) refusal found
 
 -- what a piece stands for, behind each front that was taken
 abbrev pub Decodes : Reporter → List ℕ → List ℕ → Type 0
-Decodes old piece more = (seen : List ℕ) → Stands old seen → decoded old.command.encoding (seen ++ piece) ≡ decoded old.command.encoding seen ++ more
+Decodes old piece more = (seen : List ℕ) → Stands old seen → stream_of_input old.command.encoding (seen ++ piece) ≡ stream_of_input old.command.encoding seen ++ more
 
 pub takes_last : ItemsOfFront → OctetsOfFront → (old : Reporter) (piece more text text_now : List ℕ)
     → Decodes old piece more → TellsLast old.command.report old.tally more text text_now → TakesLast old piece text text_now Refused
@@ -89,10 +89,10 @@ takes_last items octets old piece more text text_now decodes tells = record {
   added = refusal_line tells.refusal;
   text_is = tells.text_is;
   answer = λ seen stands most fits rest.
-      let found : first_refusal (entries_of (decoded old.command.encoding (seen ++ piece))) ≡ Some tells.refusal =
-      rw (decodes seen stands) (tells.first (decoded old.command.encoding seen) stands.counts stands.goes_on) in
-      let nothing : printed old.command.report (decoded old.command.encoding seen) ≡ [] =
-      ap (λ (report : Report). printed report (decoded old.command.encoding seen)) tells.check in
+      let found : first_refusal (entries_of (stream_of_input old.command.encoding (seen ++ piece))) ≡ Some tells.refusal =
+      rw (decodes seen stands) (tells.first (stream_of_input old.command.encoding seen) stands.counts stands.goes_on) in
+      let nothing : printed old.command.report (stream_of_input old.command.encoding seen) ≡ [] =
+      ap (λ (report : Report). printed report (stream_of_input old.command.encoding seen)) tells.check in
       answer_refused items octets old.command most (seen ++ piece) rest tells.refusal tells.check fits found
       ∙ rw nothing refl;
 }
@@ -108,10 +108,10 @@ takes_on old new piece more text text_now decodes tells same taken read = record
   stands = λ seen stands. record {
     taken = omega (arith, taken, stands.taken, length-append seen piece);
     read = rw same (read seen stands);
-    counts = rw (same, decodes seen stands) (tells.counts (decoded old.command.encoding seen) stands.counts);
-    goes_on = rw (same, decodes seen stands) (tells.goes_on (decoded old.command.encoding seen) stands.counts stands.goes_on);
+    counts = rw (same, decodes seen stands) (tells.counts (stream_of_input old.command.encoding seen) stands.counts);
+    goes_on = rw (same, decodes seen stands) (tells.goes_on (stream_of_input old.command.encoding seen) stands.counts stands.goes_on);
   };
-  printed = λ seen stands. rw (same, decodes seen stands) (tells.printed (decoded old.command.encoding seen) stands.counts);
+  printed = λ seen stands. rw (same, decodes seen stands) (tells.printed (stream_of_input old.command.encoding seen) stands.counts);
 }
 
 -- nothing was taken yet
@@ -119,22 +119,22 @@ first_read : (encoding : Encoding) (waiting : Option ℕ) → hex.StandsFor wait
 first_read Octets waiting stands = tt
 first_read Hex waiting stands = stands
 
-decoded-nil : (encoding : Encoding) → decoded encoding [] ≡ []
-unfolding hex.digits hex.octets_of
-decoded-nil Octets = refl
-decoded-nil Hex = refl
+stream_of_input-nil : (encoding : Encoding) → stream_of_input encoding [] ≡ []
+unfolding hex.digits hex.octets_of_digits
+stream_of_input-nil Octets = refl
+stream_of_input-nil Hex = refl
 
 first_goes : (report : Report) → GoesOn report []
 unfolding entries_of all_items
 first_goes View = tt
 first_goes Check = refl
 
-pub stands_first : (reporter : Reporter) → hex.StandsFor reporter.reader [] → Counts reporter.tally [] → reporter.taken ≡ 0 → Stands reporter []
+pub stands_first : (reporter : Reporter) → hex.StandsFor reporter.reader [] → CountsEntries reporter.tally [] → reporter.taken ≡ 0 → Stands reporter []
 stands_first reporter read counts taken = record {
   taken = taken;
   read = first_read reporter.command.encoding reporter.reader read;
-  counts = rw (decoded-nil reporter.command.encoding) counts;
-  goes_on = rw (decoded-nil reporter.command.encoding) (first_goes reporter.command.report);
+  counts = rw (stream_of_input-nil reporter.command.encoding) counts;
+  goes_on = rw (stream_of_input-nil reporter.command.encoding) (first_goes reporter.command.report);
 }
 
 -- digits that were read behind each front
@@ -153,7 +153,7 @@ reads_digits old seen encoding stands = subst (λ (e : Encoding). IsRead e old.r
 answer_wrong : ((front rest : List ℕ) (place : ℕ) → hex.first_wrong front ≡ Some place → hex.first_wrong (front ++ rest) ≡ Some place)
     → ((front rest : List ℕ) (place : ℕ) → hex.first_wrong front ≡ Some place → hex.digits (front ++ rest) ≡ hex.digits front)
     → (command : Command) (most : ℕ) (front rest : List ℕ) (place : ℕ) → command.encoding ≡ Hex → length front ≤ most → hex.first_wrong front ≡ Some place
-    → answer_of command most (front ++ rest) ≡ report_text command.report (HexRefused place) (entries_of (decoded command.encoding front))
+    → answer_of command most (front ++ rest) ≡ report_text command.report (HexRefused place) (entries_of (stream_of_input command.encoding front))
 unfolding answer_of
 answer_wrong stays digits command most front rest place encoding fits e =
     let tail = take (most - length front) rest in
@@ -175,7 +175,7 @@ takes_wrong stays digits old mid piece more text text_mid text_now index status 
   added = tells.added ++ closes.added;
   text_is = rw (closes.text_is, tells.text_is) (append_assoc text tells.added closes.added);
   answer = λ seen stands most fits rest.
-      let stream = decoded old.command.encoding seen in
+      let stream = stream_of_input old.command.encoding seen in
       let place : hex.first_wrong (seen ++ piece) ≡ Some (old.taken + index) =
       rw stands.taken (wrong seen (reads_digits old seen encoding stands)) in
       let reply = closes.reply (stream ++ more) (tells.counts stream stands.counts) (tells.goes_on stream stands.counts stands.goes_on) in
@@ -195,7 +195,7 @@ pub closes_here : (reporter : Reporter) (closing : Closing) (text text_now : Lis
 unfolding answer_of
 closes_here reporter closing text text_now status is closes seen stands most fits =
     let all : take most seen ≡ seen = take_all most seen fits in
-    rw (is seen stands most fits, all) (closes.reply (decoded reporter.command.encoding seen) stands.counts stands.goes_on)
+    rw (is seen stands most fits, all) (closes.reply (stream_of_input reporter.command.encoding seen) stands.counts stands.goes_on)
 
 pub no_wrong : (encoding : Encoding) (waiting : Option ℕ) (seen : List ℕ) → IsRead encoding waiting seen → wrong_place encoding seen ≡ None
 no_wrong Octets waiting seen read = refl
@@ -220,7 +220,7 @@ ends_too_long reporter text text_now status closes = record {
       let cut : take (length seen) (seen ++ beyond) ≡ seen = take-append_seam seen beyond in
       let closing : closing_of reporter.command.encoding (length seen) (seen ++ beyond) ≡ TooLong =
       closing_too_long reporter.command.encoding reporter.reader seen beyond stands.read some in
-      rw (closing, cut) (closes.reply (decoded reporter.command.encoding seen) stands.counts stands.goes_on);
+      rw (closing, cut) (closes.reply (stream_of_input reporter.command.encoding seen) stands.counts stands.goes_on);
 }
 
 printed-nil : (report : Report) → printed report [] ≡ []
@@ -230,4 +230,4 @@ printed-nil Check = refl
 
 -- of nothing nothing is printed
 pub printed_nothing : (reporter : Reporter) → printed_of reporter [] ≡ []
-printed_nothing reporter = ap (printed reporter.command.report) (decoded-nil reporter.command.encoding) ∙ printed-nil reporter.command.report
+printed_nothing reporter = ap (printed reporter.command.report) (stream_of_input-nil reporter.command.encoding) ∙ printed-nil reporter.command.report

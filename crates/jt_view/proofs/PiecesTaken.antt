@@ -8,10 +8,10 @@ use Rattle.jt_input.specs.Telling.{BeginsWith, GoesOn, Settles, Ends, SomeStands
 use Rattle.jt_input.specs.Telling as telling
 use Rattle.jt_input.specs.declared.status.Status.{Status}
 use Rattle.jt_view.specs.Answer.{IsOpen}
-use Rattle.jt_view.specs.Report.{answer_of, closing_of, decoded}
+use Rattle.jt_view.specs.Report.{answer_of, closing_of, stream_of_input}
 use Rattle.jt_view.specs.Reporting as reporting
 use Rattle.jt_view.specs.Reporting.{Closes}
-use Rattle.jt_view.specs.Taking.{Stands, StandsFor, question, printed_of, Takes, TakesOn, TakesLast, EndsTooLong}
+use Rattle.jt_view.specs.Taking.{Stands, StandsFor, question, printed_of, TakesInput, TakesOn, TakesLast, EndsTooLong}
 use Rattle.jt_view.specs.declared.closing.Closing.{Closing}
 use Rattle.jt_view.specs.declared.command.Command.{Command}
 use Rattle.jt_view.specs.declared.command.Report.{Report}
@@ -108,8 +108,8 @@ settled_too_long room old mid piece text text_mid text_now status longer all sam
 
 -- a piece that may be read as a whole
 pub taken_whole : ItemsOfFront → OctetsOfFront → (settled : Option Status) (old new : Reporter) (piece text text_now : List ℕ) → new.command ≡ old.command → new.most ≡ old.most
-    → old.taken + length piece ≤ old.most → Takes settled old new piece text text_now
-    → telling.Takes settled answer (StandsFor old) (StandsFor new) (λ _ _. Unit {0}) piece text text_now
+    → old.taken + length piece ≤ old.most → TakesInput settled old new piece text text_now
+    → telling.TakesPiece settled answer (StandsFor old) (StandsFor new) (λ _ _. Unit {0}) piece text text_now
 taken_whole items octets None old new piece text text_now command most fits on = goes items octets old new piece text text_now command most fits on
 taken_whole items octets (Some status) old new piece text text_now command most fits last =
     settled_early (length piece) old new piece text text_now status (omega arith) fits (rw (take_all (length piece) piece (omega arith)) last)
@@ -141,7 +141,7 @@ is_open asked seen printed stood =
     let here : IsOpen reporter.command reporter.most seen printed = record {
       within = stood.1.within;
       right = no_wrong reporter.command.encoding reporter.reader seen stands.read;
-      clean = λ check. subst (λ (report : Report). reporting.GoesOn report (decoded reporter.command.encoding seen)) check stands.goes_on;
+      clean = λ check. subst (λ (report : Report). reporting.GoesOn report (stream_of_input reporter.command.encoding seen)) check stands.goes_on;
       text_is = stood.1.text_is;
     } in
     subst (λ (q : Question). IsOpen q.command q.most seen printed) stood.1.same here

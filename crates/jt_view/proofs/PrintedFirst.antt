@@ -8,10 +8,10 @@ use Rattle.jt_view.specs.Entry.{Entry, line_of, lines, entries_of, end_entries}
 use Rattle.jt_view.specs.declared.closing.Closing.{Closing}
 use Rattle.jt_view.specs.declared.closing.Closing.TheVariants.{Whole, TooLong, HexRefused}
 use Rattle.jt_view.specs.declared.reporter.Reporter.{Reporter}
-use Rattle.jt_view.specs.Report.{decoded, closing_of, closed_entries, report_text, view_text, view_close, answer_of, printed}
+use Rattle.jt_view.specs.Report.{stream_of_input, closing_of, closed_entries, report_text, view_text, view_close, answer_of, printed}
 use Rattle.jt_view.specs.Taking.{printed_of}
 use Rattle.jt_view.proofs.Counting.{entries_of-front}
-use Rattle.jt_view.proofs.InputTaken.{ItemsOfFront, OctetsOfFront, decoded-front, take-front}
+use Rattle.jt_view.proofs.InputTaken.{ItemsOfFront, OctetsOfFront, stream_of_input-front, take-front}
 
 -- the entries of a front come first, however the stream closes
 closed_entries-front : ItemsOfFront → (closing : Closing) (front more : List ℕ)
@@ -45,6 +45,6 @@ printed_first items octets reporter seen more most fits =
     let command = reporter.command in
     let tail = take (most - length seen) more in
     let cut : take most (seen ++ more) ≡ seen ++ tail = take-front most seen more fits in
-    let longer = decoded-front octets command.encoding seen tail in
-    report-front items command.report (closing_of command.encoding most (seen ++ more)) (decoded command.encoding (take most (seen ++ more)))
-    (decoded command.encoding seen) longer.0 (ap (decoded command.encoding) cut ∙ longer.1)
+    let longer = stream_of_input-front octets command.encoding seen tail in
+    report-front items command.report (closing_of command.encoding most (seen ++ more)) (stream_of_input command.encoding (take most (seen ++ more)))
+    (stream_of_input command.encoding seen) longer.0 (ap (stream_of_input command.encoding) cut ∙ longer.1)

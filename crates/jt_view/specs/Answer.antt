@@ -1,7 +1,7 @@
 -- What a report leaves open. To be believed.
 use Rattle.std.specs.Prelude.{◌≡◌, ℕ, ◌≤◌, List, length, None}
 use Rattle.jt_view.specs.Entry.{entries_of, first_refusal}
-use Rattle.jt_view.specs.Report.{decoded, wrong_place, printed}
+use Rattle.jt_view.specs.Report.{stream_of_input, wrong_place, printed}
 use Rattle.jt_view.specs.declared.command.Command.{Command}
 use Rattle.jt_view.specs.declared.command.Report.TheVariants.{Check}
 
@@ -10,5 +10,5 @@ use Rattle.jt_view.specs.declared.command.Report.TheVariants.{Check}
 pub record IsOpen (command : Command) (most : ℕ) (front text : List ℕ) : Type 0 where
   pub within : length front ≤ most
   pub right : wrong_place command.encoding front ≡ None
-  pub clean : command.report ≡ Check → first_refusal (entries_of (decoded command.encoding front)) ≡ None
-  pub text_is : text ≡ printed command.report (decoded command.encoding front)
+  pub clean : command.report ≡ Check → first_refusal (entries_of (stream_of_input command.encoding front)) ≡ None
+  pub text_is : text ≡ printed command.report (stream_of_input command.encoding front)

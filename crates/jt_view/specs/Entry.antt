@@ -6,7 +6,7 @@ use Rattle.jt_value.specs.declared.refusal.Refusal.{Refusal}
 use Rattle.jt_header.specs.declared.header.Header.{Header}
 use Rattle.jt_codec.specs.declared.message.Message.{Message}
 use Rattle.jt_codec.specs.Parsing.{message_read}
-use Rattle.jt_stream.specs.Item.{Item, placed, all_items}
+use Rattle.jt_stream.specs.Item.{Item, refusal_in_frame, all_items}
 use Rattle.jt_stream.specs.Item as item
 use Rattle.jt_text.specs.Frames.{view_line}
 use Rattle.jt_text.specs.Refusals.{refusal_line}
@@ -29,7 +29,7 @@ lines entries = flat_map line_of entries
 -- a frame's entry, by what its body is read as: its message, or a refusal at its opening flag
 abbrev pub frame_entry : ℕ → Header → List ℕ → Result Message Refusal → Entry
 frame_entry place header body (Ok message) = Frame place header message (length body)
-frame_entry place header body (Err refusal) = Refused (placed place refusal)
+frame_entry place header body (Err refusal) = Refused (refusal_in_frame place refusal)
 
 -- an item's entry; a refused body is refused with its offset in the content
 abbrev pub entry_of : Item → Entry

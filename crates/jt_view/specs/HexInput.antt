@@ -24,10 +24,10 @@ abbrev pub octet_of : ℕ → ℕ → ℕ
 octet_of high low = unwrap_or (hex_digit_value high) 0 * 16 + unwrap_or (hex_digit_value low) 0
 
 -- the octets of digits, two an octet; an odd last digit is none
-unfoldable pub octets_of : List ℕ → List ℕ
-octets_of [] = []
-octets_of (digit ∷ []) = []
-octets_of (high ∷ low ∷ rest) = octet_of high low ∷ octets_of rest
+unfoldable pub octets_of_digits : List ℕ → List ℕ
+octets_of_digits [] = []
+octets_of_digits (digit ∷ []) = []
+octets_of_digits (high ∷ low ∷ rest) = octet_of high low ∷ octets_of_digits rest
 
 -- the number of digits is odd
 abbrev pub IsOdd : List ℕ → Type 0
@@ -50,4 +50,4 @@ pub record Completes (waiting : Option ℕ) (piece old new : List ℕ) : Type 0 
   pub more : List ℕ
   pub appended : new ≡ old ++ more
   pub few : 2 * length more ≤ length piece + 1
-  pub octets : (seen : List ℕ) → StandsFor waiting seen → octets_of (digits (seen ++ piece)) ≡ octets_of (digits seen) ++ more
+  pub octets : (seen : List ℕ) → StandsFor waiting seen → octets_of_digits (digits (seen ++ piece)) ≡ octets_of_digits (digits seen) ++ more

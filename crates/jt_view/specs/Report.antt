@@ -6,7 +6,7 @@ use Rattle.jt_escape.specs.Scan.{end_of_stream}
 use Rattle.jt_text.specs.Refusals.{refusal_line}
 use Rattle.jt_view.specs.Line.{counts_line, ok_line, too_long_line, hex_refused_line}
 use Rattle.jt_view.specs.Entry.{lines, entries_of, end_entries, refusals, frames, first_refusal, Entry}
-use Rattle.jt_view.specs.HexInput.{first_wrong, digits, octets_of}
+use Rattle.jt_view.specs.HexInput.{first_wrong, digits, octets_of_digits}
 use Rattle.jt_view.specs.declared.command.Command.{Command}
 use Rattle.jt_view.specs.declared.command.Report.{Report}
 use Rattle.jt_view.specs.declared.command.Report.TheVariants.{View, Check}
@@ -21,9 +21,9 @@ use Rattle.jt_input.specs.declared.status.Status.TheVariants as status
 -- ---- inputs
 
 -- the octets of the stream that an input, so far, stands for
-abbrev pub decoded : Encoding → List ℕ → List ℕ
-decoded Octets text = text
-decoded Hex text = octets_of (digits text)
+abbrev pub stream_of_input : Encoding → List ℕ → List ℕ
+stream_of_input Octets text = text
+stream_of_input Hex text = octets_of_digits (digits text)
 
 -- the place where an input, so far, is wrong
 abbrev pub wrong_place : Encoding → List ℕ → Option ℕ
@@ -98,4 +98,4 @@ printed Check stream = []
 unfoldable pub answer_of : Command → ℕ → List ℕ → Reply
 answer_of command most source =
     let closing = closing_of command.encoding most source in
-    report_text command.report closing (closed_entries closing (decoded command.encoding (take most source)))
+    report_text command.report closing (closed_entries closing (stream_of_input command.encoding (take most source)))

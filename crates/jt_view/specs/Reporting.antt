@@ -3,7 +3,7 @@ use Rattle.std.specs.Prelude.{◌≡◌, ℕ, ◌+◌, List, ◌++◌, length, B
 use Rattle.jt_value.specs.declared.refusal.Refusal.{Refusal}
 use Rattle.jt_escape.specs.Splitter as splitter
 use Rattle.jt_escape.specs.Scan.{State}
-use Rattle.jt_escape.specs.Splitter.{told_in_place}
+use Rattle.jt_escape.specs.Splitter.{split_events_in_place}
 use Rattle.jt_escape.specs.declared.splitter.Split.{Split}
 use Rattle.jt_stream.specs.Item.{Item, Items, AreItemsOf, all_items}
 use Rattle.jt_stream.specs.Stream.{Held}
@@ -24,7 +24,7 @@ pub record Tally : Type 0 where
   pub refused : ℕ
 
 -- these octets were taken, and their entries counted
-pub record Counts (tally : Tally) (octets : List ℕ) : Type 0 where
+pub record CountsEntries (tally : Tally) (octets : List ℕ) : Type 0 where
   pub continues : splitter.Continues tally.stream.splitter octets
   pub items : Items octets (all_items octets)
   pub place : tally.stream.splitter.place ≡ length octets
@@ -39,8 +39,8 @@ pub record IsCounted (old new : Tally) (entry : Option Entry) : Type 0 where
 
 -- these octets were taken behind others, and brought this entry or none
 pub record Brings (old new : Tally) (octets : List ℕ) (entry : Option Entry) : Type 0 where
-  pub counts : (before : List ℕ) → Counts old before → Counts new (before ++ octets)
-  pub entries : (before : List ℕ) → Counts old before → entries_of (before ++ octets) ≡ entries_of before ++ option_to_list entry
+  pub counts : (before : List ℕ) → CountsEntries old before → CountsEntries new (before ++ octets)
+  pub entries : (before : List ℕ) → CountsEntries old before → entries_of (before ++ octets) ≡ entries_of before ++ option_to_list entry
 
 -- an entry, as far as counting asks
 abbrev pub judged : Option Entry → Judged
@@ -51,7 +51,7 @@ judged (Some (Refused refusal)) = judgement.Refused refusal
 -- what a splitter answered to these octets tells this entry or none
 pub record IsTold (answer : Split) (state : State) (taken : List ℕ) (entry : Option Entry) : Type 0 where
   pub items : List Item
-  pub each : AreItemsOf (told_in_place answer state taken) items
+  pub each : AreItemsOf (split_events_in_place answer state taken) items
   pub entry_is : option_to_list entry ≡ map entry_of items
 
 -- the judgement is that of the entry that the splitter told of these octets
@@ -93,25 +93,25 @@ GoesOn Check octets = first_refusal (entries_of octets) ≡ None
 pub record TellsOn (report : Report) (old new : Tally) (octets text text_now : List ℕ) : Type 0 where
   pub added : List ℕ
   pub text_is : text_now ≡ text ++ added
-  pub counts : (before : List ℕ) → Counts old before → Counts new (before ++ octets)
-  pub goes_on : (before : List ℕ) → Counts old before → GoesOn report before → GoesOn report (before ++ octets)
-  pub printed : (before : List ℕ) → Counts old before → printed report (before ++ octets) ≡ printed report before ++ added
+  pub counts : (before : List ℕ) → CountsEntries old before → CountsEntries new (before ++ octets)
+  pub goes_on : (before : List ℕ) → CountsEntries old before → GoesOn report before → GoesOn report (before ++ octets)
+  pub printed : (before : List ℕ) → CountsEntries old before → printed report (before ++ octets) ≡ printed report before ++ added
 
 -- a check found its first refusal in these octets, and printed its line
 pub record TellsLast (report : Report) (old : Tally) (octets text text_now : List ℕ) : Type 0 where
   pub check : report ≡ Check
   pub refusal : Refusal
   pub text_is : text_now ≡ text ++ refusal_line refusal
-  pub first : (before : List ℕ) → Counts old before → GoesOn report before → first_refusal (entries_of (before ++ octets)) ≡ Some refusal
+  pub first : (before : List ℕ) → CountsEntries old before → GoesOn report before → first_refusal (entries_of (before ++ octets)) ≡ Some refusal
 
 -- the one or, where the report is settled, the other
-abbrev pub Tells : Bool → Report → Tally → Tally → List ℕ → List ℕ → List ℕ → Type 0
-Tells false report old new octets text text_now = TellsOn report old new octets text text_now
-Tells true report old new octets text text_now = TellsLast report old octets text text_now
+abbrev pub TellsOctets : Bool → Report → Tally → Tally → List ℕ → List ℕ → List ℕ → Type 0
+TellsOctets false report old new octets text text_now = TellsOn report old new octets text text_now
+TellsOctets true report old new octets text text_now = TellsLast report old octets text text_now
 
 -- what closes a report was printed, and the report then ends with this status
 pub record Closes (report : Report) (closing : Closing) (tally : Tally) (text text_now : List ℕ) (status : Status) : Type 0 where
   pub added : List ℕ
   pub text_is : text_now ≡ text ++ added
-  pub reply : (octets : List ℕ) → Counts tally octets → GoesOn report octets
+  pub reply : (octets : List ℕ) → CountsEntries tally octets → GoesOn report octets
       → report_text report closing (closed_entries closing octets) ≡ record { text = printed report octets ++ added; status = status }

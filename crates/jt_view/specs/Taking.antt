@@ -6,8 +6,8 @@ use Rattle.jt_view.specs.declared.reporter.Reporter.{Reporter}
 use Rattle.jt_input.specs.declared.status.Status.{Status}
 use Rattle.jt_view.specs.declared.reporter.Question.{Question}
 use Rattle.jt_view.specs.HexInput as hex
-use Rattle.jt_view.specs.Report.{decoded, answer_of, printed}
-use Rattle.jt_view.specs.Reporting.{Counts, GoesOn}
+use Rattle.jt_view.specs.Report.{stream_of_input, answer_of, printed}
+use Rattle.jt_view.specs.Reporting.{CountsEntries, GoesOn}
 
 -- the digits of an input were read up to here
 abbrev pub IsRead : Encoding → Option ℕ → List ℕ → Type 0
@@ -18,12 +18,12 @@ IsRead Hex waiting seen = hex.StandsFor waiting seen
 pub record Stands (reporter : Reporter) (seen : List ℕ) : Type 0 where
   pub taken : reporter.taken ≡ length seen
   pub read : IsRead reporter.command.encoding reporter.reader seen
-  pub counts : Counts reporter.tally (decoded reporter.command.encoding seen)
-  pub goes_on : GoesOn reporter.command.report (decoded reporter.command.encoding seen)
+  pub counts : CountsEntries reporter.tally (stream_of_input reporter.command.encoding seen)
+  pub goes_on : GoesOn reporter.command.report (stream_of_input reporter.command.encoding seen)
 
 -- what is printed of a front of the input before it closes
 abbrev pub printed_of : Reporter → List ℕ → List ℕ
-printed_of reporter seen = printed reporter.command.report (decoded reporter.command.encoding seen)
+printed_of reporter seen = printed reporter.command.report (stream_of_input reporter.command.encoding seen)
 
 -- what a reporter was asked
 abbrev pub question : Reporter → Question
@@ -50,9 +50,9 @@ pub record TakesLast (old : Reporter) (piece text text_now : List ℕ) (status :
   pub answer : (seen : List ℕ) → Stands old seen → (most : ℕ) → length (seen ++ piece) ≤ most → (rest : List ℕ)
       → answer_of old.command most ((seen ++ piece) ++ rest) ≡ record { text = printed_of old seen ++ added; status = status }
 
-abbrev pub Takes : Option Status → Reporter → Reporter → List ℕ → List ℕ → List ℕ → Type 0
-Takes None old new piece text text_now = TakesOn old new piece text text_now
-Takes (Some status) old new piece text text_now = TakesLast old piece text text_now status
+abbrev pub TakesInput : Option Status → Reporter → Reporter → List ℕ → List ℕ → List ℕ → Type 0
+TakesInput None old new piece text text_now = TakesOn old new piece text text_now
+TakesInput (Some status) old new piece text text_now = TakesLast old piece text text_now status
 
 -- the input goes on here, where no more may be read, and the rest of the answer was printed
 pub record EndsTooLong (reporter : Reporter) (text text_now : List ℕ) (status : Status) : Type 0 where

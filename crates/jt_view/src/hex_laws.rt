@@ -1,7 +1,7 @@
 //! Laws of hexadecimal input. Each is a function that does nothing, whose contract is the law.
 
 ghost use Rattle.std.specs.Prelude.{◌≡◌, ◌++◌, List, ℕ, Some};
-ghost use Rattle.jt_view.specs.HexInput.{first_wrong, digits, octets_of};
+ghost use Rattle.jt_view.specs.HexInput.{first_wrong, digits, octets_of_digits};
 
 /// What follows a wrong octet changes nothing: neither its place nor the digits before it.
 pub fn law_wrong_stays()
@@ -13,6 +13,6 @@ pub fn law_wrong_stays()
 
 /// The octets of the front of an input are the first octets of the input.
 pub fn law_octets_of_front()
-    ensures { (front rest : List ℕ) →
-        (more : List ℕ) × (octets_of (digits (front ++ rest)) ≡ octets_of (digits front) ++ more) }
+    ensures { (front rest : List ℕ) → (more : List ℕ)
+        × (octets_of_digits (digits (front ++ rest)) ≡ octets_of_digits (digits front) ++ more) }
 {}

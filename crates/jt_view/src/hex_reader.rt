@@ -2,7 +2,7 @@
 
 ghost use Rattle.std.specs.Prelude.{◌≡◌, ◌<◌, ◌+◌, ◌↔◌, List, ℕ, [], ◌∷◌, ◌++◌, length, option_to_list, IfOk, IfSome, OnOk, OnErr, IsTrue, None};
 ghost use Rattle.hex.specs.Hex.{is_hex_digit};
-ghost use Rattle.jt_view.specs.HexInput.{is_blank, octet_of, first_wrong, digits, octets_of, unpaired, IsOdd, StandsFor, Completes};
+ghost use Rattle.jt_view.specs.HexInput.{is_blank, octet_of, first_wrong, digits, octets_of_digits, unpaired, IsOdd, StandsFor, Completes};
 
 use jt_value::Memory;
 use std::marker::Model;
@@ -68,7 +68,8 @@ impl HexReader {
     fn take(&mut self, digit: u8, octets: &mut Vec<u8>) -> Result<(), Memory>
         requires { IsTrue (is_hex_digit digit) }
         ensures waits { OnOk result (self.new ≡ unpaired (option_to_list self.old ++ digit ∷ [])) }
-        ensures octets { OnOk result (octets.new.items ≡ octets.old.items ++ octets_of (option_to_list self.old ++ digit ∷ [])) }
+        ensures octets { OnOk result (octets.new.items
+            ≡ octets.old.items ++ octets_of_digits (option_to_list self.old ++ digit ∷ [])) }
         ensures err { OnErr result (octets.new.items ≡ octets.old.items) }
     {
         match self.waiting.take() {
@@ -85,11 +86,14 @@ impl HexReader {
     pub fn read(&mut self, text: &[u8], octets: &mut Vec<u8>) -> Result<Option<usize>, Memory>
         ensures right { IfOk result (λ wrong. wrong ≡ None →
             (seen : List ℕ) → StandsFor self.old seen → StandsFor self.new (seen ++ text.now)) }
-        ensures wrong { IfOk result (λ wrong. IfSome wrong (λ index. (seen : List ℕ) → StandsFor self.old seen →
+        ensures wrong { IfOk result (λ wrong.
+            IfSome wrong (λ index. (seen : List ℕ) → StandsFor self.old seen →
             first_wrong (seen ++ text.now) ≡ Some (length seen + index))) }
         ensures within { IfOk result (λ wrong. IfSome wrong (λ index. index < length text.now)) }
-        ensures octets { IfOk result (λ _. Completes self.old text.now octets.old.items octets.new.items) }
-        ensures err { OnErr result ((more : List ℕ) × (octets.new.items ≡ octets.old.items ++ more)) }
+        ensures octets { IfOk result (λ _.
+            Completes self.old text.now octets.old.items octets.new.items) }
+        ensures err { OnErr result
+            ((more : List ℕ) × (octets.new.items ≡ octets.old.items ++ more)) }
     {
         for (index, octet) in text.iter().enumerate() {
             if is_digit(*octet) {

@@ -1,6 +1,7 @@
 //! What counting asks of an entry, and all that a check asks.
 
 ghost use Rattle.std.specs.Prelude.{◌≡◌, ◌<◌, ◌≤◌, ◌^◌, Some, length, IfOk};
+ghost use Rattle.jt_value.specs.declared.limits.TheConstants.{CONTENT_LIMIT};
 ghost use Rattle.jt_escape.specs.Splitter.{lent};
 ghost use Rattle.jt_stream.specs.Item.{Frame};
 ghost use Rattle.jt_view.specs.Entry.{entry_of};
@@ -9,7 +10,7 @@ ghost use Rattle.jt_view.specs.Reporting.{JudgesTold, judged};
 use jt_codec::judge_message;
 use jt_escape::Split;
 use jt_header::Header;
-use jt_stream::{Stream, placed};
+use jt_stream::{Stream, refusal_in_frame};
 use jt_value::{Memory, Refusal};
 use std::alloc::Global;
 
@@ -28,18 +29,19 @@ pub enum Judged {
 #[inline(always)]
 fn judge_body(alloc: Global, place: u64, header: &Header, body: &[u8]) -> Result<Judged, Memory>
     requires { length body.now < 2 ^ 10 }
-    ensures { IfOk result (λ judgement. judgement ≡ judged (Some (entry_of (Frame place header.now body.now)))) }
+    ensures { IfOk result (λ judgement.
+        judgement ≡ judged (Some (entry_of (Frame place header.now body.now)))) }
 {
     match judge_message(alloc, header, body)? {
         None => Ok(Judged::Frame),
-        Some(refusal) => Ok(Judged::Refused(placed(place, refusal))),
+        Some(refusal) => Ok(Judged::Refused(refusal_in_frame(place, refusal))),
     }
 }
 
 // Whether the frame that the stream just took is refused.
 #[inline(always)]
 fn judge_frame(alloc: Global, stream: &Stream, taken: &[u8]) -> Result<Judged, Memory>
-    requires { length (lent stream.now.splitter taken.now) ≤ 1045 }
+    requires { length (lent stream.now.splitter taken.now) ≤ CONTENT_LIMIT }
     ensures { IfOk result (JudgesTold Split.Content stream.now.splitter taken.now) }
 {
     match stream.frame_in(taken) {
@@ -57,7 +59,7 @@ pub fn judge_told(
     taken: &[u8],
     split: Split,
 ) -> Result<Judged, Memory>
-    requires { split ≡ Split.Content → length (lent stream.now.splitter taken.now) ≤ 1045 }
+    requires { split ≡ Split.Content → length (lent stream.now.splitter taken.now) ≤ CONTENT_LIMIT }
     ensures { IfOk result (JudgesTold split stream.now.splitter taken.now) }
 {
     match split {

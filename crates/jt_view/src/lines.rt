@@ -9,7 +9,8 @@ use std::fmt::Write;
 /// The line that closes a view: how many lines of frames and of refusals stand before it.
 #[tactic(auto, unfolding(crate::specs::Line::counts_line))]
 pub fn push_counts_line(text: &mut String, frames: u64, refused: u64) -> Result<(), AllocError>
-    ensures { OnOk result (string_bytes text.new ≡ string_bytes text.old ++ counts_line frames refused) }
+    ensures { OnOk result
+        (string_bytes text.new ≡ string_bytes text.old ++ counts_line frames refused) }
 {
     write!(text, "frames={frames} refused={refused}\n")
 }
@@ -25,7 +26,8 @@ pub fn push_ok_line(text: &mut String, frames: u64) -> Result<(), AllocError>
 /// The line of an input whose hexadecimal digits go wrong at this place.
 #[tactic(auto, unfolding(crate::specs::Line::hex_refused_line))]
 pub fn push_hex_refused_line(text: &mut String, place: u64) -> Result<(), AllocError>
-    ensures { OnOk result (string_bytes text.new ≡ string_bytes text.old ++ hex_refused_line place) }
+    ensures { OnOk result
+        (string_bytes text.new ≡ string_bytes text.old ++ hex_refused_line place) }
 {
     write!(text, "hex refused at {place}\n")
 }

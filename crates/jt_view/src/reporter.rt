@@ -1,8 +1,9 @@
 //! The report of an input that comes in pieces.
 
 ghost use Rattle.std.specs.Prelude.{◌≡◌, ◌⊎◌, IfSome, ◌<◌, ◌≤◌, ◌+◌, ◌-◌, ◌^◌, ℕ, List, [], None, length, string_bytes, IfOk};
+ghost use Rattle.jt_value.specs.declared.limits.TheConstants.{INPUT_LIMIT};
 ghost use Rattle.jt_view.specs.Report.{answer_of, closing_of};
-ghost use Rattle.jt_view.specs.Taking.{Stands, StandsFor, Takes, EndsTooLong};
+ghost use Rattle.jt_view.specs.Taking.{Stands, StandsFor, TakesInput, EndsTooLong};
 
 use crate::closing::Closing;
 use crate::command::{Command, Encoding};
@@ -66,11 +67,15 @@ impl Reporter {
         requires place { self.old.tally.stream.splitter.place ≤ self.old.taken }
         ensures command { self.new.command ≡ self.old.command }
         ensures most { self.new.most ≡ self.old.most }
-        ensures taken { IfOk result (λ settled. settled ≡ None → self.new.taken ≡ self.old.taken + length piece.now) }
-        ensures place { IfOk result (λ settled. settled ≡ None → self.new.tally.stream.splitter.place ≤ self.new.taken) }
+        ensures taken { IfOk result (λ settled.
+            settled ≡ None → self.new.taken ≡ self.old.taken + length piece.now) }
+        ensures place { IfOk result (λ settled.
+            settled ≡ None → self.new.tally.stream.splitter.place ≤ self.new.taken) }
         ensures place_of_any { IfOk result (λ _. self.new.tally.stream.splitter.place < 2 ^ 63) }
-        ensures refused { IfOk result (λ settled. IfSome settled (λ status. status ≡ Status.Refused)) }
-        ensures takes { IfOk result (λ settled. Takes settled self.old self.new piece.now (string_bytes text.old) (string_bytes text.new)) }
+        ensures refused { IfOk result (λ settled.
+            IfSome settled (λ status. status ≡ Status.Refused)) }
+        ensures takes { IfOk result (λ settled. TakesInput settled self.old self.new piece.now
+            (string_bytes text.old) (string_bytes text.new)) }
     {
         law_all_items();
         law_octets_of_front();
@@ -93,11 +98,15 @@ impl Reporter {
         requires place { self.old.tally.stream.splitter.place ≤ self.old.taken }
         ensures command { self.new.command ≡ self.old.command }
         ensures most { self.new.most ≡ self.old.most }
-        ensures taken { IfOk result (λ settled. settled ≡ None → self.new.taken ≡ self.old.taken + length piece.now) }
-        ensures place { IfOk result (λ settled. settled ≡ None → self.new.tally.stream.splitter.place ≤ self.new.taken) }
+        ensures taken { IfOk result (λ settled.
+            settled ≡ None → self.new.taken ≡ self.old.taken + length piece.now) }
+        ensures place { IfOk result (λ settled.
+            settled ≡ None → self.new.tally.stream.splitter.place ≤ self.new.taken) }
         ensures place_of_any { IfOk result (λ _. self.new.tally.stream.splitter.place < 2 ^ 63) }
-        ensures refused { IfOk result (λ settled. IfSome settled (λ status. status ≡ Status.Refused)) }
-        ensures takes { IfOk result (λ settled. Takes settled self.old self.new piece.now (string_bytes text.old) (string_bytes text.new)) }
+        ensures refused { IfOk result (λ settled.
+            IfSome settled (λ status. status ≡ Status.Refused)) }
+        ensures takes { IfOk result (λ settled. TakesInput settled self.old self.new piece.now
+            (string_bytes text.old) (string_bytes text.new)) }
     {
         law_all_items();
         law_octets_of_front();
@@ -137,11 +146,15 @@ impl Reporter {
         requires place { self.old.tally.stream.splitter.place ≤ self.old.taken }
         ensures command { self.new.command ≡ self.old.command }
         ensures most { self.new.most ≡ self.old.most }
-        ensures taken { IfOk result (λ settled. settled ≡ None → self.new.taken ≡ self.old.taken + length piece.now) }
-        ensures place { IfOk result (λ settled. settled ≡ None → self.new.tally.stream.splitter.place ≤ self.new.taken) }
+        ensures taken { IfOk result (λ settled.
+            settled ≡ None → self.new.taken ≡ self.old.taken + length piece.now) }
+        ensures place { IfOk result (λ settled.
+            settled ≡ None → self.new.tally.stream.splitter.place ≤ self.new.taken) }
         ensures place_of_any { IfOk result (λ _. self.new.tally.stream.splitter.place < 2 ^ 63) }
-        ensures refused { IfOk result (λ settled. IfSome settled (λ status. status ≡ Status.Refused)) }
-        ensures takes { IfOk result (λ settled. Takes settled self.old self.new piece.now (string_bytes text.old) (string_bytes text.new)) }
+        ensures refused { IfOk result (λ settled.
+            IfSome settled (λ status. status ≡ Status.Refused)) }
+        ensures takes { IfOk result (λ settled. TakesInput settled self.old self.new piece.now
+            (string_bytes text.old) (string_bytes text.new)) }
     {
         match self.command.encoding {
             Encoding::Octets => self.take_octets(alloc, piece, text),
@@ -163,7 +176,8 @@ impl Reporter {
     // Puts what closes the report of an input that goes on, though no more of it may be read, and answers its status.
     fn end_too_long(&self, text: &mut String) -> Result<Status, Memory>
         requires place { self.now.tally.stream.splitter.place < 2 ^ 63 }
-        ensures ends { IfOk result (λ status. EndsTooLong self.now (string_bytes text.old) (string_bytes text.new) status) }
+        ensures ends { IfOk result (λ status.
+            EndsTooLong self.now (string_bytes text.old) (string_bytes text.new) status) }
         ensures refused { IfOk result (λ status. status ≡ Status.Refused) }
     {
         close(self.command.report, Closing::TooLong, &self.tally, text)
@@ -179,7 +193,7 @@ impl Teller for Reporter {
 
     ghost has_told = { λ _ _ _. Unit {0} };
 
-    ghost can_take = { λ reporter. (reporter.most ≤ 2 ^ 40) × (reporter.taken ≤ reporter.most) × (reporter.tally.stream.splitter.place ≤ reporter.taken) };
+    ghost can_take = { λ reporter. (reporter.most ≤ INPUT_LIMIT) × (reporter.taken ≤ reporter.most) × (reporter.tally.stream.splitter.place ≤ reporter.taken) };
 
     ghost room = { λ reporter. reporter.most - reporter.taken };
 

@@ -2,6 +2,7 @@
 
 ghost use Rattle.std.specs.Prelude.{◌≡◌, ◌≢◌, ◌⊎◌, ◌≤◌, ◌^◌, IfSome};
 ghost use Rattle.std.specs.Io.KnownBytes.{IsAtEnd, Appends};
+ghost use Rattle.jt_value.specs.declared.limits.TheConstants.{INPUT_LIMIT};
 ghost use Rattle.jt_value.specs.Counts.{Rose};
 ghost use Rattle.jt_input.specs.Answer.{IsFault, PrintsTaken, ReadsNoFurther, Runs, StopsAtWrite};
 ghost use Rattle.jt_view.specs.Answer.{IsOpen};
@@ -22,20 +23,26 @@ pub fn report<S: Source, K: Sink>(
     command: Command,
     most: u64,
 ) -> Status
-    requires { most ≤ 2 ^ 40 }
-    ensures runs { Runs (answer_of command most) (S.left source.old) (S.left source.new) (K.written sink.old) (K.written sink.new) result }
+    requires { most ≤ INPUT_LIMIT }
+    ensures runs { Runs (answer_of command most) (S.left source.old) (S.left source.new)
+        (K.written sink.old) (K.written sink.new) result }
     // So, where the source tells its octets, and no fault came:
-    ensures whole { IfSome (S.left source.old) (λ octets. IsFault result ⊎ ((result ≡ (answer_of command most octets).status)
+    ensures whole { IfSome (S.left source.old) (λ octets.
+        IsFault result ⊎ ((result ≡ (answer_of command most octets).status)
         × Appends (K.written sink.old) (K.written sink.new) (answer_of command most octets).text)) }
-    ensures no_further { ReadsNoFurther (IsOpen command most) (2 ^ 14) (S.left source.old) (S.left source.new) }
-    ensures prints_taken { result ≡ Status.ReadFault →
-        PrintsTaken (IsOpen command most) (S.left source.old) (S.left source.new) (K.written sink.old) (K.written sink.new) }
+    ensures no_further { ReadsNoFurther (IsOpen command most) (2 ^ 14)
+        (S.left source.old) (S.left source.new) }
+    ensures prints_taken { result ≡ Status.ReadFault → PrintsTaken (IsOpen command most)
+        (S.left source.old) (S.left source.new) (K.written sink.old) (K.written sink.new) }
     // A write that failed ends the run.
-    ensures stops_at_write { result ≡ Status.WriteFault → StopsAtWrite (answer_of command most) (IsOpen command most) (2 ^ 14)
+    ensures stops_at_write { result ≡ Status.WriteFault →
+        StopsAtWrite (answer_of command most) (IsOpen command most) (2 ^ 14)
         (S.left source.old) (S.left source.new) (K.written sink.old) (K.written sink.new) }
     ensures to_the_end { result ≡ Status.Done → IsAtEnd (S.left source.new) }
-    ensures read_fault { result ≡ Status.ReadFault → Rose (S.faults source.old) (S.faults source.new) }
-    ensures write_fault { result ≡ Status.WriteFault → Rose (K.faults sink.old) (K.faults sink.new) }
+    ensures read_fault { result ≡ Status.ReadFault →
+        Rose (S.faults source.old) (S.faults source.new) }
+    ensures write_fault { result ≡ Status.WriteFault →
+        Rose (K.faults sink.old) (K.faults sink.new) }
     ensures not_usage { result ≢ Status.Usage }
 {
     let mut reporter = Reporter::new(alloc, command, most);

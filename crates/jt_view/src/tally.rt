@@ -3,7 +3,7 @@
 ghost use Rattle.std.specs.Prelude.{◌≡◌, ◌<◌, ◌≤◌, ◌+◌, ◌^◌, [], List, ℕ, Option, length, take, string_bytes, IfOk, option_to_list};
 ghost use Rattle.jt_escape.specs.Scan.{end_of_stream};
 ghost use Rattle.jt_view.specs.Entry.{Entry, first_refusal};
-ghost use Rattle.jt_view.specs.Reporting.{Counts, Views, Checks, IsCounted, judged};
+ghost use Rattle.jt_view.specs.Reporting.{CountsEntries, Views, Checks, IsCounted, judged};
 
 use crate::judged::{Judged, judge_told};
 use crate::viewing::view_told;
@@ -36,7 +36,7 @@ impl Model for Tally {
 impl Tally {
     /// Nothing was taken yet.
     pub fn new() -> Tally
-        ensures { Counts result [] }
+        ensures { CountsEntries result [] }
     {
         law_all_items();
         Tally {
@@ -59,8 +59,10 @@ impl Tally {
         requires some { 0 < length piece.now }
         requires place { self.old.stream.splitter.place + length piece.now < 2 ^ 63 }
         ensures some { IfOk result (λ count. (0 < count) × (count ≤ length piece.now)) }
-        ensures place { IfOk result (λ count. self.new.stream.splitter.place ≡ self.old.stream.splitter.place + count) }
-        ensures views { IfOk result (λ count. Views self.old self.new (take count piece.now) (string_bytes text.old) (string_bytes text.new)) }
+        ensures place { IfOk result (λ count.
+            self.new.stream.splitter.place ≡ self.old.stream.splitter.place + count) }
+        ensures views { IfOk result (λ count. Views self.old self.new (take count piece.now)
+            (string_bytes text.old) (string_bytes text.new)) }
     {
         law_all_items();
         let (count, split) = self.stream.take_in_place(piece);
@@ -76,7 +78,8 @@ impl Tally {
         requires some { 0 < length piece.now }
         requires place { self.old.stream.splitter.place + length piece.now < 2 ^ 63 }
         ensures some { IfOk result (λ x. (0 < x.0) × (x.0 ≤ length piece.now)) }
-        ensures place { IfOk result (λ x. self.new.stream.splitter.place ≡ self.old.stream.splitter.place + x.0) }
+        ensures place { IfOk result (λ x.
+            self.new.stream.splitter.place ≡ self.old.stream.splitter.place + x.0) }
         ensures checks { IfOk result (λ x. Checks self.old self.new (take x.0 piece.now) x.1) }
     {
         law_all_items();
@@ -91,8 +94,10 @@ impl Tally {
     fn count(&mut self, judgement: Judged) -> Option<Refusal>
         requires room { self.old.frames + self.old.refused < self.old.stream.splitter.place }
         requires place { self.old.stream.splitter.place < 2 ^ 64 }
-        ensures counted { (entry : Option Entry) → judgement ≡ judged entry → IsCounted self.old self.new entry }
-        ensures refusal { (entry : Option Entry) → judgement ≡ judged entry → result ≡ first_refusal (option_to_list entry) }
+        ensures counted { (entry : Option Entry) → judgement ≡ judged entry →
+            IsCounted self.old self.new entry }
+        ensures refusal { (entry : Option Entry) → judgement ≡ judged entry →
+            result ≡ first_refusal (option_to_list entry) }
     {
         match judgement {
             Judged::Nothing => None,
@@ -109,7 +114,8 @@ impl Tally {
 
     /// The refusal of a stream that ends here, if it has one.
     pub fn finish(&self) -> Option<Refusal>
-        ensures { (octets : List ℕ) → Counts self.now octets → result ≡ end_of_stream octets }
+        ensures { (octets : List ℕ) → CountsEntries self.now octets →
+            result ≡ end_of_stream octets }
     {
         law_one_end();
         self.stream.finish()

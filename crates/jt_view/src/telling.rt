@@ -2,7 +2,7 @@
 
 ghost use Rattle.std.specs.Prelude.{◌≡◌, ◌≢◌, ◌⊎◌, ◌<◌, ◌≤◌, ◌+◌, ◌^◌, ◌++◌, ◌==◌, if◌then◌else◌, length, string_bytes, IfOk, OnOk};
 ghost use Rattle.jt_view.specs.Entry.{lines, end_entries, refusals};
-ghost use Rattle.jt_view.specs.Reporting.{Tells, TellsOn, Closes};
+ghost use Rattle.jt_view.specs.Reporting.{TellsOctets, TellsOn, Closes};
 
 use crate::closing::Closing;
 use crate::command::Report;
@@ -17,8 +17,10 @@ use std::alloc::{AllocError, Global};
 // Puts the lines of all entries that the octets bring.
 fn view(alloc: Global, tally: &mut Tally, octets: &[u8], text: &mut String) -> Result<(), Memory>
     requires { tally.old.stream.splitter.place + length octets.now < 2 ^ 63 }
-    ensures place { OnOk result (tally.new.stream.splitter.place ≡ tally.old.stream.splitter.place + length octets.now) }
-    ensures tells { OnOk result (TellsOn Report.View tally.old tally.new octets.now (string_bytes text.old) (string_bytes text.new)) }
+    ensures place { OnOk result
+        (tally.new.stream.splitter.place ≡ tally.old.stream.splitter.place + length octets.now) }
+    ensures tells { OnOk result (TellsOn Report.View tally.old tally.new octets.now
+        (string_bytes text.old) (string_bytes text.new)) }
 {
     let mut line = Line::new();
     let mut at = 0;
@@ -31,8 +33,10 @@ fn view(alloc: Global, tally: &mut Tally, octets: &[u8], text: &mut String) -> R
 // Takes octets up to the first refusal, and puts its line: then the answer is true.
 fn check(alloc: Global, tally: &mut Tally, octets: &[u8], text: &mut String) -> Result<bool, Memory>
     requires { tally.old.stream.splitter.place + length octets.now < 2 ^ 63 }
-    ensures place { IfOk result (λ _. tally.new.stream.splitter.place ≤ tally.old.stream.splitter.place + length octets.now) }
-    ensures tells { IfOk result (λ settled. Tells settled Report.Check tally.old tally.new octets.now (string_bytes text.old) (string_bytes text.new)) }
+    ensures place { IfOk result (λ _.
+        tally.new.stream.splitter.place ≤ tally.old.stream.splitter.place + length octets.now) }
+    ensures tells { IfOk result (λ settled. TellsOctets settled Report.Check tally.old tally.new
+        octets.now (string_bytes text.old) (string_bytes text.new)) }
 {
     law_all_items();
     let mut at = 0;
@@ -60,8 +64,10 @@ pub fn tell(
     text: &mut String,
 ) -> Result<bool, Memory>
     requires { tally.old.stream.splitter.place + length octets.now < 2 ^ 63 }
-    ensures place { IfOk result (λ _. tally.new.stream.splitter.place ≤ tally.old.stream.splitter.place + length octets.now) }
-    ensures tells { IfOk result (λ settled. Tells settled report tally.old tally.new octets.now (string_bytes text.old) (string_bytes text.new)) }
+    ensures place { IfOk result (λ _.
+        tally.new.stream.splitter.place ≤ tally.old.stream.splitter.place + length octets.now) }
+    ensures tells { IfOk result (λ settled. TellsOctets settled report tally.old tally.new
+        octets.now (string_bytes text.old) (string_bytes text.new)) }
 {
     match report {
         Report::View => {
@@ -73,7 +79,8 @@ pub fn tell(
 }
 
 fn push_end(text: &mut String, end: Option<Refusal>) -> Result<(), AllocError>
-    ensures { OnOk result (string_bytes text.new ≡ string_bytes text.old ++ lines (end_entries end)) }
+    ensures { OnOk result
+        (string_bytes text.new ≡ string_bytes text.old ++ lines (end_entries end)) }
 {
     match end {
         Some(refusal) => push_refusal_line(text, &refusal),
@@ -106,7 +113,8 @@ fn status_of(refused: u64) -> Status
 // Closes a view of a stream that was read to its end.
 fn close_view(tally: &Tally, text: &mut String) -> Result<Status, Memory>
     requires { tally.now.stream.splitter.place < 2 ^ 63 }
-    ensures closes { IfOk result (λ status. Closes Report.View Closing.Whole tally.now (string_bytes text.old) (string_bytes text.new) status) }
+    ensures closes { IfOk result (λ status. Closes Report.View Closing.Whole tally.now
+        (string_bytes text.old) (string_bytes text.new) status) }
     ensures status { IfOk result (λ status. (status ≡ Status.Done) ⊎ (status ≡ Status.Refused)) }
 {
     let end = tally.finish();
@@ -118,7 +126,8 @@ fn close_view(tally: &Tally, text: &mut String) -> Result<Status, Memory>
 
 // Closes a check of a stream that was read to its end, and has no refusal before that.
 fn close_check(tally: &Tally, text: &mut String) -> Result<Status, Memory>
-    ensures closes { IfOk result (λ status. Closes Report.Check Closing.Whole tally.now (string_bytes text.old) (string_bytes text.new) status) }
+    ensures closes { IfOk result (λ status. Closes Report.Check Closing.Whole tally.now
+        (string_bytes text.old) (string_bytes text.new) status) }
     ensures status { IfOk result (λ status. (status ≡ Status.Done) ⊎ (status ≡ Status.Refused)) }
 {
     match tally.finish() {
@@ -141,7 +150,8 @@ pub fn close(
     text: &mut String,
 ) -> Result<Status, Memory>
     requires { tally.now.stream.splitter.place < 2 ^ 63 }
-    ensures closes { IfOk result (λ status. Closes report closing tally.now (string_bytes text.old) (string_bytes text.new) status) }
+    ensures closes { IfOk result (λ status.
+        Closes report closing tally.now (string_bytes text.old) (string_bytes text.new) status) }
     ensures status { IfOk result (λ status. (status ≡ Status.Done) ⊎ (status ≡ Status.Refused)) }
     ensures cut { closing ≢ Closing.Whole → IfOk result (λ status. status ≡ Status.Refused) }
 {

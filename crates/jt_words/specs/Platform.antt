@@ -1,6 +1,8 @@
 -- The words of `platform`: this project's own. To be believed.
 use Rattle.std.specs.Prelude.{◌≡◌, ◌≤◌, ◌⊎◌, ℕ, List, ◌∷◌, codes}
 use Rattle.std.specs.Fmt.{decimal}
+use Rattle.jt_words.specs.declared.platform_words.TheConstants.{SESSIONS_MOST}
+use Rattle.jt_value.specs.declared.limits.TheConstants.{PORT_LIMIT}
 use Rattle.jt_words.specs.OptionWords.{ArePair}
 
 -- the options of the port and of the number of sessions, with these values, in either order
@@ -14,5 +16,5 @@ pub record PlatformWords (port sessions : ℕ) (words : List (List ℕ)) : Type 
   pub options : List (List ℕ)
   pub command : words ≡ codes "platform" ∷ options
   pub values : AreOptions (decimal port) (decimal sessions) options
-  pub port_range : (1 ≤ port) × (port ≤ 65535)
-  pub sessions_range : (1 ≤ sessions) × (sessions ≤ 1024)
+  pub port_range : (1 ≤ port) × (port ≤ PORT_LIMIT)
+  pub sessions_range : (1 ≤ sessions) × (sessions ≤ SESSIONS_MOST)

@@ -7,6 +7,7 @@ ghost use Rattle.jt_words.specs.Platform.{PlatformWords as AreWords, AreOptions}
 
 use crate::option_words::option_pair;
 use jt_input::number;
+use jt_value::limits::PORT_LIMIT;
 
 /// What `platform` is told.
 #[derive(Clone, Copy, Debug, PartialEq, Eq)]
@@ -21,14 +22,14 @@ const PORT: &[u8] = b"port";
 
 const SESSIONS: &[u8] = b"sessions";
 
-const PORT_MOST: u32 = 65_535;
-
 const SESSIONS_MOST: u32 = 1_024;
 
 // The values of the port and of the number of sessions.
 fn values(options: &[String]) -> Option<(&[u8], &[u8])>
-    ensures some { IfSome result (λ values. AreOptions values.0.now values.1.now (map string_bytes options.now)) }
-    ensures each { (port sessions : List ℕ) → AreOptions port sessions (map string_bytes options.now) →
+    ensures some { IfSome result (λ values.
+        AreOptions values.0.now values.1.now (map string_bytes options.now)) }
+    ensures each { (port sessions : List ℕ) →
+        AreOptions port sessions (map string_bytes options.now) →
         MatchOption result ⊥ (λ values. (values.0.now ≡ port) × (values.1.now ≡ sessions)) }
 {
     match option_pair(options, PORT, SESSIONS) {
@@ -53,8 +54,10 @@ fn in_range(octets: &[u8], most: u32) -> Option<u32>
 impl PlatformWords {
     /// Reads the words after the program's name. None means that they are no words of `platform`.
     pub fn from_words(words: &[String]) -> Option<PlatformWords>
-        ensures some { IfSome result (λ told. AreWords told.port told.sessions (map string_bytes words.now)) }
-        ensures that_one { (port sessions : ℕ) → AreWords port sessions (map string_bytes words.now) →
+        ensures some { IfSome result (λ told.
+            AreWords told.port told.sessions (map string_bytes words.now)) }
+        ensures that_one { (port sessions : ℕ) →
+            AreWords port sessions (map string_bytes words.now) →
             MatchOption result ⊥ (λ told. (told.port ≡ port) × (told.sessions ≡ sessions)) }
     {
         let (command, options) = words.split_first()?;
@@ -62,7 +65,7 @@ impl PlatformWords {
             return None;
         }
         let (port, sessions) = values(options)?;
-        let port = in_range(port, PORT_MOST)?;
+        let port = in_range(port, PORT_LIMIT)?;
         let sessions = in_range(sessions, SESSIONS_MOST)?;
         Some(PlatformWords {
             port: u16::try_from(port).ok()?,

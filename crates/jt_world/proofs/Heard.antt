@@ -11,17 +11,17 @@ use Rattle.jt_script.specs.declared.script.ScriptLine.TheVariants.{Passed, Event
 use Rattle.jt_script.specs.Said.{said}
 use Rattle.jt_input.specs.Text.{is_within}
 use Rattle.jt_input.specs.Lines.{Outcome, HearsOn, HearsBad}
-use Rattle.jt_world.specs.Rehearsal.{is_allowed, meaning, led, heard, rehearsed, outcome_of, entry_line}
+use Rattle.jt_world.specs.Rehearsal.{is_allowed, meaning, with_new_entries, after_line, rehearsal_from, outcome_of, entry_line}
 use Rattle.jt_world.specs.Script.{IsAllowed, fix_limit, entries_between, world_after}
 use Rattle.jt_world.specs.World.{World}
 
 -- what comes of lines
 abbrev pub outcome : World → ℕ → List (List ℕ) → Outcome World
-outcome w number lines = outcome_of (rehearsed w number lines)
+outcome w number lines = outcome_of (rehearsal_from w number lines)
 
 -- what comes of a line that says this, and of more lines
 abbrev pub said_then : World → ℕ → List (List ℕ) → ScriptLine → Outcome World
-said_then w number more says = outcome_of (heard w number (λ next. rehearsed next (number + 1) more) says)
+said_then w number more says = outcome_of (after_line w number (λ next. rehearsal_from next (number + 1) more) says)
 
 allowed_tells : (w : World) (e : WorldEvent) → Decides (is_allowed w e) (IsAllowed w e)
 allowed_tells w (event.Fix latitude) = Decides-ltb (length w.recorded) fix_limit
@@ -63,7 +63,7 @@ hears_event old new number line text text_now e within says may after is = recor
   text_is = is;
   next = λ more.
       ap (said_then old number more) (event_meaning old number line e within says may)
-      ∙ ap (λ (w : World). outcome_of (led old w (λ next. rehearsed next (number + 1) more))) (sym after);
+      ∙ ap (λ (w : World). outcome_of (with_new_entries old w (λ next. rehearsal_from next (number + 1) more))) (sym after);
 }
 
 hears_it_bad : (w : World) (number : ℕ) (line text : List ℕ) → meaning w number line ≡ Bad → HearsBad outcome w w number line text text

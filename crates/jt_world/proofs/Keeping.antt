@@ -17,8 +17,8 @@ use Rattle.jt_stream.specs.Unplaced.{Unplaced, Message, of_content}
 use Rattle.jt_world.specs.declared.row.Row.{Row}
 use Rattle.jt_world.specs.declared.acknowledgement.Acknowledgement.{Acknowledgement}
 use Rattle.jt_world.specs.Messages.{serial_of, unit_header, unit_content, unit_frame, answer_header, answer, ack_octets, answer_frame, is_named, is_acceptance}
-use Rattle.jt_world.specs.World.{World, Line, written, moved, completed, carried, fixes_in, empty}
-use Rattle.jt_world.specs.Events.{Event, Record, Form, Send, Up, Down, Accept, MayForm, MaySend, MayCome, after, was_sent, frame_at, is_accepted_by, accepted_by, oldest_by, may_accept, told_of, heard, sent, answered, is_above, is_new, stored, seen, unit_taken, moved_up, moved_down}
+use Rattle.jt_world.specs.World.{World, Line, written, with_one_taken, completed_item, carried, fixes_in, empty}
+use Rattle.jt_world.specs.Events.{Event, Record, Form, Send, Up, Down, Accept, MayForm, MaySend, MayCome, after, was_sent, frame_at, is_accepted_by, accepted_by, oldest_by, may_accept, after_response, after_hearing, line_with_sent, line_with_answer, is_above, is_new, rows_with, platform_after, unit_taken, moved_up, moved_down}
 use mathlib.Core.List.{IsPrefix}
 use Rattle.jt_value.specs.Reaching.{MayAll, after_all}
 use Rattle.jt_world.specs.Reaching.{Reached}
@@ -149,7 +149,7 @@ form_kept below w unit v may = record {
     good : IsGood unit
     good = record { unwrapped = may.unwrapped; position = may.position; fix = all_at IsFix w.recorded (length (fixes_in w.units)) unit.body v.fixes (prefix_in (fixes_in w.units) w.recorded unit.body may.next) }
 
-sent_or_this : (line : Line) (place other : ℕ) (frame : List ℕ) (before now : ℕ) → now ≡ max before (suc place) → (IsTrue (was_sent line other) → other < before) → IsTrue (was_sent (sent line place frame) other) → other < now
+sent_or_this : (line : Line) (place other : ℕ) (frame : List ℕ) (before now : ℕ) → now ≡ max before (suc place) → (IsTrue (was_sent line other) → other < before) → IsTrue (was_sent (line_with_sent line place frame) other) → other < now
 sent_or_this line place other frame before now is old new =
     elim (or_cases (was_sent line other) (list_any (λ k. k == other) (place ∷ [])) (sym (list_any-append (λ k. k == other) line.sent (place ∷ [])) ∙ new)) [
       | inl a ↦ omega (arith, is, old a)
@@ -258,7 +258,7 @@ record Grown (units rows grown : List Row) (place : ℕ) : Type 0 where
   first : grown ≡ take (length grown) units
 
 stored_grown : (units rows : List Row) (unit : Row) (place : ℕ) → UnitsOk units → rows ≡ take (length rows) units → length rows ≤ length units → slice_get units place ≡ Some unit
-    → place ≤ length rows → Grown units rows (stored rows unit) place
+    → place ≤ length rows → Grown units rows (rows_with rows unit) place
 stored_grown units rows unit place ok first within at le =
     subst (λ (new : Bool). Grown units rows (if new then rows ++ unit ∷ [] else rows) place) (sym (is_new_at units rows unit place ok first within at le))
     (elim (cases_lt (length rows) (suc place)) [
@@ -277,10 +277,10 @@ stored_grown units rows unit place ok first within at le =
 
 -- the platform has taken the unit at the head of the queue, and has answered
 unit_kept : Below → (w : World) (v : Inv w) (m : Sent) (ms : List Sent) → InOrder w.units (length w.rows) (m ∷ ms)
-    → ((place : ℕ) → IsTrue (was_sent w.line place) → place < end_of (length w.rows) (m ∷ ms)) → View (moved w.line.up) (map content_sent ms)
+    → ((place : ℕ) → IsTrue (was_sent w.line place) → place < end_of (length w.rows) (m ∷ ms)) → View (with_one_taken w.line.up) (map content_sent ms)
     → (grown : List Row) → Grown w.units w.rows grown m.place
-    → Inv (record (moved_up w) { rows = grown; line = answered (moved_up w).line (answer_frame (unit_header m.unit) w.line.serial) })
-unit_kept below w v m ms order sent view grown g = record {
+    → Inv (record (moved_up w) { rows = grown; line = line_with_answer (moved_up w).line (answer_frame (unit_header m.unit) w.line.serial) })
+unit_kept below w v m ms order line_with_sent view grown g = record {
   units = v.units;
   fixes = v.fixes;
   recorded = v.recorded;
@@ -290,7 +290,7 @@ unit_kept below w v m ms order sent view grown g = record {
   queue = ms;
   up = view;
   in_order = subst (λ (n : ℕ). InOrder w.units n ms) (sym g.long) order.2;
-  sent = λ place is. subst (λ (n : ℕ). place < end_of n ms) (sym g.long) (sent place is);
+  sent = λ place is. subst (λ (n : ℕ). place < end_of n ms) (sym g.long) (line_with_sent place is);
   replies = v.replies ++ this ∷ [];
   down = subst (λ (contents : List (List ℕ)). View (written w.line.down (answer_frame (unit_header m.unit) w.line.serial)) contents) (sym (map-append content_replied v.replies (this ∷ [])))
       (view_written w.line.down (map content_replied v.replies) (content_replied this) v.down (content_fits below.long (answer_header (unit_header m.unit) w.line.serial) (ack_octets E2013 (answer (unit_header m.unit))) (content_replied this) (answer_content_is (unit_header m.unit) w.line.serial (unit_header_good m.unit (v.units.good m.place m.unit order.0)) v.serial)));
@@ -306,7 +306,7 @@ unit_kept below w v m ms order sent view grown g = record {
 -- what an octet completes is nothing, or the head of the queue
 up_kept : Below → (w : World) (v : Inv w) (queue : List Sent) → InOrder w.units (length w.rows) queue
     → ((place : ℕ) → IsTrue (was_sent w.line place) → place < end_of (length w.rows) queue) → Comes w.line.up (map content_sent queue) → Inv (after w Up)
-up_kept below w v queue order sent (inl none) = subst (λ (item : Option Unplaced). Inv (seen (moved_up w) item)) (sym none.0) (record {
+up_kept below w v queue order line_with_sent (inl none) = subst (λ (item : Option Unplaced). Inv (platform_after (moved_up w) item)) (sym none.0) (record {
   units = v.units;
   fixes = v.fixes;
   recorded = v.recorded;
@@ -316,7 +316,7 @@ up_kept below w v queue order sent (inl none) = subst (λ (item : Option Unplace
   queue = queue;
   up = none.1;
   in_order = order;
-  sent = sent;
+  sent = line_with_sent;
   replies = v.replies;
   down = v.down;
   all_stored = v.all_stored;
@@ -324,12 +324,12 @@ up_kept below w v queue order sent (inl none) = subst (λ (item : Option Unplace
   told = v.told;
   just = λ ack e. none_some ack e;
 })
-up_kept below w v [] order sent (inr came) = absurd (let e : [] ≡ came.0 ∷ came.1 = came.2 in cc)
-up_kept below w v (m ∷ ms) order sent (inr came) =
-    subst (λ (item : Option Unplaced). Inv (seen (moved_up w) item)) (sym done)
+up_kept below w v [] order line_with_sent (inr came) = absurd (let e : [] ≡ came.0 ∷ came.1 = came.2 in cc)
+up_kept below w v (m ∷ ms) order line_with_sent (inr came) =
+    subst (λ (item : Option Unplaced). Inv (platform_after (moved_up w) item)) (sym done)
     (subst (λ (is : Bool). Inv (if is then unit_taken (moved_up w) (unit_header m.unit) m.unit.body else moved_up w)) (sym (good_unit below.fixes m.unit good))
-    (subst (λ (unit : Row). Inv (record (moved_up w) { rows = stored w.rows unit; line = answered (moved_up w).line (answer_frame (unit_header m.unit) w.line.serial) })) (sym (good_of m.unit good))
-    (unit_kept below w v m ms order sent (subst (View (moved w.line.up)) (sym rest) came.4) (stored w.rows m.unit) (stored_grown w.units w.rows m.unit m.place v.units v.first_units v.stored order.0 order.1))))
+    (subst (λ (unit : Row). Inv (record (moved_up w) { rows = rows_with w.rows unit; line = line_with_answer (moved_up w).line (answer_frame (unit_header m.unit) w.line.serial) })) (sym (good_of m.unit good))
+    (unit_kept below w v m ms order line_with_sent (subst (View (with_one_taken w.line.up)) (sym rest) came.4) (rows_with w.rows m.unit) (stored_grown w.units w.rows m.unit m.place v.units v.first_units v.stored order.0 order.1))))
   where
     good : IsGood m.unit
     good = v.units.good m.place m.unit order.0
@@ -337,7 +337,7 @@ up_kept below w v (m ∷ ms) order sent (inr came) =
     rest : map content_sent ms ≡ came.1
     rest = tails (content_sent m) came.0 (map content_sent ms) came.1 came.2
 
-    done : completed w.line.up ≡ Some (Message (unit_header m.unit) m.unit.body)
+    done : completed_item w.line.up ≡ Some (Message (unit_header m.unit) m.unit.body)
     done = came.3 ∙ ap Some (ap of_content (heads (content_sent m) came.0 (map content_sent ms) came.1 came.2) ∙ below.streams.message (unit_header m.unit) m.unit.body (unit_content m.unit) (unit_content_is m.unit good))
 
 -- ---- an octet down
@@ -361,8 +361,8 @@ named_stored units n i unit ok at lt place named = by (slice_get units place) re
         apart : (a b : ℕ) → serial_of a ≡ serial_of b → a < b → a < 65536 → b < 65536 → ⊥
         apart a b same lt small little = omega arith
 
-told_kept : (w : World) (v : Inv w) (rs : List Reply) → AllStored w.units (length w.rows) rs → View (moved w.line.down) (map content_replied rs)
-    → (ack : Acknowledgement) → ((place : ℕ) → IsTrue (is_named ack (slice_get w.units place)) → place < length w.rows) → Inv (told_of (moved_down w) (Some ack))
+told_kept : (w : World) (v : Inv w) (rs : List Reply) → AllStored w.units (length w.rows) rs → View (with_one_taken w.line.down) (map content_replied rs)
+    → (ack : Acknowledgement) → ((place : ℕ) → IsTrue (is_named ack (slice_get w.units place)) → place < length w.rows) → Inv (after_response (moved_down w) (Some ack))
 told_kept w v rs all view ack names = record {
   units = v.units;
   fixes = v.fixes;
@@ -386,7 +386,7 @@ told_kept w v rs all view ack names = record {
 }
 
 down_kept : Below → (w : World) (v : Inv w) (replies : List Reply) → AllStored w.units (length w.rows) replies → Comes w.line.down (map content_replied replies) → Inv (after w Down)
-down_kept below w v replies all (inl none) = subst (λ (item : Option Unplaced). Inv (heard (moved_down w) item)) (sym none.0) (record {
+down_kept below w v replies all (inl none) = subst (λ (item : Option Unplaced). Inv (after_hearing (moved_down w) item)) (sym none.0) (record {
   units = v.units;
   fixes = v.fixes;
   recorded = v.recorded;
@@ -406,9 +406,9 @@ down_kept below w v replies all (inl none) = subst (λ (item : Option Unplaced).
 })
 down_kept below w v [] all (inr came) = absurd (let e : [] ≡ came.0 ∷ came.1 = came.2 in cc)
 down_kept below w v (r ∷ rs) all (inr came) =
-    subst (λ (item : Option Unplaced). Inv (heard (moved_down w) item)) (sym done)
-    (subst (λ (ack : Option Acknowledgement). Inv (told_of (moved_down w) ack)) (sym (answer_read below.messages (unit_header r.unit) r.serial good))
-    (told_kept w v rs all.3 (subst (View (moved w.line.down)) (sym rest) came.4) (answer (unit_header r.unit)) (named_stored w.units (length w.rows) r.place r.unit v.units all.0 all.1)))
+    subst (λ (item : Option Unplaced). Inv (after_hearing (moved_down w) item)) (sym done)
+    (subst (λ (ack : Option Acknowledgement). Inv (after_response (moved_down w) ack)) (sym (answer_read below.messages (unit_header r.unit) r.serial good))
+    (told_kept w v rs all.3 (subst (View (with_one_taken w.line.down)) (sym rest) came.4) (answer (unit_header r.unit)) (named_stored w.units (length w.rows) r.place r.unit v.units all.0 all.1)))
   where
     good : IsHeader (unit_header r.unit)
     good = unit_header_good r.unit (v.units.good r.place r.unit all.0)
@@ -416,7 +416,7 @@ down_kept below w v (r ∷ rs) all (inr came) =
     rest : map content_replied rs ≡ came.1
     rest = tails (content_replied r) came.0 (map content_replied rs) came.1 came.2
 
-    done : completed w.line.down ≡ Some (Message (answer_header (unit_header r.unit) r.serial) (ack_octets E2013 (answer (unit_header r.unit))))
+    done : completed_item w.line.down ≡ Some (Message (answer_header (unit_header r.unit) r.serial) (ack_octets E2013 (answer (unit_header r.unit))))
     done = came.3 ∙ ap Some (ap of_content (heads (content_replied r) came.0 (map content_replied rs) came.1 came.2) ∙ below.streams.message (answer_header (unit_header r.unit) r.serial) (ack_octets E2013 (answer (unit_header r.unit))) (content_replied r) (answer_content_is (unit_header r.unit) r.serial good all.2))
 
 -- ---- all steps

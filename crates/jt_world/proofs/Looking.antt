@@ -11,10 +11,10 @@ use Rattle.jt_header.specs.Fields.{header_at, body_at}
 use Rattle.jt_stream.specs.declared.stream.StreamItem.{StreamItem}
 use Rattle.jt_stream.specs.declared.stream.StreamItem.TheVariants as answer
 use Rattle.jt_stream.specs.Item.{Item, Items, Refused}
-use Rattle.jt_stream.specs.Stream.{Held, Gains, told}
+use Rattle.jt_stream.specs.Stream.{Held, Gains, stream_items}
 use Rattle.jt_stream.specs.Unplaced.{Unplaced, Message, items, unplaced}
-use Rattle.jt_world.specs.Holding.{Tells, IsRead, seen_by}
-use Rattle.jt_world.specs.World.{Wire, completed, written}
+use Rattle.jt_world.specs.Holding.{TellsMessage, IsRead, seen_by}
+use Rattle.jt_world.specs.World.{Wire, completed_item, written}
 use Rattle.jt_world.proofs.Lists.{at_length, at_push}
 
 -- the items after one octet more
@@ -41,18 +41,18 @@ not_found false item other iff apart = refl
 not_found true item other iff apart = absurd (apart (iff.0 refl))
 
 -- what the answer tells is what the octet completed
-pub tells : (wire : Wire) (held : Held) (item : StreamItem) → (IsTrue held.found ↔ (item ≡ answer.Frame)) → Grows wire.octets wire.taken held.splitter (told item held.splitter) → Tells held (completed wire)
-unfolding completed
-tells wire held answer.More found g = subst (Tells held) (sym (ap (λ list. slice_get list (length (items (take wire.taken wire.octets)))) (g.items ∙ append-nil (items (take wire.taken wire.octets))) ∙ at_length (items (take wire.taken wire.octets))))
+pub tells : (wire : Wire) (held : Held) (item : StreamItem) → (IsTrue held.found ↔ (item ≡ answer.Frame)) → Grows wire.octets wire.taken held.splitter (stream_items item held.splitter) → TellsMessage held (completed_item wire)
+unfolding completed_item
+tells wire held answer.More found g = subst (TellsMessage held) (sym (ap (λ list. slice_get list (length (items (take wire.taken wire.octets)))) (g.items ∙ append-nil (items (take wire.taken wire.octets))) ∙ at_length (items (take wire.taken wire.octets))))
     (not_found held.found answer.More answer.Frame found (λ e. absurd cc))
-tells wire held (answer.Refused refusal) found g = subst (Tells held) (sym (ap (λ list. slice_get list (length (items (take wire.taken wire.octets)))) g.items ∙ at_push (items (take wire.taken wire.octets)) (unplaced (Refused refusal))))
+tells wire held (answer.Refused refusal) found g = subst (TellsMessage held) (sym (ap (λ list. slice_get list (length (items (take wire.taken wire.octets)))) g.items ∙ at_push (items (take wire.taken wire.octets)) (unplaced (Refused refusal))))
     (not_found held.found (answer.Refused refusal) answer.Frame found (λ e. absurd cc))
-tells wire held answer.Frame found g = subst (Tells held) (sym (ap (λ list. slice_get list (length (items (take wire.taken wire.octets)))) g.items ∙ at_push (items (take wire.taken wire.octets)) (Message (header_at held.splitter.content) (body_at held.splitter.content))))
+tells wire held answer.Frame found g = subst (TellsMessage held) (sym (ap (λ list. slice_get list (length (items (take wire.taken wire.octets)))) g.items ∙ at_push (items (take wire.taken wire.octets)) (Message (header_at held.splitter.content) (body_at held.splitter.content))))
     (found.1 refl, refl, refl)
 
 -- what is written behind the next octet completes nothing earlier
-pub completed_written : (wire : Wire) (more : List ℕ) → wire.taken + 1 ≤ length wire.octets → completed (written wire more) ≡ completed wire
-unfolding completed
+pub completed_written : (wire : Wire) (more : List ℕ) → wire.taken + 1 ≤ length wire.octets → completed_item (written wire more) ≡ completed_item wire
+unfolding completed_item
 completed_written wire more le =
     ap (λ (next : List ℕ). slice_get (items next) (length (items (take wire.taken (wire.octets ++ more))))) (take-append-le (wire.taken + 1) wire.octets more le)
     ∙ ap (λ (before : List ℕ). slice_get (items (take (wire.taken + 1) wire.octets)) (length (items before))) (take-append-le wire.taken wire.octets more (omega (arith, le)))
@@ -61,9 +61,9 @@ completed_written wire more le =
 pub looked : ((stream : List ℕ) → AreOctets stream → (list : List Item) × Items stream list) → ((stream : List ℕ) (list : List Item) → Items stream list → map unplaced list ≡ items stream)
     → (octets : List ℕ) (taken : ℕ) (ahead : Bool) (old new : Held) (octet : ℕ) (result : ℕ × StreamItem) → ahead ≡ false → IsRead octets taken ahead old → taken < length octets
     → octet ≡ get_or octets taken octet → result.0 ≤ 1 → 0 < result.0 → new.splitter.place ≡ old.splitter.place + result.0
-    → Gains old.splitter new.splitter (take result.0 (octet ∷ [])) (told result.1 new.splitter) → (IsTrue new.found ↔ (result.1 ≡ answer.Frame)) → IsRead octets taken true new
+    → Gains old.splitter new.splitter (take result.0 (octet ∷ [])) (stream_items result.1 new.splitter) → (IsTrue new.found ↔ (result.1 ≡ answer.Frame)) → IsRead octets taken true new
 looked some unplaced_are octets taken ahead old new octet result not_ahead read lt is one above place gains found =
-    let g = grows some unplaced_are octets taken old.splitter new.splitter octet result.0 (told result.1 new.splitter) read.are lt (is ∙ get_or_default octets taken octet 0 lt) (omega (arith, one, above))
+    let g = grows some unplaced_are octets taken old.splitter new.splitter octet result.0 (stream_items result.1 new.splitter) read.are lt (is ∙ get_or_default octets taken octet 0 lt) (omega (arith, one, above))
     (subst (λ (b : Bool). StandsFor old.splitter (take (seen_by b taken) octets)) not_ahead read.stands) gains in
     let from : old.splitter.place ≡ taken = read.place ∙ ap (λ b. seen_by b taken) not_ahead in
     record {
@@ -87,5 +87,5 @@ read_written octets more taken ahead held read are short brief = record {
   within = omega (arith, length-append octets more, read.within);
   place = read.place;
   stands = subst (StandsFor held.splitter) (sym (take-append-le (seen_by ahead taken) octets more read.within)) read.stands;
-  tells = λ is. subst (Tells held) (sym (completed_written (record { octets = octets; taken = taken }) more (seen_within ahead taken (length octets) read.within is))) (read.tells is);
+  tells = λ is. subst (TellsMessage held) (sym (completed_written (record { octets = octets; taken = taken }) more (seen_within ahead taken (length octets) read.within is))) (read.tells is);
 }

@@ -8,9 +8,9 @@ use Rattle.jt_world.specs.declared.row.Row.{Row}
 use Rattle.jt_world.specs.declared.acknowledgement.Acknowledgement.{Acknowledgement}
 use Rattle.jt_world.specs.Messages.{serial_of, is_acceptance, is_named}
 use Rattle.jt_world.specs.World.{Wire}
-use Rattle.jt_world.specs.Events.{Accept, after, was_sent, is_accepted_by, accepted_by, oldest_by, told_of}
+use Rattle.jt_world.specs.Events.{Accept, after, was_sent, is_accepted_by, accepted_by, oldest_by, after_response}
 use Rattle.jt_world.specs.Script.{accepting}
-use Rattle.jt_world.specs.Holding.{Terminal, Platform, IsNumbered, unit_at, units_from, world_of, accepts_at, told_by}
+use Rattle.jt_world.specs.Holding.{Terminal, Platform, IsNumbered, unit_at, units_from, world_of, accepts_at, places_named}
 use Rattle.jt_world.proofs.Lists.{get_has, get_take, and_left, and_right}
 use Rattle.jt_world.proofs.Meaning.{serial_same}
 
@@ -125,8 +125,8 @@ accepting_is t platform up down ack accepts ok just e =
     (ap (λ (one : Option Acknowledgement). oldest_by (world_of t platform up down) one) just ∙ (accepted_at t platform up down ack t.accepted ok ∙ e))
 
 -- what the terminal notes of an acknowledgement is what the definition says
-pub told_is : (now new : Terminal) (ack : Acknowledgement) → IsNumbered now.recorded now.formed now.accepted → new ≡ record now { told = now.told ++ told_by now ack; just = Some ack }
-    → (platform : Platform) (up down : Wire) → world_of new platform up down ≡ told_of (world_of now platform up down) (Some ack)
+pub told_is : (now new : Terminal) (ack : Acknowledgement) → IsNumbered now.recorded now.formed now.accepted → new ≡ record now { told = now.told ++ places_named now ack; just = Some ack }
+    → (platform : Platform) (up down : Wire) → world_of new platform up down ≡ after_response (world_of now platform up down) (Some ack)
 told_is now new ack ok e platform up down =
     ap (λ (t : Terminal). world_of t platform up down) e
     ∙ ap (λ (places : List ℕ). world_of (record now { told = now.told ++ places; just = Some ack }) platform up down) (sym (accepted_one now platform up down ack ok))

@@ -4,7 +4,7 @@ use Rattle.std.proofs.KnownBytes.{Appends-nil, Consumes-nil}
 use Rattle.std.specs.Io.KnownBytes.{Appends, IsAtEnd}
 use Rattle.jt_outside.proofs.Prefixes.{AppendsPrefix-all}
 use Rattle.jt_input.specs.Cutter.{Held, begun_of}
-use Rattle.jt_input.specs.Answer.{IsFault, Answers, AnswersWhole, RunsTelling, ReadsNoFurther, StopsAtWrite}
+use Rattle.jt_input.specs.Answer.{IsFault, AnswersReply, AnswersWhole, RunsTelling, ReadsNoFurther, StopsAtWrite}
 use Rattle.jt_input.specs.Answer as answer
 use Rattle.jt_input.specs.Lines.{Outcome, HasHeard, HasClosed, answer_of}
 use Rattle.jt_input.specs.Reply.{Reply}
@@ -15,7 +15,7 @@ use Rattle.jt_world.specs.declared.rehearsing.Rehearsed.TheVariants as rehearsed
 use Rattle.jt_world.specs.Claim.{Kept, EachReachedIsKept}
 use Rattle.jt_world.specs.Reaching.{Reached}
 use Rattle.jt_world.specs.Rehearsal.{Rehearsal, rehearsal, rehearsal_text, world_of, script_status, script_reply}
-use Rattle.jt_world.specs.Rehearsing.{IsHeard, IsSettled, Tells, Rehearses, ending}
+use Rattle.jt_world.specs.Rehearsing.{IsHeard, IsSettled, TellsRehearsal, Rehearses, ending}
 use Rattle.jt_world.specs.Rehearsing as rehearsing
 use Rattle.jt_world.specs.World.{World, empty}
 use Rattle.jt_world.proofs.Heard.{outcome}
@@ -74,7 +74,7 @@ holds_same world bad script other one two same =
     same_rehearsal (rehearsal script) (rehearsal other) (one.0.left_is ∙ sym two.0.left_is) (ap (λ (r : Reply). r.text) same) (one.0.bad_is ∙ sym two.0.bad_is)
 
 tells_so : (world : World) (bad : Option ℕ) (status : Status) (result : Rehearsed) (script : List ℕ) (old now : Option (List ℕ)) → IsEnding status bad result
-    → Answers status (answer_of outcome empty script) old now → (holds : IsFault status ⊎ Holds world bad script) → Tells result (rehearsal script) old now
+    → AnswersReply status (answer_of outcome empty script) old now → (holds : IsFault status ⊎ Holds world bad script) → TellsRehearsal result (rehearsal script) old now
 unfolding rehearsal
 tells_so world bad status result script old now is (inr part) holds = inr (is.fault part.0, part.1)
 tells_so world bad status result script old now is (inl told) (inl fault) = inr (is.fault fault, AppendsPrefix-all old now (rehearsal_text script) told.1)
@@ -124,7 +124,7 @@ rehearses_whole kept world bad status result (Some script) old now is (inr whole
 
 -- a run of lines that had no fault is done, or refused with a bad line
 not_of : (status : Status) (script : List ℕ) (old now : Option (List ℕ)) → (IsFault status → ⊥) → ((number : Option ℕ) → status ≡ script_status number → ⊥)
-    → Answers status (answer_of outcome empty script) old now → ⊥
+    → AnswersReply status (answer_of outcome empty script) old now → ⊥
 not_of status script old now sound other (inl told) = other _ told.0
 not_of status script old now sound other (inr part) = sound part.0
 
@@ -132,7 +132,7 @@ not_so : (world : World) (bad : Option ℕ) (status : Status) (left left_now old
     → RunsTelling (answer_of outcome empty) (Holds world bad) left left_now old now status → ⊥
 not_so world bad status left left_now old now sound other did = not_of status did.runs.taken old now sound other did.runs.answers
 
-by_cases : (world : World) (bad : Option ℕ) (script : List ℕ) (left old now : Option (List ℕ)) → None ≡ bad → Answers status.Refused (answer_of outcome empty script) old now
+by_cases : (world : World) (bad : Option ℕ) (script : List ℕ) (left old now : Option (List ℕ)) → None ≡ bad → AnswersReply status.Refused (answer_of outcome empty script) old now
     → IsFault status.Refused ⊎ answer.HoldsOf (Holds world bad) left script → ⊥
 by_cases world bad script left old now none (inr part) holds = part.0
 by_cases world bad script left old now none (inl told) (inl fault) = fault

@@ -14,7 +14,7 @@ use Rattle.jt_world.specs.Messages.{unit_frame}
 use Rattle.jt_world.specs.World.{World, Wire, written, fixes_in}
 use Rattle.jt_world.specs.Events.{Record, Form, Send, MayForm, MaySend, after, frame_at, past, past_accepted}
 use Rattle.jt_world.specs.Reaching.{Leads}
-use Rattle.jt_world.specs.Script.{next_unit, reported, all_reported, waiting}
+use Rattle.jt_world.specs.Script.{next_unit, after_fix, after_fixes, waiting}
 use Rattle.jt_world.specs.Holding.{Terminal, Platform, IsNumbered, AllPositions, unit_at, units_from, world_of, frame_of_next, IsFormed}
 use Rattle.jt_world.proofs.Lists.{get_has, get_take, get_pushed}
 use Rattle.jt_world.proofs.Numbered.{length_units, unit_found, in_range}
@@ -87,7 +87,7 @@ with_sent t platform up down units places frame = record (world_of t platform up
 
 -- the terminal reports the next fix
 pub reported_is : (t : Terminal) (platform : Platform) (up down : Wire) → IsNumbered t.recorded t.formed t.accepted → t.formed < length t.recorded
-    → world_of (record t { formed = t.formed + 1; just = None }) platform (written up (frame_of_next t)) down ≡ reported (world_of t platform up down) (get_or t.recorded t.formed [])
+    → world_of (record t { formed = t.formed + 1; just = None }) platform (written up (frame_of_next t)) down ≡ after_fix (world_of t platform up down) (get_or t.recorded t.formed [])
 reported_is t platform up down ok lt =
     ap (λ (list : List Row). with_sent t platform up down list (range_with_len 0 (t.formed + 1)) (frame_of_next t)) more
     ∙ (ap (λ (places : List ℕ). with_sent t platform up down (units ++ unit ∷ []) places (frame_of_next t)) places_more
@@ -154,7 +154,7 @@ may_send t platform up down fix ok = record {
 
 -- two steps lead there
 pub leads_reported : (t : Terminal) (platform : Platform) (up down : Wire) → IsNumbered t.recorded t.formed t.accepted → t.formed < length t.recorded
-    → Leads (world_of t platform up down) (reported (world_of t platform up down) (get_or t.recorded t.formed []))
+    → Leads (world_of t platform up down) (after_fix (world_of t platform up down) (get_or t.recorded t.formed []))
 leads_reported t platform up down ok lt = record {
   events = Form (next_unit (world_of t platform up down) (get_or t.recorded t.formed [])) ∷ Send (length (units_from 0 (take t.formed t.recorded))) ∷ [];
   may = (may_form t platform up down ok lt, (may_send t platform up down (get_or t.recorded t.formed []) ok, tt));
@@ -168,14 +168,14 @@ formed_is t platform up down ok = record { count = sym (units_length t ok); wait
 
 -- the terminal goes on to report
 pub record GoesOn (old new : World) (done : ℕ) : Type 0 where
-  pub same : all_reported new (drop done new.recorded) ≡ all_reported old (waiting old)
+  pub same : after_fixes new (drop done new.recorded) ≡ after_fixes old (waiting old)
   pub count : done ≡ length new.units
   pub recorded : new.recorded ≡ old.recorded
   pub leads : Leads old new
 
-pub reports_next : (old new next : World) (done : ℕ) → GoesOn old new done → done < length new.recorded → next ≡ reported new (get_or new.recorded (length new.units) []) → Leads new next → GoesOn old next (done + 1)
+pub reports_next : (old new next : World) (done : ℕ) → GoesOn old new done → done < length new.recorded → next ≡ after_fix new (get_or new.recorded (length new.units) []) → Leads new next → GoesOn old next (done + 1)
 reports_next old new next done goes lt e leads = record {
-  same = ap (λ (w : World). all_reported w (drop (done + 1) w.recorded)) e ∙ (sym (ap (all_reported new) split) ∙ goes.same);
+  same = ap (λ (w : World). after_fixes w (drop (done + 1) w.recorded)) e ∙ (sym (ap (after_fixes new) split) ∙ goes.same);
   count = let long : length (new.units ++ next_unit new fix ∷ []) ≡ length new.units + 1 = length_push new.units (next_unit new fix) in omega (arith, goes.count, long, ap (λ (w : World). length w.units) e);
   recorded = ap (λ (w : World). w.recorded) e ∙ goes.recorded;
   leads = leads_both old new next goes.leads leads;
@@ -194,13 +194,13 @@ report_room now t platform up down is ok lt =
     omega (arith, there, units_length t ok)
 
 fix_next : (now : World) (t : Terminal) (platform : Platform) (up down : Wire) → world_of t platform up down ≡ now → IsNumbered t.recorded t.formed t.accepted
-    → reported (world_of t platform up down) (get_or t.recorded t.formed []) ≡ reported now (get_or now.recorded (length now.units) [])
+    → after_fix (world_of t platform up down) (get_or t.recorded t.formed []) ≡ after_fix now (get_or now.recorded (length now.units) [])
 fix_next now t platform up down is ok =
-    ap (λ (n : ℕ). reported (world_of t platform up down) (get_or t.recorded n [])) (sym (units_length t ok))
-    ∙ ap (λ (w : World). reported w (get_or w.recorded (length w.units) [])) is
+    ap (λ (n : ℕ). after_fix (world_of t platform up down) (get_or t.recorded n [])) (sym (units_length t ok))
+    ∙ ap (λ (w : World). after_fix w (get_or w.recorded (length w.units) [])) is
 
 pub report_done : (now : World) (t other : Terminal) (platform : Platform) (up wire down : Wire) → world_of t platform up down ≡ now → IsNumbered t.recorded t.formed t.accepted → length now.units < length now.recorded
-    → other ≡ record t { formed = t.formed + 1; just = None } → wire ≡ written up (frame_of_next t) → world_of other platform wire down ≡ reported now (get_or now.recorded (length now.units) [])
+    → other ≡ record t { formed = t.formed + 1; just = None } → wire ≡ written up (frame_of_next t) → world_of other platform wire down ≡ after_fix now (get_or now.recorded (length now.units) [])
 report_done now t other platform up wire down is ok lt terminal sent =
     ap (λ (held : Terminal). world_of held platform wire down) terminal
     ∙ (ap (λ (line : Wire). world_of (record t { formed = t.formed + 1; just = None }) platform line down) sent
@@ -210,7 +210,7 @@ pub report_leads : (now : World) (t other : Terminal) (platform : Platform) (up 
     → other ≡ record t { formed = t.formed + 1; just = None } → wire ≡ written up (frame_of_next t) → Leads now (world_of other platform wire down)
 report_leads now t other platform up wire down is ok lt terminal sent =
     subst (Leads now) (sym (report_done now t other platform up wire down is ok lt terminal sent))
-    (subst (λ (w : World). Leads w (reported now (get_or now.recorded (length now.units) []))) is
+    (subst (λ (w : World). Leads w (after_fix now (get_or now.recorded (length now.units) []))) is
     (subst (Leads (world_of t platform up down)) (fix_next now t platform up down is ok) (leads_reported t platform up down ok (report_room now t platform up down is ok lt))))
 
 -- ---- a fix is recorded

@@ -10,7 +10,7 @@ use Rattle.jt_header.specs.Content.{Content}
 use Rattle.jt_header.specs.declared.header.Header.{Header}
 use Rattle.jt_stream.specs.Unplaced.{Unplaced, Message, items, of_content}
 use Rattle.jt_world.proofs.Lists.{at_length, at_push, heads}
-use Rattle.jt_world.specs.World.{Wire, written, moved, completed, silent}
+use Rattle.jt_world.specs.World.{Wire, written, with_one_taken, completed_item, silent}
 
 -- what streams promise of their items
 pub record Laws : Type 0 where
@@ -45,8 +45,8 @@ view_written wire waiting content v is =
 -- what one more octet brings
 abbrev pub Comes : Wire → List (List ℕ) → Type 0
 Comes wire waiting =
-    ((completed wire ≡ None) × View (moved wire) waiting)
-    ⊎ ((content : List ℕ) × (more : List (List ℕ)) × (waiting ≡ content ∷ more) × (completed wire ≡ Some (of_content content)) × View (moved wire) more)
+    ((completed_item wire ≡ None) × View (with_one_taken wire) waiting)
+    ⊎ ((content : List ℕ) × (more : List (List ℕ)) × (waiting ≡ content ∷ more) × (completed_item wire ≡ Some (of_content content)) × View (with_one_taken wire) more)
 
 -- the items after one octet more, in terms of those before
 comes_by : (wire : Wire) (waiting : List (List ℕ)) (v : View wire waiting) → wire.taken < length wire.octets
@@ -55,7 +55,7 @@ comes_by : (wire : Wire) (waiting : List (List ℕ)) (v : View wire waiting) →
     → map of_content (v.gone ++ waiting) ≡ items (take (wire.taken + 1) wire.octets) ++ rest
     → length (items (take (wire.taken + 1) wire.octets)) ≤ length (items (take wire.taken wire.octets)) + 1
     → Comes wire waiting
-unfolding completed
+unfolding completed_item
 comes_by wire waiting v lt [] rest grown whole one =
     let same : items (take (wire.taken + 1) wire.octets) ≡ items (take wire.taken wire.octets) = grown ∙ append-nil (items (take wire.taken wire.octets)) in
     inl (
@@ -71,7 +71,7 @@ comes_by wire waiting v lt (item ∷ []) rest grown whole one = inr (next waitin
         (sym (map-append of_content v.gone waiting) ∙ (whole ∙ (ap (λ (list : List Unplaced). list ++ rest) (grown ∙ ap (λ (list : List Unplaced). list ++ item ∷ []) v.read) ∙ append_assoc (map of_content v.gone) (item ∷ []) rest)))
 
     next : (queue : List (List ℕ)) → waiting ≡ queue → map of_content waiting ≡ item ∷ rest
-        → (content : List ℕ) × (more : List (List ℕ)) × (waiting ≡ content ∷ more) × (completed wire ≡ Some (of_content content)) × View (moved wire) more
+        → (content : List ℕ) × (more : List (List ℕ)) × (waiting ≡ content ∷ more) × (completed_item wire ≡ Some (of_content content)) × View (with_one_taken wire) more
     next [] is e = absurd (none (ap (map of_content) (sym is) ∙ e))
       where
         none : [] ≡ item ∷ rest → ⊥

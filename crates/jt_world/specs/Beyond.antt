@@ -6,7 +6,7 @@ use Rattle.jt_input.specs.Text.{is_within}
 use Rattle.jt_script.specs.declared.script.ScriptLine.{ScriptLine}
 use Rattle.jt_script.specs.declared.script.ScriptLine.TheVariants.{Bad}
 use Rattle.jt_input.specs.Lines.{bad_outcome}
-use Rattle.jt_world.specs.Rehearsal.{allowed, meaning, heard, rehearsed, outcome_of}
+use Rattle.jt_world.specs.Rehearsal.{allowed, meaning, after_line, rehearsal_from, outcome_of}
 use Rattle.jt_world.specs.World.{World}
 
 beyond_meaning : (w : World) (number : ℕ) (line : List ℕ) → is_within number line ≡ false → meaning w number line ≡ Bad
@@ -14,6 +14,6 @@ unfolding meaning
 beyond_meaning w number line e = ap (λ (b : Bool). if b then allowed w (said line) else Bad) e
 
 pub beyond_is_bad : (w : World) (number : ℕ) (line : List ℕ) (more : List (List ℕ)) → is_within number line ≡ false
-    → outcome_of (rehearsed w number (line ∷ more)) ≡ bad_outcome w number
+    → outcome_of (rehearsal_from w number (line ∷ more)) ≡ bad_outcome w number
 beyond_is_bad w number line more e =
-    ap (λ (says : ScriptLine). outcome_of (heard w number (λ next. rehearsed next (number + 1) more) says)) (beyond_meaning w number line e)
+    ap (λ (says : ScriptLine). outcome_of (after_line w number (λ next. rehearsal_from next (number + 1) more) says)) (beyond_meaning w number line e)

@@ -3,6 +3,7 @@
 use Rattle.std.specs.Prelude.{◌≡◌, ℕ, zero, suc, ◌+◌, ◌-◌, ◌<◌, ◌≤◌, Bool, true, false, ◌&&◌, ◌==◌, nat_lt, nat_le, if◌then◌else◌, IsTrue, List, [], ◌∷◌, ◌++◌, length, Option, Some, None, All, slice_get}
 use Rattle.std.specs.List.{filter, list_any, range_with_len}
 use mathlib.Core.List.{IsPrefix}
+use Rattle.jt_value.specs.declared.limits.TheConstants.{UNIT_WINDOW}
 use Rattle.jt_value.specs.declared.ids.TheConstants.{POSITION}
 use Rattle.jt_position.specs.Fixes.{IsFix}
 use Rattle.jt_header.specs.declared.header.Header.{Header}
@@ -10,7 +11,7 @@ use Rattle.jt_stream.specs.Unplaced.{Unplaced, Message, Fault}
 use Rattle.jt_world.specs.declared.row.Row.{Row}
 use Rattle.jt_world.specs.declared.acknowledgement.Acknowledgement.{Acknowledgement}
 use Rattle.jt_world.specs.Messages.{serial_of, is_unit, unit_of, unit_frame, answer_frame, acknowledgement_in, is_acceptance, is_named}
-use Rattle.jt_world.specs.World.{World, Line, written, moved, completed, fixes_in}
+use Rattle.jt_world.specs.World.{World, Line, written, with_one_taken, completed_item, fixes_in}
 
 pub data Event : Type 0 where
   -- the terminal records a fix
@@ -42,7 +43,7 @@ past_accepted units (suc last) = past (slice_get units last)
 pub record MayForm (w : World) (unit : Row) : Type 0 where
   pub above : All (λ (older : Row). older.number < unit.number) w.units
   pub after_accepted : past_accepted w.units w.accepted ≤ unit.number
-  pub near : unit.number < past_accepted w.units w.accepted + 32766
+  pub near : unit.number < past_accepted w.units w.accepted + UNIT_WINDOW
   pub unwrapped : unit.number < 65536
   pub position : unit.id ≡ POSITION
   pub next : IsPrefix (fixes_in w.units ++ unit.body ∷ []) w.recorded
@@ -61,8 +62,8 @@ abbrev pub frame_at : Option Row → List ℕ
 frame_at None = []
 frame_at (Some unit) = unit_frame unit
 
-abbrev pub sent : Line → ℕ → List ℕ → Line
-sent line place frame = record line { up = written line.up frame; sent = line.sent ++ place ∷ [] }
+abbrev pub line_with_sent : Line → ℕ → List ℕ → Line
+line_with_sent line place frame = record line { up = written line.up frame; sent = line.sent ++ place ∷ [] }
 
 -- The acknowledgement accepts the unit of this place: it says so of the unit's serial and id, and the unit was sent on the
 -- line and is not accepted.
@@ -82,15 +83,15 @@ oldest_by w (Some ack) = is_accepted_by w ack w.accepted
 abbrev pub may_accept : World → Bool
 may_accept w = oldest_by w w.just
 
-abbrev pub told_of : World → Option Acknowledgement → World
-told_of w None = record w { just = None }
-told_of w (Some ack) = record w { told = w.told ++ accepted_by w ack; just = Some ack }
+abbrev pub after_response : World → Option Acknowledgement → World
+after_response w None = record w { just = None }
+after_response w (Some ack) = record w { told = w.told ++ accepted_by w ack; just = Some ack }
 
 -- what the terminal makes of what an octet completes
-abbrev pub heard : World → Option Unplaced → World
-heard w None = told_of w None
-heard w (Some (Fault place reason)) = told_of w None
-heard w (Some (Message header body)) = told_of w (acknowledgement_in header body)
+abbrev pub after_hearing : World → Option Unplaced → World
+after_hearing w None = after_response w None
+after_hearing w (Some (Fault place reason)) = after_response w None
+after_hearing w (Some (Message header body)) = after_response w (acknowledgement_in header body)
 
 -- ---- the platform
 
@@ -103,22 +104,22 @@ abbrev pub is_new : List Row → ℕ → Bool
 is_new rows number = is_above (slice_get rows (length rows - 1)) number
 
 -- a new unit is stored, and a repeat is not
-abbrev pub stored : List Row → Row → List Row
-stored rows unit = if is_new rows unit.number then rows ++ unit ∷ [] else rows
+abbrev pub rows_with : List Row → Row → List Row
+rows_with rows unit = if is_new rows unit.number then rows ++ unit ∷ [] else rows
 
-abbrev pub answered : Line → List ℕ → Line
-answered line frame = record line { down = written line.down frame; serial = serial_of (line.serial + 1) }
+abbrev pub line_with_answer : Line → List ℕ → Line
+line_with_answer line frame = record line { down = written line.down frame; serial = serial_of (line.serial + 1) }
 
 -- The platform stores the unit that a message carries, unless it has it, and answers in both cases that it is accepted.
 abbrev pub unit_taken : World → Header → List ℕ → World
 unit_taken w header body =
-    record w { rows = stored w.rows (unit_of header body); line = answered w.line (answer_frame header w.line.serial) }
+    record w { rows = rows_with w.rows (unit_of header body); line = line_with_answer w.line (answer_frame header w.line.serial) }
 
 -- what the platform makes of what an octet completes: anything but a unit is passed over
-abbrev pub seen : World → Option Unplaced → World
-seen w None = w
-seen w (Some (Fault place reason)) = w
-seen w (Some (Message header body)) = if is_unit header body then unit_taken w header body else w
+abbrev pub platform_after : World → Option Unplaced → World
+platform_after w None = w
+platform_after w (Some (Fault place reason)) = w
+platform_after w (Some (Message header body)) = if is_unit header body then unit_taken w header body else w
 
 -- ---- all steps
 
@@ -132,16 +133,16 @@ MayCome w Accept = IsTrue (may_accept w)
 
 -- the world with one octet more taken by the platform, or by the terminal
 abbrev pub moved_up : World → World
-moved_up w = record w { line = record w.line { up = moved w.line.up }; just = None }
+moved_up w = record w { line = record w.line { up = with_one_taken w.line.up }; just = None }
 
 abbrev pub moved_down : World → World
-moved_down w = record w { line = record w.line { down = moved w.line.down } }
+moved_down w = record w { line = record w.line { down = with_one_taken w.line.down } }
 
 -- the world after a step
 abbrev pub after : World → Event → World
 after w (Record fix) = record w { recorded = w.recorded ++ fix ∷ []; just = None }
 after w (Form unit) = record w { units = w.units ++ unit ∷ []; just = None }
-after w (Send place) = record w { line = sent w.line place (frame_at (slice_get w.units place)); just = None }
-after w Up = seen (moved_up w) (completed w.line.up)
-after w Down = heard (moved_down w) (completed w.line.down)
+after w (Send place) = record w { line = line_with_sent w.line place (frame_at (slice_get w.units place)); just = None }
+after w Up = platform_after (moved_up w) (completed_item w.line.up)
+after w Down = after_hearing (moved_down w) (completed_item w.line.down)
 after w Accept = record w { accepted = w.accepted + 1; just = None }

@@ -11,8 +11,8 @@ use Rattle.jt_stream.specs.Unplaced.{Unplaced, Message, Fault}
 use Rattle.jt_world.specs.declared.row.Row.{Row}
 use Rattle.jt_world.specs.declared.acknowledgement.Acknowledgement.{Acknowledgement}
 use Rattle.jt_world.specs.Messages.{is_acceptance, unit_frame}
-use Rattle.jt_world.specs.Script.{waiting}
-use Rattle.jt_world.specs.World.{World, Wire, completed}
+use Rattle.jt_world.specs.Script.{fix_limit, waiting}
+use Rattle.jt_world.specs.World.{World, Wire, completed_item}
 
 -- a wire, and whether the reader has already seen its next octet
 pub record Looked : Type 0 where
@@ -20,10 +20,10 @@ pub record Looked : Type 0 where
   pub ahead : Bool
 
 -- the reader tells the message that was completed, if it was one
-abbrev pub Tells : Held → Option Unplaced → Type 0
-Tells held None = held.found ≡ false
-Tells held (Some (Fault place reason)) = held.found ≡ false
-Tells held (Some (Message header body)) =
+abbrev pub TellsMessage : Held → Option Unplaced → Type 0
+TellsMessage held None = held.found ≡ false
+TellsMessage held (Some (Fault place reason)) = held.found ≡ false
+TellsMessage held (Some (Message header body)) =
     (held.found ≡ true) × (header ≡ header_at held.splitter.content) × (body ≡ body_at held.splitter.content)
 
 -- no message was completed
@@ -44,7 +44,7 @@ pub record IsRead (octets : List ℕ) (taken : ℕ) (ahead : Bool) (held : Held)
   pub within : seen_by ahead taken ≤ length octets
   pub place : held.splitter.place ≡ seen_by ahead taken
   pub stands : StandsFor held.splitter (take (seen_by ahead taken) octets)
-  pub tells : ahead ≡ true → Tells held (completed (record { octets = octets; taken = taken }))
+  pub tells : ahead ≡ true → TellsMessage held (completed_item (record { octets = octets; taken = taken }))
 
 -- the unit of a place, which carries the fix of that place
 abbrev pub unit_at : ℕ → List ℕ → Row
@@ -71,7 +71,7 @@ AllPositions fixes = All (λ (fix : List ℕ). IsTrue (is_position fix)) fixes
 pub record IsNumbered (recorded : List (List ℕ)) (formed accepted : ℕ) : Type 0 where
   pub accepted_formed : accepted ≤ formed
   pub formed_recorded : formed ≤ length recorded
-  pub limited : length recorded ≤ 32766
+  pub limited : length recorded ≤ fix_limit
   pub positions : AllPositions recorded
 
 -- what the platform holds: its rows, and the serial of its next frame
@@ -107,5 +107,5 @@ accepts_at terminal ack place =
     is_acceptance ack && (nat_lt place terminal.formed && ((ack.reply == place) && ((ack.id == POSITION) && nat_le terminal.accepted place)))
 
 -- the place of the unit that it accepts by its number, if any
-abbrev pub told_by : Terminal → Acknowledgement → List ℕ
-told_by terminal ack = if accepts_at terminal ack ack.reply then ack.reply ∷ [] else []
+abbrev pub places_named : Terminal → Acknowledgement → List ℕ
+places_named terminal ack = if accepts_at terminal ack ack.reply then ack.reply ∷ [] else []

@@ -58,23 +58,23 @@ unfoldable pub meaning : World → ℕ → List ℕ → ScriptLine
 meaning w number line = if is_within number line then allowed w (said line) else Bad
 
 -- one world leads to another: what was stored is printed, and the script goes on
-abbrev pub led : World → World → (World → Rehearsal) → Rehearsal
-led old new next = printing (flat_map entry_line (entries_between old new)) (next new)
+abbrev pub with_new_entries : World → World → (World → Rehearsal) → Rehearsal
+with_new_entries old new next = printing (flat_map entry_line (entries_between old new)) (next new)
 
 -- a line is passed over, leads to the next world, or ends the script as the bad line of this number
-abbrev pub heard : World → ℕ → (World → Rehearsal) → ScriptLine → Rehearsal
-heard w number next Passed = next w
-heard w number next (Event event) = led w (world_after w event) next
-heard w number next Bad = record { world = w; text = bad_line number; bad = Some number }
+abbrev pub after_line : World → ℕ → (World → Rehearsal) → ScriptLine → Rehearsal
+after_line w number next Passed = next w
+after_line w number next (Event event) = with_new_entries w (world_after w event) next
+after_line w number next Bad = record { world = w; text = bad_line number; bad = Some number }
 
 -- these lines of a script, the first of which has this number
-abbrev pub rehearsed : World → ℕ → List (List ℕ) → Rehearsal
-rehearsed w number [] = record { world = w; text = totals_line w; bad = None }
-rehearsed w number (line ∷ more) = heard w number (λ next. rehearsed next (number + 1) more) (meaning w number line)
+abbrev pub rehearsal_from : World → ℕ → List (List ℕ) → Rehearsal
+rehearsal_from w number [] = record { world = w; text = totals_line w; bad = None }
+rehearsal_from w number (line ∷ more) = after_line w number (λ next. rehearsal_from next (number + 1) more) (meaning w number line)
 
 -- the rehearsal of a script, from the world in which nothing has happened
 unfoldable pub rehearsal : List ℕ → Rehearsal
-rehearsal script = rehearsed empty 1 (lines_of script)
+rehearsal script = rehearsal_from empty 1 (lines_of script)
 
 -- the world of a script
 abbrev pub world_of : List ℕ → World

@@ -4,7 +4,7 @@ use Rattle.std.specs.Io.KnownBytes.{Appends, Consumes, IsAtEnd}
 use Rattle.jt_outside.specs.Sink.{AppendsPrefix}
 use Rattle.jt_input.specs.Text.{Cuts, is_within}
 use Rattle.jt_world.specs.Claim.{Kept}
-use Rattle.jt_world.specs.Rehearsal.{Rehearsal, printing, rehearsed, rehearsal, world_of}
+use Rattle.jt_world.specs.Rehearsal.{Rehearsal, printing, rehearsal_from, rehearsal, world_of}
 use Rattle.jt_world.specs.World.{World, empty}
 use Rattle.jt_world.specs.declared.rehearsing.Rehearsed.{Rehearsed}
 use Rattle.jt_world.specs.declared.rehearsing.Rehearsed.TheVariants.{Done, BadLine, ReadFault, WriteFault, Full, Memory}
@@ -25,8 +25,8 @@ ending (Some number) = BadLine number
 
 -- The sink went from what was written before to what is written now, where it tells: by the whole text of the rehearsal,
 -- which ended as it does, or by a prefix of the text, where there was a fault.
-abbrev pub Tells : Rehearsed → Rehearsal → Option (List ℕ) → Option (List ℕ) → Type 0
-Tells result rehearsal old now = ((result ≡ ending rehearsal.bad) × Appends old now rehearsal.text) ⊎ (IsFault result × AppendsPrefix old now rehearsal.text)
+abbrev pub TellsRehearsal : Rehearsed → Rehearsal → Option (List ℕ) → Option (List ℕ) → Type 0
+TellsRehearsal result rehearsal old now = ((result ≡ ending rehearsal.bad) × Appends old now rehearsal.text) ⊎ (IsFault result × AppendsPrefix old now rehearsal.text)
 
 -- no octet that could follow these changes the rehearsal, or none follows
 abbrev pub IsSettled : Option (List ℕ) → List ℕ → Type 0
@@ -37,7 +37,7 @@ IsSettled left taken = IsAtEnd left ⊎ ((rest : List ℕ) → rehearsal (taken 
 pub record Rehearses (left left_now old now : Option (List ℕ)) (result : Rehearsed) : Type 0 where
   pub taken : List ℕ
   pub consumed : Consumes left left_now taken
-  pub tells : Tells result (rehearsal taken) old now
+  pub tells : TellsRehearsal result (rehearsal taken) old now
   pub settled : IsFault result ⊎ IsSettled left_now taken
   pub kept : IsFault result ⊎ Kept (world_of taken)
 
@@ -49,4 +49,4 @@ pub record IsHeard (front text : List ℕ) : Type 0 where
   pub cuts : Cuts front lines begun
   pub within : 0 < length begun → IsTrue (is_within (length lines + 1) begun)
   pub world : World
-  pub goes : (more : List (List ℕ)) → rehearsed empty 1 (lines ++ more) ≡ printing text (rehearsed world (length lines + 1) more)
+  pub goes : (more : List (List ℕ)) → rehearsal_from empty 1 (lines ++ more) ≡ printing text (rehearsal_from world (length lines + 1) more)

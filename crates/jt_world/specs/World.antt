@@ -49,12 +49,12 @@ abbrev pub written : Wire → List ℕ → Wire
 written wire octets = record wire { octets = wire.octets ++ octets }
 
 -- the other end takes one more octet
-abbrev pub moved : Wire → Wire
-moved wire = record wire { taken = wire.taken + 1 }
+abbrev pub with_one_taken : Wire → Wire
+with_one_taken wire = record wire { taken = wire.taken + 1 }
 
 -- what the next octet completes, if anything: the items of what was taken, and one more
-unfoldable pub completed : Wire → Option Unplaced
-completed wire = slice_get (items (take (wire.taken + 1) wire.octets)) (length (items (take wire.taken wire.octets)))
+unfoldable pub completed_item : Wire → Option Unplaced
+completed_item wire = slice_get (items (take (wire.taken + 1) wire.octets)) (length (items (take wire.taken wire.octets)))
 
 -- id and body, which tell the fixes of a unit or a row
 abbrev pub carried : Row → ℕ × List ℕ

@@ -3,7 +3,7 @@
 ghost use Rattle.std.specs.Prelude.{◌≡◌, ◌++◌, OnOk, string_bytes};
 ghost use Rattle.std.specs.List.{flat_map};
 ghost use Rattle.jt_world.specs.Reaching.{Reached};
-ghost use Rattle.jt_world.specs.Rehearsal.{entry_line, outcome_of, rehearsed};
+ghost use Rattle.jt_world.specs.Rehearsal.{entry_line, outcome_of, rehearsal_from};
 ghost use Rattle.jt_world.specs.Script.{IsAllowed, entries_between, world_after};
 ghost use Rattle.jt_world.specs.Beyond.{beyond_is_bad};
 
@@ -23,7 +23,8 @@ fn perform(
 ) -> Result<(), Memory>
     requires { IsAllowed world.old event }
     ensures world { OnOk result (world.new ≡ world_after world.old event) }
-    ensures text { OnOk result (string_bytes text.new ≡ string_bytes text.old ++ flat_map entry_line (entries_between world.old world.new)) }
+    ensures text { OnOk result (string_bytes text.new
+        ≡ string_bytes text.old ++ flat_map entry_line (entries_between world.old world.new)) }
     ensures reached { Reached world.old → Reached world.new }
 {
     let Ok(entries) = world.step(alloc, event) else {
@@ -34,7 +35,7 @@ fn perform(
 }
 
 impl Hearer for World {
-    ghost outcome = { λ world number lines. outcome_of (rehearsed world number lines) };
+    ghost outcome = { λ world number lines. outcome_of (rehearsal_from world number lines) };
 
     ghost can_hear = { λ world. Reached world };
 

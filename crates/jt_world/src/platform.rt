@@ -4,7 +4,7 @@ ghost use Rattle.std.specs.Prelude.{◌≡◌, ◌+◌, [], length, true, IfOk, 
 ghost use Rattle.jt_header.specs.Content.{IsHeader};
 ghost use Rattle.jt_stream.specs.Unplaced.{Unplaced, Message};
 ghost use Rattle.jt_world.specs.Events as events;
-ghost use Rattle.jt_world.specs.Events.{seen, stored};
+ghost use Rattle.jt_world.specs.Events.{platform_after, rows_with};
 ghost use Rattle.jt_world.specs.Holding as holding;
 ghost use Rattle.jt_world.specs.Holding.{IsNoMessage, world_of};
 ghost use Rattle.jt_world.specs.Messages as messages;
@@ -117,8 +117,10 @@ impl Platform {
     // Stores the unit that a message carries, unless it has it. Answers whether it was new.
     fn store(&mut self, alloc: Global, header: &Header, body: &[u8]) -> Result<bool, Memory>
         requires { messages.is_unit header.now body.now ≡ true }
-        ensures ok { OnOk result (self.new ≡ record self.old { rows = stored self.old.rows (unit_of header.now body.now) }) }
-        ensures is_new { IfOk result (λ is_new. is_new ≡ events.is_new self.old.rows header.now.serial) }
+        ensures ok { OnOk result (self.new
+            ≡ record self.old { rows = rows_with self.old.rows (unit_of header.now body.now) }) }
+        ensures is_new { IfOk result (λ is_new.
+            is_new ≡ events.is_new self.old.rows header.now.serial) }
         ensures err { OnErr result (self.new ≡ self.old) }
     {
         law_fixes();
@@ -145,10 +147,11 @@ impl Platform {
         requires header { IsHeader header.now }
         requires unit { messages.is_unit header.now body.now ≡ true }
         ensures ok { OnOk result (self.new ≡ record {
-          rows = stored self.old.rows (unit_of header.now body.now);
+          rows = rows_with self.old.rows (unit_of header.now body.now);
           serial = serial_of (self.old.serial + 1);
         }) }
-        ensures answer { OnOk result (down.new.wire ≡ written down.old.wire (answer_frame header.now self.old.serial)) }
+        ensures answer { OnOk result
+            (down.new.wire ≡ written down.old.wire (answer_frame header.now self.old.serial)) }
         ensures err { OnErr result (self.new ≡ self.old) }
         ensures no_answer { OnErr result (down.new.wire ≡ down.old.wire) }
     {
@@ -173,9 +176,12 @@ impl Platform {
         down: &mut Wire,
     ) -> Result<(), Memory>
         requires { IfSome message (λ message. IsHeader message.0) }
-        ensures ok { OnOk result ((terminal : holding.Terminal) (up : defined.Wire) (item : Option Unplaced) →
-            MatchOption message.entry (IsNoMessage item) (λ message. item ≡ Some (Message message.0 message.1.now)) →
-            world_of terminal self.new up down.new.wire ≡ seen (world_of terminal self.old up down.old.wire) item) }
+        ensures ok { OnOk result
+            ((terminal : holding.Terminal) (up : defined.Wire) (item : Option Unplaced) →
+            MatchOption message.entry (IsNoMessage item)
+            (λ message. item ≡ Some (Message message.0 message.1.now)) →
+            world_of terminal self.new up down.new.wire
+            ≡ platform_after (world_of terminal self.old up down.old.wire) item) }
         ensures err { OnErr result (self.new ≡ self.old) }
         ensures no_answer { OnErr result (down.new.wire ≡ down.old.wire) }
     {

@@ -35,21 +35,26 @@ pub enum Rehearsed {
 pub fn rehearse<S: Source, K: Sink>(alloc: Global, source: &mut S, sink: &mut K) -> Rehearsed
     // The octets that were taken, what was written of them, and that this is of the whole script, whatever else it has, and
     // that the claim of delivery holds of its world.
-    ensures rehearses { Rehearses (S.left source.old) (S.left source.new) (K.written sink.old) (K.written sink.new) result }
+    ensures rehearses { Rehearses (S.left source.old) (S.left source.new)
+        (K.written sink.old) (K.written sink.new) result }
     // So, where the source tells its octets, and no fault came:
-    ensures whole { IfSome (S.left source.old) (λ script. IsFault result ⊎
-        ((result ≡ ending (rehearsal script).bad) × Appends (K.written sink.old) (K.written sink.new) (rehearsal_text script) × Kept (world_of script))) }
+    ensures whole { IfSome (S.left source.old) (λ script.
+        IsFault result ⊎ ((result ≡ ending (rehearsal script).bad)
+        × Appends (K.written sink.old) (K.written sink.new) (rehearsal_text script)
+        × Kept (world_of script))) }
     // The source is read no further than the piece of at most 2^14 octets that has the first bad line.
     ensures no_further { ReadsNoFurther IsHeard (2 ^ 14) (S.left source.old) (S.left source.new) }
     // What is printed of a piece is written before the next is read, so it is there also where that read fails.
-    ensures prints_taken { result ≡ Rehearsed.ReadFault →
-        PrintsTaken IsHeard (S.left source.old) (S.left source.new) (K.written sink.old) (K.written sink.new) }
-    // A write that failed ends the rehearsal.
-    ensures stops_at_write { result ≡ Rehearsed.WriteFault → StopsAtWrite script_reply IsHeard (2 ^ 14)
+    ensures prints_taken { result ≡ Rehearsed.ReadFault → PrintsTaken IsHeard
         (S.left source.old) (S.left source.new) (K.written sink.old) (K.written sink.new) }
+    // A write that failed ends the rehearsal.
+    ensures stops_at_write { result ≡ Rehearsed.WriteFault → StopsAtWrite script_reply IsHeard
+        (2 ^ 14) (S.left source.old) (S.left source.new) (K.written sink.old) (K.written sink.new) }
     ensures to_the_end { result ≡ Rehearsed.Done → IsAtEnd (S.left source.new) }
-    ensures read_fault { result ≡ Rehearsed.ReadFault → Rose (S.faults source.old) (S.faults source.new) }
-    ensures write_fault { result ≡ Rehearsed.WriteFault → Rose (K.faults sink.old) (K.faults sink.new) }
+    ensures read_fault { result ≡ Rehearsed.ReadFault →
+        Rose (S.faults source.old) (S.faults source.new) }
+    ensures write_fault { result ≡ Rehearsed.WriteFault →
+        Rose (K.faults sink.old) (K.faults sink.new) }
     ensures not_full { (limit : ℕ) → result ≢ Rehearsed.Full limit }
 {
     law_world();

@@ -18,7 +18,8 @@ fn push_entry_line(text: &mut String, entry: SmallEntry) -> Result<(), AllocErro
 
 /// A line for each unit that was stored.
 pub(crate) fn push_entry_lines(text: &mut String, entries: &[SmallEntry]) -> Result<(), AllocError>
-    ensures { OnOk result (string_bytes text.new ≡ string_bytes text.old ++ flat_map entry_line entries.now) }
+    ensures { OnOk result
+        (string_bytes text.new ≡ string_bytes text.old ++ flat_map entry_line entries.now) }
 {
     for entry in entries {
         push_entry_line(text, *entry)?;

@@ -4,9 +4,9 @@ ghost use Rattle.std.specs.Prelude.{◌≡◌, ◌^◌, IfSome, ◌<◌, ◌≤�
 ghost use Rattle.jt_header.specs.Content.{IsHeader};
 ghost use Rattle.jt_position.specs.Fixes.{IsFix};
 ghost use Rattle.jt_stream.specs.Unplaced.{Unplaced, Message};
-ghost use Rattle.jt_world.specs.Events.{heard, told_of};
+ghost use Rattle.jt_world.specs.Events.{after_hearing, after_response};
 ghost use Rattle.jt_world.specs.Holding as holding;
-ghost use Rattle.jt_world.specs.Holding.{IsNoMessage, IsNumbered, Platform, frame_of_next, unit_at, world_of, accepts_at, told_by};
+ghost use Rattle.jt_world.specs.Holding.{IsNoMessage, IsNumbered, Platform, frame_of_next, unit_at, world_of, accepts_at, places_named};
 ghost use Rattle.jt_world.specs.Messages as messages;
 ghost use Rattle.jt_world.specs.Script.{accepting, fix_limit};
 ghost use Rattle.jt_world.specs.World as defined;
@@ -19,13 +19,13 @@ use jt_codec::frame_into;
 use jt_header::Header;
 use jt_position::{Fix, law_fixes};
 use jt_value::ids::POSITION;
-use jt_value::limits::FRAME_LIMIT;
+use jt_value::limits::{FRAME_LIMIT, UNIT_WINDOW};
 use jt_value::{Edition, Memory, Phone};
 use std::alloc::Global;
 use std::marker::Model;
 
 /// The most fixes that are recorded.
-const FIX_LIMIT: usize = 32_766;
+const RECORDED_LIMIT: usize = UNIT_WINDOW as usize;
 
 /// What the terminal holds. The unit of each place carries the fix of that place alone, under that number.
 #[derive(Drop)]
@@ -90,7 +90,8 @@ fn unit_frame(place: usize, fix: &Fix, frame: &mut ArrayVec<u8, FRAME_LIMIT>)
 impl Terminal {
     /// A terminal that recorded nothing.
     pub(crate) fn new(alloc: Global) -> Terminal
-        ensures { result ≡ record { recorded = []; formed = 0; accepted = 0; told = []; just = None } }
+        ensures { result
+            ≡ record { recorded = []; formed = 0; accepted = 0; told = []; just = None } }
     {
         Terminal {
             recorded: Vec::new(alloc),
@@ -129,13 +130,14 @@ impl Terminal {
     pub(crate) fn has_room(&self) -> bool
         ensures { IsTrue result ↔ (length self.now.recorded < fix_limit) }
     {
-        self.recorded.len() < FIX_LIMIT
+        self.recorded.len() < RECORDED_LIMIT
     }
 
     /// Records a fix.
     pub(crate) fn record(&mut self, fix: Fix) -> Result<(), Memory>
         requires { length self.old.recorded < fix_limit }
-        ensures ok { OnOk result (self.new ≡ record self.old { recorded = self.old.recorded ++ fix ∷ []; just = None }) }
+        ensures ok { OnOk result
+            (self.new ≡ record self.old { recorded = self.old.recorded ++ fix ∷ []; just = None }) }
         ensures err { OnErr result (self.new ≡ self.old) }
         ensures fix { IsFix fix }
         ensures within { self.old.formed ≤ length self.old.recorded }
@@ -150,7 +152,8 @@ impl Terminal {
     /// Forms a unit of the next fix, and sends it.
     pub(crate) fn report(&mut self, up: &mut Wire) -> Result<(), Memory>
         requires { self.old.formed < length self.old.recorded }
-        ensures ok { OnOk result (self.new ≡ record self.old { formed = self.old.formed + 1; just = None }) }
+        ensures ok { OnOk result
+            (self.new ≡ record self.old { formed = self.old.formed + 1; just = None }) }
         ensures sent { OnOk result (up.new.wire ≡ written up.old.wire (frame_of_next self.old)) }
         ensures err { OnErr result (self.new ≡ self.old) }
         ensures not_sent { OnErr result (up.new.wire ≡ up.old.wire) }
@@ -183,9 +186,12 @@ impl Terminal {
         message: Option<(Header, &[u8])>,
     ) -> Result<(), Memory>
         requires { IfSome message (λ message. length message.1.now < 2 ^ 10) }
-        ensures ok { OnOk result ((platform : Platform) (up down : defined.Wire) (item : Option Unplaced) →
-            MatchOption message.entry (IsNoMessage item) (λ message. item ≡ Some (Message message.0 message.1.now)) →
-            world_of self.new platform up down ≡ heard (world_of self.old platform up down) item) }
+        ensures ok { OnOk result
+            ((platform : Platform) (up down : defined.Wire) (item : Option Unplaced) →
+            MatchOption message.entry (IsNoMessage item)
+            (λ message. item ≡ Some (Message message.0 message.1.now)) →
+            world_of self.new platform up down
+            ≡ after_hearing (world_of self.old platform up down) item) }
         ensures err { OnErr result (self.new ≡ self.old) }
     {
         match message {
@@ -202,7 +208,8 @@ impl Terminal {
 
     fn take_acknowledgement(&mut self, ack: Option<Acknowledgement>) -> Result<(), Memory>
         ensures ok { OnOk result ((platform : Platform) (up down : defined.Wire) →
-            world_of self.new platform up down ≡ told_of (world_of self.old platform up down) ack) }
+            world_of self.new platform up down
+            ≡ after_response (world_of self.old platform up down) ack) }
         ensures err { OnErr result (self.new ≡ self.old) }
     {
         match ack {
@@ -217,7 +224,10 @@ impl Terminal {
     // Notes which unit an acknowledgement accepts.
     #[tactic(auto, using(std::proofs::lemmas::Grind::common_steps))]
     fn tell(&mut self, ack: Acknowledgement) -> Result<(), Memory>
-        ensures ok { OnOk result (self.new ≡ record self.old { told = self.old.told ++ told_by self.old ack; just = Some ack }) }
+        ensures ok { OnOk result (self.new ≡ record self.old {
+          told = self.old.told ++ places_named self.old ack;
+          just = Some ack;
+        }) }
         ensures err { OnErr result (self.new ≡ self.old) }
         ensures numbered { IsNumbered self.old.recorded self.old.formed self.old.accepted }
     {

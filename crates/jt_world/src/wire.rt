@@ -4,7 +4,7 @@ ghost use Rattle.std.specs.Prelude.{◌≡◌, ◌<◌, ◌-◌, ◌^◌, length
 ghost use Rattle.jt_header.specs.Content.{IsHeader};
 ghost use Rattle.jt_stream.specs.Unplaced.{Message};
 ghost use Rattle.jt_world.specs.Holding.{IsNoMessage};
-ghost use Rattle.jt_world.specs.World.{completed, moved, silent, written};
+ghost use Rattle.jt_world.specs.World.{completed_item, with_one_taken, silent, written};
 
 use jt_header::Header;
 use jt_stream::{Stream, law_items, law_one_list};
@@ -88,8 +88,8 @@ impl Wire {
     /// The message that the next octet completes, if it completes one.
     pub(crate) fn message(&self) -> Option<(Header, &[u8])>
         requires { self.now.ahead ≡ true }
-        ensures message { MatchOption result (IsNoMessage (completed self.now.wire))
-            (λ message. completed self.now.wire ≡ Some (Message message.0 message.1.now)) }
+        ensures message { MatchOption result (IsNoMessage (completed_item self.now.wire))
+            (λ message. completed_item self.now.wire ≡ Some (Message message.0 message.1.now)) }
         ensures header { IfSome result (λ message. IsHeader message.0) }
         ensures body { IfSome result (λ message. length message.1.now < 2 ^ 10) }
     {
@@ -100,7 +100,7 @@ impl Wire {
     /// Takes the next octet.
     pub(crate) fn pass(&mut self)
         requires { self.old.ahead ≡ true }
-        ensures { self.new ≡ record { wire = moved self.old.wire; ahead = false } }
+        ensures { self.new ≡ record { wire = with_one_taken self.old.wire; ahead = false } }
     {
         self.taken += 1;
         self.ahead = false;

@@ -4,7 +4,7 @@ ghost use Rattle.std.specs.Prelude.{◌≡◌, ◌<◌, ◌≤◌, ◌-◌, ◌�
 ghost use Rattle.jt_world.specs.Events.{Up, Down, after};
 ghost use Rattle.jt_world.specs.Holding.{IsFormed};
 ghost use Rattle.jt_world.specs.Reaching.{Leads, Reached};
-ghost use Rattle.jt_world.specs.Script.{IsAllowed, accepting, all_reported, entries_between, entry_of, fix_limit, reported, taken_down, taken_up, waiting, world_after};
+ghost use Rattle.jt_world.specs.Script.{IsAllowed, accepting, after_fixes, entries_between, entry_of, fix_limit, after_fix, after_octets_down, after_octets_up, waiting, world_after};
 ghost use Rattle.jt_world.specs.World.{empty, fixes_in};
 
 use crate::platform::Platform;
@@ -96,7 +96,8 @@ impl World {
     /// How far the world came.
     pub fn counts(&self) -> Counts
         ensures recorded { result.recorded ≡ length self.now.recorded }
-        ensures accepted { result.accepted ≡ length (fixes_in (take self.now.accepted self.now.units)) }
+        ensures accepted { result.accepted
+            ≡ length (fixes_in (take self.now.accepted self.now.units)) }
         ensures rows { result.rows ≡ length self.now.rows }
         ensures stored { result.stored ≡ length (fixes_in self.now.rows) }
     {
@@ -164,7 +165,7 @@ impl World {
 
     fn take_all_up(&mut self, alloc: Global, count: usize) -> Result<(), Memory>
         requires { count ≤ length self.old.line.up.octets - self.old.line.up.taken }
-        ensures ok { OnOk result (self.new ≡ taken_up count self.old) }
+        ensures ok { OnOk result (self.new ≡ after_octets_up count self.old) }
         ensures leads { Leads self.old self.new }
     {
         for _ in 0..count {
@@ -175,7 +176,7 @@ impl World {
 
     fn take_all_down(&mut self, alloc: Global, count: usize) -> Result<(), Memory>
         requires { count ≤ length self.old.line.down.octets - self.old.line.down.taken }
-        ensures ok { OnOk result (self.new ≡ taken_down count self.old) }
+        ensures ok { OnOk result (self.new ≡ after_octets_down count self.old) }
         ensures leads { Leads self.old self.new }
     {
         for _ in 0..count {
@@ -194,7 +195,8 @@ impl World {
     // The next fix becomes a unit, which is sent.
     fn report(&mut self) -> Result<(), Memory>
         requires { length self.old.units < length self.old.recorded }
-        ensures ok { OnOk result (self.new ≡ reported self.old (slice_index_or self.old.recorded (length self.old.units) [])) }
+        ensures ok { OnOk result (self.new
+            ≡ after_fix self.old (slice_index_or self.old.recorded (length self.old.units) [])) }
         ensures leads { Leads self.old self.new }
         ensures err { OnErr result (self.new ≡ self.old) }
     {
@@ -205,7 +207,7 @@ impl World {
 
     // Each fix that is in no unit becomes one.
     fn report_all(&mut self) -> Result<(), Memory>
-        ensures ok { OnOk result (self.new ≡ all_reported self.old (waiting self.old)) }
+        ensures ok { OnOk result (self.new ≡ after_fixes self.old (waiting self.old)) }
         ensures leads { Leads self.old self.new }
     {
         for _ in self.formed()..self.terminal.recorded() {

@@ -2,7 +2,7 @@
 
 ghost use Rattle.std.specs.Prelude.{IfOk, IfSome};
 ghost use Rattle.jt_outside.specs.ScriptLink.{IsUntouched};
-ghost use Rattle.jt_report_command.specs.Telling.{told_of};
+ghost use Rattle.jt_report_command.specs.Telling.{values_in_words};
 ghost use Rattle.jt_report_command.specs.Settings.{AreSpoken};
 
 use jt_input::Status;
@@ -93,7 +93,7 @@ fn octets(alloc: Global, octets: &[u8]) -> Result<Octets, Memory> {
 }
 
 fn words(alloc: Global, text: &str) -> Result<Option<ReportWords>, Memory>
-    ensures { IfOk result (λ words. IfSome words (λ words. AreSpoken (told_of words))) }
+    ensures { IfOk result (λ words. IfSome words (λ words. AreSpoken (values_in_words words))) }
 {
     let mut words = Vec::new(alloc);
     for word in text.split(' ') {
@@ -103,7 +103,7 @@ fn words(alloc: Global, text: &str) -> Result<Option<ReportWords>, Memory>
 }
 
 fn spoken(alloc: Global, text: &str) -> Option<ReportWords>
-    ensures { IfSome result (λ words. AreSpoken (told_of words)) }
+    ensures { IfSome result (λ words. AreSpoken (values_in_words words)) }
 {
     match words(alloc, text) {
         Ok(words) => words,

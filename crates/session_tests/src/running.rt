@@ -280,10 +280,13 @@ fn play(
     closes: bool,
 ) -> Ran
     requires reserved { hub.old.reserved ≡ 2 }
-    requires first { (first.old.waiting ≡ None) × (first.old.over ≡ false) × (first.old.stream.place ≡ 0) }
-    requires second { (second.old.waiting ≡ None) × (second.old.over ≡ false) × (second.old.stream.place ≡ 0) }
+    requires first { (first.old.waiting ≡ None) × (first.old.over ≡ false)
+        × (first.old.stream.place ≡ 0) }
+    requires second { (second.old.waiting ≡ None) × (second.old.over ≡ false)
+        × (second.old.stream.place ≡ 0) }
     requires cut { cut ≤ length stream.now }
-    requires short { (length before.now ≤ 100000) × (length others.now ≤ 100000) × (length stream.now ≤ 100000) }
+    requires short { (length before.now ≤ 100000) × (length others.now ≤ 100000)
+        × (length stream.now ≤ 100000) }
 {
     let mut written = Buffer::new(alloc);
     feed_apart(rt, alloc, first, hub, before);

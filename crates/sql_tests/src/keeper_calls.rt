@@ -90,7 +90,8 @@ fn is_free_plate<K: Keeper>(
     phone: &Phone,
     plate: &[u8],
 ) -> Result<bool, StoreError>
-    ensures { Reads (K.Keeper.tables keeper.old) (K.Keeper.tables keeper.new) (λ t free. IsFree plates t.registered (key_of phone.now) plate.now free) result }
+    ensures { Reads (K.Keeper.tables keeper.old) (K.Keeper.tables keeper.new)
+        (λ t free. IsFree plates t.registered (key_of phone.now) plate.now free) result }
 {
     match keeper.plate_owner(alloc, plate) {
         Ok(Some(owner)) => Ok(owner.same(phone)),
@@ -106,7 +107,8 @@ fn is_free_terminal<K: Keeper>(
     phone: &Phone,
     terminal: &[u8],
 ) -> Result<bool, StoreError>
-    ensures { Reads (K.Keeper.tables keeper.old) (K.Keeper.tables keeper.new) (λ t free. IsFree terminals t.registered (key_of phone.now) terminal.now free) result }
+    ensures { Reads (K.Keeper.tables keeper.old) (K.Keeper.tables keeper.new)
+        (λ t free. IsFree terminals t.registered (key_of phone.now) terminal.now free) result }
 {
     match keeper.terminal_owner(alloc, terminal) {
         Ok(Some(owner)) => Ok(owner.same(phone)),

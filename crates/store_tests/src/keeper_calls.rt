@@ -57,7 +57,8 @@ fn is_free_plate(
     phone: &Phone,
     plate: &[u8],
 ) -> Result<bool, StoreError>
-    ensures { Reads (Some (tables_of keeper.old)) (Some (tables_of keeper.new)) (λ t free. IsFree plates t.registered (key_of phone.now) plate.now free) result }
+    ensures { Reads (Some (tables_of keeper.old)) (Some (tables_of keeper.new))
+        (λ t free. IsFree plates t.registered (key_of phone.now) plate.now free) result }
 {
     match keeper.plate_owner(alloc, plate) {
         Ok(Some(owner)) => Ok(owner.same(phone)),
@@ -73,7 +74,8 @@ fn is_free_terminal(
     phone: &Phone,
     terminal: &[u8],
 ) -> Result<bool, StoreError>
-    ensures { Reads (Some (tables_of keeper.old)) (Some (tables_of keeper.new)) (λ t free. IsFree terminals t.registered (key_of phone.now) terminal.now free) result }
+    ensures { Reads (Some (tables_of keeper.old)) (Some (tables_of keeper.new))
+        (λ t free. IsFree terminals t.registered (key_of phone.now) terminal.now free) result }
 {
     match keeper.terminal_owner(alloc, terminal) {
         Ok(Some(owner)) => Ok(owner.same(phone)),

@@ -62,7 +62,8 @@ pub fn both_ask<R: Threads + Wait + Sync>(
 ) -> Option<TwoAsked>
     ensures first { IfSome result (λ asked. entries_of 1 asked.desk.entries ≡ asked.first) }
     ensures second { IfSome result (λ asked. entries_of 2 asked.desk.entries ≡ asked.second) }
-    ensures no_other { IfSome result (λ asked. (n : ℕ) → n ≢ 1 → n ≢ 2 → entries_of n asked.desk.entries ≡ []) }
+    ensures no_other { IfSome result (λ asked.
+        (n : ℕ) → n ≢ 1 → n ≢ 2 → entries_of n asked.desk.entries ≡ []) }
     ensures opening { IfSome result (λ asked. asked.desk.from ≡ from) }
 {
     let desk = CountingDesk {

@@ -76,7 +76,8 @@ pub fn all_ask<R: Threads + Wait + Sync>(
         thread::scope_env(),
         rt,
         |scope| -> Option<(Pass<CountingDesk>, Vec<Told>)>
-            requires { IsSync R.row × (pass.turn ≡ turn.now) × (pass.number ≡ 0) × (pass.given ≡ 0) × (pass.lent ≡ 0) × (pass.ended ≡ []) }
+            requires { IsSync R.row × (pass.turn ≡ turn.now) × (pass.number ≡ 0) × (pass.given ≡ 0)
+                × (pass.lent ≡ 0) × (pass.ended ≡ []) }
             ensures turn { IfSome result (λ back. back.0.turn ≡ turn.entry.now) }
             ensures root { IfSome result (λ back. back.0.number ≡ 0) }
             ensures joined { IfSome result (λ back. back.0.lent ≡ 0) }

@@ -44,7 +44,8 @@ pub(super) fn push_all<T: Shown>(
     line: &mut Line,
     list: &[T],
 ) -> Result<(), AllocError>
-    ensures text { OnOk result (string_bytes text.new ≡ string_bytes text.old ++ flat_map T.shown list.now) }
+    ensures text { OnOk result
+        (string_bytes text.new ≡ string_bytes text.old ++ flat_map T.shown list.now) }
     ensures kept { StartsWith (string_bytes text.new) (string_bytes text.old) }
 {
     let together = ROOM / T::most();

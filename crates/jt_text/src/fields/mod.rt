@@ -47,7 +47,8 @@ fn push_ack(
     id: u16,
     answer: u8,
 ) -> Result<(), AllocError>
-    ensures text { OnOk result (string_bytes text.new ≡ string_bytes text.old ++ ack_fields reply id answer) }
+    ensures text { OnOk result
+        (string_bytes text.new ≡ string_bytes text.old ++ ack_fields reply id answer) }
     ensures kept { StartsWith (string_bytes text.new) (string_bytes text.old) }
 {
     line.clear();
@@ -62,7 +63,8 @@ fn push_position_reply(
     reply: u16,
     position: &Position,
 ) -> Result<(), AllocError>
-    ensures text { OnOk result (string_bytes text.new ≡ string_bytes text.old ++ fields_of (message.PositionReply reply position.now)) }
+    ensures text { OnOk result (string_bytes text.new
+        ≡ string_bytes text.old ++ fields_of (message.PositionReply reply position.now)) }
     ensures kept { StartsWith (string_bytes text.new) (string_bytes text.old) }
 {
     push_number(text, " reply=", reply as u64)?;
@@ -76,7 +78,8 @@ fn push_params_reply(
     reply: u16,
     params: &[Param],
 ) -> Result<(), AllocError>
-    ensures text { OnOk result (string_bytes text.new ≡ string_bytes text.old ++ fields_of (message.Params reply params.now)) }
+    ensures text { OnOk result (string_bytes text.new
+        ≡ string_bytes text.old ++ fields_of (message.Params reply params.now)) }
     ensures kept { StartsWith (string_bytes text.new) (string_bytes text.old) }
 {
     push_number(text, " reply=", reply as u64)?;
@@ -90,7 +93,8 @@ pub(crate) fn push_fields(
     line: &mut Line,
     message: &Message,
 ) -> Result<(), AllocError>
-    ensures text { OnOk result (string_bytes text.new ≡ string_bytes text.old ++ fields_of message.now) }
+    ensures text { OnOk result
+        (string_bytes text.new ≡ string_bytes text.old ++ fields_of message.now) }
     ensures kept { StartsWith (string_bytes text.new) (string_bytes text.old) }
 {
     match message {

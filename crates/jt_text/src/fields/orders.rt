@@ -9,7 +9,8 @@ use crate::values::{push_number, push_octets};
 use std::alloc::AllocError;
 
 fn push_validity(text: &mut String, validity: Option<u32>) -> Result<(), AllocError>
-    ensures text { OnOk result (string_bytes text.new ≡ string_bytes text.old ++ (codes " validity=" ++ number_text validity)) }
+    ensures text { OnOk result (string_bytes text.new
+        ≡ string_bytes text.old ++ (codes " validity=" ++ number_text validity)) }
     ensures kept { StartsWith (string_bytes text.new) (string_bytes text.old) }
 {
     match validity {
@@ -24,7 +25,8 @@ pub(crate) fn push_track(
     interval: u16,
     validity: Option<u32>,
 ) -> Result<(), AllocError>
-    ensures text { OnOk result (string_bytes text.new ≡ string_bytes text.old ++ track_fields interval validity) }
+    ensures text { OnOk result
+        (string_bytes text.new ≡ string_bytes text.old ++ track_fields interval validity) }
     ensures kept { StartsWith (string_bytes text.new) (string_bytes text.old) }
 {
     push_number(text, " interval=", interval as u64)?;
@@ -50,7 +52,8 @@ pub(crate) fn push_text(
     kind: Option<u8>,
     octets: &[u8],
 ) -> Result<(), AllocError>
-    ensures text { OnOk result (string_bytes text.new ≡ string_bytes text.old ++ text_fields flag kind octets.now) }
+    ensures text { OnOk result
+        (string_bytes text.new ≡ string_bytes text.old ++ text_fields flag kind octets.now) }
     ensures kept { StartsWith (string_bytes text.new) (string_bytes text.old) }
 {
     push_number(text, " flag=", flag as u64)?;
@@ -65,7 +68,8 @@ pub(crate) fn push_control(
     command: u8,
     octets: &[u8],
 ) -> Result<(), AllocError>
-    ensures text { OnOk result (string_bytes text.new ≡ string_bytes text.old ++ control_fields command octets.now) }
+    ensures text { OnOk result
+        (string_bytes text.new ≡ string_bytes text.old ++ control_fields command octets.now) }
     ensures kept { StartsWith (string_bytes text.new) (string_bytes text.old) }
 {
     push_number(text, " command=", command as u64)?;

@@ -24,7 +24,8 @@ fn push_number_param(
     id: u32,
     number: u64,
 ) -> Result<(), AllocError>
-    ensures text { OnOk result (string_bytes text.new ≡ string_bytes text.old ++ (codes " param=0x" ++ (dword_digits id ++ (codes ":" ++ decimal number)))) }
+    ensures text { OnOk result (string_bytes text.new ≡ string_bytes text.old
+        ++ (codes " param=0x" ++ (dword_digits id ++ (codes ":" ++ decimal number)))) }
     ensures kept { StartsWith (string_bytes text.new) (string_bytes text.old) }
 {
     line.clear();
@@ -35,7 +36,8 @@ fn push_number_param(
 
 #[tactic(auto, unfolding(crate::specs::ParamFields::param_text))]
 fn push_param(text: &mut String, line: &mut Line, param: &Param) -> Result<(), AllocError>
-    ensures text { OnOk result (string_bytes text.new ≡ string_bytes text.old ++ param_text param.now) }
+    ensures text { OnOk result
+        (string_bytes text.new ≡ string_bytes text.old ++ param_text param.now) }
     ensures kept { StartsWith (string_bytes text.new) (string_bytes text.old) }
 {
     match &param.value {
@@ -53,7 +55,8 @@ fn push_param(text: &mut String, line: &mut Line, param: &Param) -> Result<(), A
 }
 
 fn push_list(text: &mut String, line: &mut Line, params: &[Param]) -> Result<(), AllocError>
-    ensures text { OnOk result (string_bytes text.new ≡ string_bytes text.old ++ flat_map param_text params.now) }
+    ensures text { OnOk result
+        (string_bytes text.new ≡ string_bytes text.old ++ flat_map param_text params.now) }
     ensures kept { StartsWith (string_bytes text.new) (string_bytes text.old) }
 {
     for param in params {
@@ -68,7 +71,8 @@ pub(super) fn push_params(
     line: &mut Line,
     params: &[Param],
 ) -> Result<(), AllocError>
-    ensures text { OnOk result (string_bytes text.new ≡ string_bytes text.old ++ params_fields params.now) }
+    ensures text { OnOk result
+        (string_bytes text.new ≡ string_bytes text.old ++ params_fields params.now) }
     ensures kept { StartsWith (string_bytes text.new) (string_bytes text.old) }
 {
     push_number(text, " count=", params.len() as u64)?;
@@ -98,7 +102,8 @@ fn put_ids(line: &mut Line, ids: &[u32])
 }
 
 fn push_ids(text: &mut String, line: &mut Line, ids: &[u32]) -> Result<(), AllocError>
-    ensures text { OnOk result (string_bytes text.new ≡ string_bytes text.old ++ flat_map id_text ids.now) }
+    ensures text { OnOk result
+        (string_bytes text.new ≡ string_bytes text.old ++ flat_map id_text ids.now) }
     ensures kept { StartsWith (string_bytes text.new) (string_bytes text.old) }
 {
     let mut left = ids;
@@ -118,7 +123,8 @@ pub(super) fn push_query_some(
     line: &mut Line,
     ids: &[u32],
 ) -> Result<(), AllocError>
-    ensures text { OnOk result (string_bytes text.new ≡ string_bytes text.old ++ query_some_fields ids.now) }
+    ensures text { OnOk result
+        (string_bytes text.new ≡ string_bytes text.old ++ query_some_fields ids.now) }
     ensures kept { StartsWith (string_bytes text.new) (string_bytes text.old) }
 {
     push_number(text, " count=", ids.len() as u64)?;

@@ -5,8 +5,8 @@ ghost use Rattle.std.specs.List.{flat_map};
 ghost use Rattle.std.specs.Fmt.{decimal};
 ghost use Rattle.std.specs.Io.{StartsWith};
 ghost use Rattle.jt_position.specs.declared.item.Item.TheVariants as items;
-ghost use Rattle.jt_position.specs.BatchViews.{viewed_position};
-ghost use Rattle.jt_position.specs.Views.{owned};
+ghost use Rattle.jt_position.specs.BatchViews.{position_in_view};
+ghost use Rattle.jt_position.specs.Views.{item_in_view};
 ghost use Rattle.jt_text.specs.PositionFields.{batch_fields, batch_item_text, item_text, motion_text, place_text, position_fields, region_text};
 ghost use Rattle.jt_text.specs.Times.{time_text};
 ghost use Rattle.jt_text.specs.Values.{byte_digits};
@@ -75,7 +75,8 @@ pub(crate) fn put_fixed(line: &mut Line, fixed: &Fixed)
 
 #[tactic(auto, using(std::proofs::Common::append_assoc), unfolding(crate::specs::PositionFields::item_text))]
 fn push_raw(text: &mut String, line: &mut Line, id: u8, value: &[u8]) -> Result<(), AllocError>
-    ensures text { OnOk result (string_bytes text.new ≡ string_bytes text.old ++ item_text (items.Raw id value.now)) }
+    ensures text { OnOk result
+        (string_bytes text.new ≡ string_bytes text.old ++ item_text (items.Raw id value.now)) }
     ensures kept { StartsWith (string_bytes text.new) (string_bytes text.old) }
 {
     push_value(text, line, " item=0x", &[id], value)
@@ -84,7 +85,8 @@ fn push_raw(text: &mut String, line: &mut Line, id: u8, value: &[u8]) -> Result<
 // An item of one number.
 #[tactic(auto, using(std::proofs::Common::append_assoc))]
 fn push_one(text: &mut String, line: &mut Line, id: u8, number: u64) -> Result<(), AllocError>
-    ensures text { OnOk result (string_bytes text.new ≡ string_bytes text.old ++ (codes " item=0x" ++ (byte_digits id ++ (codes ":" ++ decimal number)))) }
+    ensures text { OnOk result (string_bytes text.new ≡ string_bytes text.old
+        ++ (codes " item=0x" ++ (byte_digits id ++ (codes ":" ++ decimal number)))) }
     ensures kept { StartsWith (string_bytes text.new) (string_bytes text.old) }
 {
     line.clear();
@@ -111,7 +113,8 @@ fn push_overspeed(
     kind: u8,
     region: Option<u32>,
 ) -> Result<(), AllocError>
-    ensures text { OnOk result (string_bytes text.new ≡ string_bytes text.old ++ item_text (items.Overspeed kind region)) }
+    ensures text { OnOk result
+        (string_bytes text.new ≡ string_bytes text.old ++ item_text (items.Overspeed kind region)) }
     ensures kept { StartsWith (string_bytes text.new) (string_bytes text.old) }
 {
     line.clear();
@@ -129,7 +132,8 @@ fn push_region_alarm(
     region: u32,
     direction: u8,
 ) -> Result<(), AllocError>
-    ensures text { OnOk result (string_bytes text.new ≡ string_bytes text.old ++ item_text (items.RegionAlarm kind region direction)) }
+    ensures text { OnOk result (string_bytes text.new
+        ≡ string_bytes text.old ++ item_text (items.RegionAlarm kind region direction)) }
     ensures kept { StartsWith (string_bytes text.new) (string_bytes text.old) }
 {
     line.clear();
@@ -148,7 +152,8 @@ fn push_travel(
     seconds: u16,
     outcome: u8,
 ) -> Result<(), AllocError>
-    ensures text { OnOk result (string_bytes text.new ≡ string_bytes text.old ++ item_text (items.Travel segment seconds outcome)) }
+    ensures text { OnOk result (string_bytes text.new
+        ≡ string_bytes text.old ++ item_text (items.Travel segment seconds outcome)) }
     ensures kept { StartsWith (string_bytes text.new) (string_bytes text.old) }
 {
     line.clear();
@@ -159,9 +164,10 @@ fn push_travel(
     Ok(())
 }
 
-#[tactic(auto, unfolding(crate::specs::PositionFields::item_text, jt_position::specs::Views::owned, hex::specs::Hex::encode_with))]
+#[tactic(auto, unfolding(crate::specs::PositionFields::item_text, jt_position::specs::Views::item_in_view, hex::specs::Hex::encode_with))]
 fn push_item(text: &mut String, line: &mut Line, item: &ItemView<'_>) -> Result<(), AllocError>
-    ensures text { OnOk result (string_bytes text.new ≡ string_bytes text.old ++ item_text (owned item.now)) }
+    ensures text { OnOk result
+        (string_bytes text.new ≡ string_bytes text.old ++ item_text (item_in_view item.now)) }
     ensures kept { StartsWith (string_bytes text.new) (string_bytes text.old) }
 {
     match item {
@@ -196,7 +202,8 @@ pub(crate) fn push_item_views(
     line: &mut Line,
     items: Items<'_>,
 ) -> Result<(), AllocError>
-    ensures text { OnOk result (string_bytes text.new ≡ string_bytes text.old ++ flat_map item_text items.entry) }
+    ensures text { OnOk result
+        (string_bytes text.new ≡ string_bytes text.old ++ flat_map item_text items.entry) }
     ensures kept { StartsWith (string_bytes text.new) (string_bytes text.old) }
 {
     for item in items {
@@ -211,7 +218,8 @@ fn push_position_view(
     line: &mut Line,
     view: PositionView<'_>,
 ) -> Result<(), AllocError>
-    ensures text { OnOk result (string_bytes text.new ≡ string_bytes text.old ++ batch_item_text (viewed_position view.entry)) }
+    ensures text { OnOk result (string_bytes text.new
+        ≡ string_bytes text.old ++ batch_item_text (position_in_view view.entry)) }
     ensures kept { StartsWith (string_bytes text.new) (string_bytes text.old) }
 {
     line.clear();
@@ -227,7 +235,8 @@ pub(crate) fn push_position_views(
     line: &mut Line,
     positions: Positions<'_>,
 ) -> Result<(), AllocError>
-    ensures text { OnOk result (string_bytes text.new ≡ string_bytes text.old ++ flat_map batch_item_text positions.entry) }
+    ensures text { OnOk result (string_bytes text.new
+        ≡ string_bytes text.old ++ flat_map batch_item_text positions.entry) }
     ensures kept { StartsWith (string_bytes text.new) (string_bytes text.old) }
 {
     for view in positions {
@@ -237,9 +246,9 @@ pub(crate) fn push_position_views(
 }
 
 // The item, whose raw value stands where it is.
-#[tactic(auto, unfolding(jt_position::specs::Views::owned))]
+#[tactic(auto, unfolding(jt_position::specs::Views::item_in_view))]
 fn view_of(item: &Item) -> ItemView<'_>
-    ensures { owned result ≡ item.now }
+    ensures { item_in_view result ≡ item.now }
 {
     match item {
         Item::Mileage(distance) => ItemView::Mileage(*distance),
@@ -281,7 +290,8 @@ fn view_of(item: &Item) -> ItemView<'_>
 }
 
 fn push_items(text: &mut String, line: &mut Line, items: &[Item]) -> Result<(), AllocError>
-    ensures text { OnOk result (string_bytes text.new ≡ string_bytes text.old ++ flat_map item_text items.now) }
+    ensures text { OnOk result
+        (string_bytes text.new ≡ string_bytes text.old ++ flat_map item_text items.now) }
     ensures kept { StartsWith (string_bytes text.new) (string_bytes text.old) }
 {
     for item in items {
@@ -296,7 +306,8 @@ pub(super) fn push_position(
     line: &mut Line,
     position: &Position,
 ) -> Result<(), AllocError>
-    ensures text { OnOk result (string_bytes text.new ≡ string_bytes text.old ++ position_fields position.now) }
+    ensures text { OnOk result
+        (string_bytes text.new ≡ string_bytes text.old ++ position_fields position.now) }
     ensures kept { StartsWith (string_bytes text.new) (string_bytes text.old) }
 {
     line.clear();
@@ -311,7 +322,8 @@ fn push_batch_item(
     line: &mut Line,
     position: &Position,
 ) -> Result<(), AllocError>
-    ensures text { OnOk result (string_bytes text.new ≡ string_bytes text.old ++ batch_item_text position.now) }
+    ensures text { OnOk result
+        (string_bytes text.new ≡ string_bytes text.old ++ batch_item_text position.now) }
     ensures kept { StartsWith (string_bytes text.new) (string_bytes text.old) }
 {
     text.push_str(" length=")?;
@@ -324,7 +336,8 @@ fn push_batch_items(
     line: &mut Line,
     fixes: &[Position],
 ) -> Result<(), AllocError>
-    ensures text { OnOk result (string_bytes text.new ≡ string_bytes text.old ++ flat_map batch_item_text fixes.now) }
+    ensures text { OnOk result
+        (string_bytes text.new ≡ string_bytes text.old ++ flat_map batch_item_text fixes.now) }
     ensures kept { StartsWith (string_bytes text.new) (string_bytes text.old) }
 {
     for position in fixes {
@@ -339,7 +352,8 @@ pub(super) fn push_batch(
     line: &mut Line,
     batch: &Batch,
 ) -> Result<(), AllocError>
-    ensures text { OnOk result (string_bytes text.new ≡ string_bytes text.old ++ batch_fields batch.now) }
+    ensures text { OnOk result
+        (string_bytes text.new ≡ string_bytes text.old ++ batch_fields batch.now) }
     ensures kept { StartsWith (string_bytes text.new) (string_bytes text.old) }
 {
     push_number(text, " count=", batch.fixes.len() as u64)?;

@@ -16,7 +16,8 @@ use std::alloc::AllocError;
 #[inline(always)]
 fn put_pair(line: &mut Line, name: &str, first: u64, second: u64)
     requires { length name.now + length line.old + 41 ≤ 512 }
-    ensures text { line.new ≡ name.now ++ (decimal first ++ (codes ":" ++ (decimal second ++ line.old))) }
+    ensures text { line.new
+        ≡ name.now ++ (decimal first ++ (codes ":" ++ (decimal second ++ line.old))) }
     ensures room { length line.new ≤ length name.now + length line.old + 41 }
 {
     line.put_named_number(":", second);
@@ -210,7 +211,8 @@ fn push_setting(
     setting: u8,
     count: usize,
 ) -> Result<(), AllocError>
-    ensures text { OnOk result (string_bytes text.new ≡ string_bytes text.old ++ (codes " setting=" ++ (decimal setting ++ (codes " count=" ++ decimal count)))) }
+    ensures text { OnOk result (string_bytes text.new ≡ string_bytes text.old
+        ++ (codes " setting=" ++ (decimal setting ++ (codes " count=" ++ decimal count)))) }
     ensures kept { StartsWith (string_bytes text.new) (string_bytes text.old) }
 {
     line.clear();
@@ -226,7 +228,8 @@ pub(super) fn push_circles(
     setting: u8,
     list: &[Circle],
 ) -> Result<(), AllocError>
-    ensures text { OnOk result (string_bytes text.new ≡ string_bytes text.old ++ circles_fields setting list.now) }
+    ensures text { OnOk result
+        (string_bytes text.new ≡ string_bytes text.old ++ circles_fields setting list.now) }
     ensures kept { StartsWith (string_bytes text.new) (string_bytes text.old) }
 {
     push_setting(text, line, setting, list.len())?;
@@ -240,7 +243,8 @@ pub(super) fn push_rectangles(
     setting: u8,
     list: &[Rectangle],
 ) -> Result<(), AllocError>
-    ensures text { OnOk result (string_bytes text.new ≡ string_bytes text.old ++ rectangles_fields setting list.now) }
+    ensures text { OnOk result
+        (string_bytes text.new ≡ string_bytes text.old ++ rectangles_fields setting list.now) }
     ensures kept { StartsWith (string_bytes text.new) (string_bytes text.old) }
 {
     push_setting(text, line, setting, list.len())?;
@@ -253,7 +257,8 @@ pub(super) fn push_polygon(
     line: &mut Line,
     polygon: &Polygon,
 ) -> Result<(), AllocError>
-    ensures text { OnOk result (string_bytes text.new ≡ string_bytes text.old ++ polygon_fields polygon.now) }
+    ensures text { OnOk result
+        (string_bytes text.new ≡ string_bytes text.old ++ polygon_fields polygon.now) }
     ensures kept { StartsWith (string_bytes text.new) (string_bytes text.old) }
 {
     line.clear();
@@ -270,7 +275,8 @@ pub(super) fn push_route(
     line: &mut Line,
     route: &Route,
 ) -> Result<(), AllocError>
-    ensures text { OnOk result (string_bytes text.new ≡ string_bytes text.old ++ route_fields route.now) }
+    ensures text { OnOk result
+        (string_bytes text.new ≡ string_bytes text.old ++ route_fields route.now) }
     ensures kept { StartsWith (string_bytes text.new) (string_bytes text.old) }
 {
     line.clear();
@@ -287,7 +293,8 @@ pub(super) fn push_deletion(
     line: &mut Line,
     ids: &[u32],
 ) -> Result<(), AllocError>
-    ensures text { OnOk result (string_bytes text.new ≡ string_bytes text.old ++ deletion_fields ids.now) }
+    ensures text { OnOk result
+        (string_bytes text.new ≡ string_bytes text.old ++ deletion_fields ids.now) }
     ensures kept { StartsWith (string_bytes text.new) (string_bytes text.old) }
 {
     push_number(text, " count=", ids.len() as u64)?;

@@ -13,8 +13,8 @@ use std::alloc::AllocError;
 
 #[tactic(auto, using(std::proofs::Common::append_assoc))]
 fn push_province_and_city(text: &mut String, register: &Register) -> Result<(), AllocError>
-    ensures text { OnOk result (string_bytes text.new ≡ string_bytes text.old
-        ++ (codes " province=" ++ (decimal register.now.province ++ (codes " city=" ++ decimal register.now.city)))) }
+    ensures text { OnOk result (string_bytes text.new ≡ string_bytes text.old ++ (codes " province="
+        ++ (decimal register.now.province ++ (codes " city=" ++ decimal register.now.city)))) }
     ensures kept { StartsWith (string_bytes text.new) (string_bytes text.old) }
 {
     push_number(text, " province=", register.province as u64)?;
@@ -24,8 +24,8 @@ fn push_province_and_city(text: &mut String, register: &Register) -> Result<(), 
 // Who made the terminal, and which one it is.
 #[tactic(auto, using(std::proofs::Common::append_assoc))]
 fn push_device(text: &mut String, line: &mut Line, register: &Register) -> Result<(), AllocError>
-    ensures text { OnOk result (string_bytes text.new ≡ string_bytes text.old
-        ++ (codes " maker=" ++ (octets_text register.now.maker ++ (codes " model=" ++ (octets_text register.now.model
+    ensures text { OnOk result (string_bytes text.new ≡ string_bytes text.old ++ (codes " maker="
+        ++ (octets_text register.now.maker ++ (codes " model=" ++ (octets_text register.now.model
         ++ (codes " terminal=" ++ octets_text register.now.terminal)))))) }
     ensures kept { StartsWith (string_bytes text.new) (string_bytes text.old) }
 {
@@ -40,7 +40,8 @@ pub(super) fn push_register(
     line: &mut Line,
     register: &Register,
 ) -> Result<(), AllocError>
-    ensures text { OnOk result (string_bytes text.new ≡ string_bytes text.old ++ register_fields register.now) }
+    ensures text { OnOk result
+        (string_bytes text.new ≡ string_bytes text.old ++ register_fields register.now) }
     ensures kept { StartsWith (string_bytes text.new) (string_bytes text.old) }
 {
     push_province_and_city(text, register)?;
@@ -51,7 +52,8 @@ pub(super) fn push_register(
 
 // The code, which only a result of 0 has.
 fn push_code(text: &mut String, line: &mut Line, answer: u8, code: &[u8]) -> Result<(), AllocError>
-    ensures text { OnOk result (string_bytes text.new ≡ string_bytes text.old ++ code_text answer code.now) }
+    ensures text { OnOk result
+        (string_bytes text.new ≡ string_bytes text.old ++ code_text answer code.now) }
     ensures kept { StartsWith (string_bytes text.new) (string_bytes text.old) }
 {
     if answer == 0 {
@@ -66,7 +68,8 @@ pub(super) fn push_register_reply(
     line: &mut Line,
     reply: &RegisterReply,
 ) -> Result<(), AllocError>
-    ensures text { OnOk result (string_bytes text.new ≡ string_bytes text.old ++ register_reply_fields reply.now) }
+    ensures text { OnOk result
+        (string_bytes text.new ≡ string_bytes text.old ++ register_reply_fields reply.now) }
     ensures kept { StartsWith (string_bytes text.new) (string_bytes text.old) }
 {
     push_number(text, " reply=", reply.reply as u64)?;
@@ -81,7 +84,8 @@ fn push_code_and_tail(
     code: &[u8],
     tail: &AuthTail,
 ) -> Result<(), AllocError>
-    ensures text { OnOk result (string_bytes text.new ≡ string_bytes text.old ++ auth_text (Some tail.now) code.now) }
+    ensures text { OnOk result
+        (string_bytes text.new ≡ string_bytes text.old ++ auth_text (Some tail.now) code.now) }
     ensures kept { StartsWith (string_bytes text.new) (string_bytes text.old) }
 {
     push_number(text, " length=", code.len() as u64)?;
@@ -92,7 +96,8 @@ fn push_code_and_tail(
 
 #[tactic(auto, unfolding(crate::specs::RegistrationFields::auth_fields))]
 pub(super) fn push_auth(text: &mut String, line: &mut Line, auth: &Auth) -> Result<(), AllocError>
-    ensures text { OnOk result (string_bytes text.new ≡ string_bytes text.old ++ auth_fields auth.now) }
+    ensures text { OnOk result
+        (string_bytes text.new ≡ string_bytes text.old ++ auth_fields auth.now) }
     ensures kept { StartsWith (string_bytes text.new) (string_bytes text.old) }
 {
     match &auth.tail {

@@ -35,7 +35,8 @@ pub(super) fn push_resend(
     line: &mut Line,
     resend: &Resend,
 ) -> Result<(), AllocError>
-    ensures text { OnOk result (string_bytes text.new ≡ string_bytes text.old ++ resend_fields resend.now) }
+    ensures text { OnOk result
+        (string_bytes text.new ≡ string_bytes text.old ++ resend_fields resend.now) }
     ensures kept { StartsWith (string_bytes text.new) (string_bytes text.old) }
 {
     line.clear();

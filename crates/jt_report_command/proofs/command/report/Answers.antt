@@ -1,17 +1,17 @@
 use Rattle.std.proofs.Common.{rules}
-use Rattle.jt_report_command.specs.Telling.{told_of}
+use Rattle.jt_report_command.specs.Telling.{values_in_words}
 use Rattle.jt_report_command.proofs.Runs.{from_start, runs_none, runs_refused, with_settings}
 use Rattle.jt_report_command.proofs.Words.{spoken_phone, spoken_plate, spoken_terminal}
 use Rattle.jt_report_command.proofs.command.report.Goals as goal
 
 pub settings-requires-clause-phone : goal.settings-requires-clause-phone
-settings-requires-clause-phone g c = spoken_phone (told_of c.args.words) c.requires.words (search rules)
+settings-requires-clause-phone g c = spoken_phone (values_in_words c.args.words) c.requires.words (search rules)
 
 pub settings-requires-clause-plate : goal.settings-requires-clause-plate
-settings-requires-clause-plate g c = spoken_plate (told_of c.args.words) c.requires.words
+settings-requires-clause-plate g c = spoken_plate (values_in_words c.args.words) c.requires.words
 
 pub settings-requires-clause-terminal : goal.settings-requires-clause-terminal
-settings-requires-clause-terminal g c = spoken_terminal (told_of c.args.words) c.requires.words
+settings-requires-clause-terminal g c = spoken_terminal (values_in_words c.args.words) c.requires.words
 
 pub returns-in-Err-clause-runs : goal.returns-in-Err-clause-runs
 returns-in-Err-clause-runs g c = runs_none _ _ _ _ _

@@ -1,4 +1,4 @@
-use Rattle.jt_terminal_rule.specs.Rule.{heard, response, rule}
+use Rattle.jt_terminal_rule.specs.Rule.{on_hearing, response, rule}
 use Rattle.jt_terminal_rule.specs.Law.{response_heard}
 use Rattle.jt_terminal_rule.proofs.Cutting.{cut_steps}
 use Rattle.jt_terminal_rule.proofs.Batches.{unit_carries}
@@ -20,7 +20,7 @@ returns-clause-heard c = heard_steps (unit_carries c.law_fixes.ensures)
 
 pub returns-clause-heard_cut : goal.returns-clause-heard_cut
 returns-clause-heard_cut c = λ held s x good o a.
-    cut_steps held s (response_heard x) (heard s x).steps (heard_steps (unit_carries c.law_fixes.ensures) held s x good o a).may
+    cut_steps held s (response_heard x) (on_hearing s x).steps (heard_steps (unit_carries c.law_fixes.ensures) held s x good o a).may
 
 pub returns-clause-steps : goal.returns-clause-steps
 returns-clause-steps c = rule_steps (unit_carries c.law_fixes.ensures)

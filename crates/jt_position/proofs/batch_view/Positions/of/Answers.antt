@@ -3,7 +3,7 @@ use Rattle.std.proofs.lemmas.Result.{err_from_is_err_and}
 use Rattle.jt_value.specs.declared.refusal.CodecError.TheVariants as errors
 use Rattle.jt_layout.specs.Layout.{read_times, sized, word}
 use Rattle.jt_layout.proofs.Loops.{times_init, times_step, times_fails, times_done}
-use Rattle.jt_position.specs.BatchViews.{viewed_position}
+use Rattle.jt_position.specs.BatchViews.{position_in_view}
 use Rattle.jt_position.specs.Positions.{position}
 use Rattle.jt_position.proofs.batch_view.Positions.of.Goals as goal
 
@@ -16,7 +16,7 @@ loop-preserved c =
     let so_far = c.loop.invariant.so_far in
     record {
       octets = c.in_ok-read_sized.ensures.octets ∙ c.loop.invariant.octets;
-      so_far = (so_far.0 ++ viewed_position c.in_ok-read_sized.field-0 ∷ [], times_step (sized word position).read c.args.reader.now.octets so_far.0 c.args.count c.loop.counter c.loop.reader.place (viewed_position c.in_ok-read_sized.field-0) c.read_sized.new.reader.place (read_times (sized word position).read c.args.count c.args.reader.now.octets c.args.reader.now.place) c.loop-test.true read so_far.1);
+      so_far = (so_far.0 ++ position_in_view c.in_ok-read_sized.field-0 ∷ [], times_step (sized word position).read c.args.reader.now.octets so_far.0 c.args.count c.loop.counter c.loop.reader.place (position_in_view c.in_ok-read_sized.field-0) c.read_sized.new.reader.place (read_times (sized word position).read c.args.count c.args.reader.now.octets c.args.reader.now.place) c.loop-test.true read so_far.1);
     }
 
 pub returns-in_err-read_sized-clause-value : goal.returns-in_err-read_sized-clause-value

@@ -1,7 +1,7 @@
 use Rattle.std.proofs.Common.{◌<◌, sym, ◌∙◌, arith}
 use Rattle.jt_position.proofs.BatchViewLaws.{no_position, stepped}
 use Rattle.jt_position.proofs.ViewLaws.{progress}
-use Rattle.jt_position.specs.BatchViews.{viewed_position}
+use Rattle.jt_position.specs.BatchViews.{position_in_view}
 use Rattle.jt_position.proofs.batch_view.PositionsIterator.next.Goals as goal
 
 pub returns-then-self-eq0-clause-steps : goal.returns-then-self-eq0-clause-steps
@@ -30,4 +30,4 @@ pub returns-clause-goes : goal.returns-clause-goes
 returns-clause-goes c =
     let at = c.self.inside.reader in
     let some : 0 < c.self.inside.left = omega (arith, c.if-self-eq0.false) in
-    progress viewed_position c.args.self.now _ c.ok.result (stepped c.self.inside.left at.octets at.place c.read_sized.new.reader.octets c.read_sized.new.reader.place c.args.self.now c.read_sized.result c.ok.result c.read_sized.ensures.octets some c.read_sized.ensures.value c.self.invariant.0 c.self.view_is c.ok.ensures.value).1
+    progress position_in_view c.args.self.now _ c.ok.result (stepped c.self.inside.left at.octets at.place c.read_sized.new.reader.octets c.read_sized.new.reader.place c.args.self.now c.read_sized.result c.ok.result c.read_sized.ensures.octets some c.read_sized.ensures.value c.self.invariant.0 c.self.view_is c.ok.ensures.value).1

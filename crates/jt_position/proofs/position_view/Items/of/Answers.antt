@@ -4,7 +4,7 @@ use Rattle.jt_value.specs.declared.refusal.CodecError.TheVariants as errors
 use Rattle.jt_layout.specs.Layout.{read_to_the_end}
 use Rattle.jt_layout.proofs.Loops.{more_left, all_init, all_step, all_fails, all_done}
 use Rattle.jt_position.specs.Positions.{item}
-use Rattle.jt_position.specs.Views.{owned}
+use Rattle.jt_position.specs.Views.{item_in_view}
 use Rattle.jt_position.proofs.position_view.Items.of.Goals as goal
 
 pub loop-ahead-init : goal.loop-ahead-init
@@ -20,7 +20,7 @@ loop-ahead-preserved c =
     let so_far = c.loop-ahead.invariant.so_far in
     record {
       octets = c.in_ok-read.ensures.octets ∙ c.loop-ahead.invariant.octets;
-      so_far = (so_far.0 ++ owned c.in_ok-read.field-0 ∷ [], all_step item.read c.args.reader.now.octets so_far.0 c.loop-ahead.ahead.place (owned c.in_ok-read.field-0) c.read.new.reader.place (read_to_the_end item.read c.args.reader.now.octets c.args.reader.now.place) lt c.in_ok-read.ensures.onward read so_far.1);
+      so_far = (so_far.0 ++ item_in_view c.in_ok-read.field-0 ∷ [], all_step item.read c.args.reader.now.octets so_far.0 c.loop-ahead.ahead.place (item_in_view c.in_ok-read.field-0) c.read.new.reader.place (read_to_the_end item.read c.args.reader.now.octets c.args.reader.now.place) lt c.in_ok-read.ensures.onward read so_far.1);
     }
 
 pub returns-in_err-read : goal.returns-in_err-read

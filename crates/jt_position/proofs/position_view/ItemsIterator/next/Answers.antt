@@ -1,6 +1,6 @@
 use Rattle.std.proofs.Common.{length, sym, ◌∙◌}
 use Rattle.jt_layout.proofs.Loops.{more_left}
-use Rattle.jt_position.specs.Views.{owned}
+use Rattle.jt_position.specs.Views.{item_in_view}
 use Rattle.jt_position.proofs.ViewLaws.{no_item, stepped, progress}
 use Rattle.jt_position.proofs.position_view.ItemsIterator.next.Goals as goal
 
@@ -27,4 +27,4 @@ pub returns-clause-goes : goal.returns-clause-goes
 returns-clause-goes c =
     let at = c.self.inside.reader in
     let lt = more_left c.is_at_end.result at.place (length at.octets) c.is_at_end.ensures c.if-is_at_end.false in
-    progress owned c.args.self.now _ c.ok.result (stepped at.octets at.place c.read.new.reader.octets c.read.new.reader.place c.args.self.now c.read.result c.ok.result c.read.ensures.octets lt c.read.ensures.value c.self.invariant.0 c.self.view_is c.ok.ensures.value).1
+    progress item_in_view c.args.self.now _ c.ok.result (stepped at.octets at.place c.read.new.reader.octets c.read.new.reader.place c.args.self.now c.read.result c.ok.result c.read.ensures.octets lt c.read.ensures.value c.self.invariant.0 c.self.view_is c.ok.ensures.value).1

@@ -1,5 +1,0 @@
-use Rattle.jt_terminal_steps.proofs.Keeping.{sound_down}
-use Rattle.jt_terminal_steps.proofs.hearing.replied.Goals as goal
-
-pub returns-clause-sound : goal.returns-clause-sound
-returns-clause-sound g c = rw c.in_ok-denied.ensures.state (sound_down (g.V.Vault.holds c.args.vault.now) c.args.state.now c.requires.sound)

@@ -1,0 +1,5 @@
+use Rattle.jt_terminal_steps.proofs.Keeping.{sound_down}
+use Rattle.jt_terminal_steps.proofs.ticking.on_tick.Goals as goal
+
+pub returns-clause-sound : goal.returns-clause-sound
+returns-clause-sound g c = rw c.lose.ensures (sound_down (g.V.Vault.holds c.args.vault.now) c.args.state.now c.requires.sound)
