@@ -1,6 +1,6 @@
 -- Laws of histories, newest entry first, and of the replies that they allow (this project's own). To be believed; `law_histories`,
 -- `law_units` and `law_answers` prove them.
-use Rattle.std.specs.Prelude.{◌≡◌, ◌≢◌, ◌<◌, ◌≤◌, ◌+◌, ℕ, List, [], ◌∷◌, length, Bool, true, false, Some, IsSome}
+use Rattle.std.specs.Prelude.{◌≡◌, ◌≢◌, ◌<◌, ◌≤◌, ◌+◌, ◌-◌, ℕ, List, [], ◌∷◌, length, Bool, true, false, Some, IsSome}
 use Rattle.jt_value.specs.declared.limits.TheConstants.{UNIT_WINDOW}
 use Rattle.jt_value.specs.Sameness.{key_of}
 use Rattle.jt_value.specs.Serials.{serial_of}

@@ -1,5 +1,5 @@
 -- The serial verdict over the rows of a phone, and the numbers of a terminal's units (this project's own). To be believed.
-use Rattle.std.specs.Prelude.{ℕ, ◌≡◌, ◌<◌, ◌≤◌, ◌+◌, List, [], ◌∷◌, Option, None, Some, if◌then◌else◌}
+use Rattle.std.specs.Prelude.{ℕ, ◌≡◌, ◌<◌, ◌≤◌, ◌+◌, ◌-◌, List, [], ◌∷◌, Option, None, Some, if◌then◌else◌}
 use Rattle.jt_value.specs.declared.limits.TheConstants.{UNIT_WINDOW}
 use Rattle.jt_value.specs.Sameness.{same_key}
 use Rattle.jt_value.specs.Serials.{IsVerdict, Verdict, New, Repeat, next_with, serial_of}

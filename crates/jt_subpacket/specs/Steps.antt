@@ -1,6 +1,6 @@
 -- The packets of a message as a list; what the calls inside an assembler answer, and what holds of all that it keeps. But for the packets these
 -- are step definitions for the proofs, which no public clause cites.
-use Rattle.std.specs.Prelude.{◌≡◌, ℕ, zero, suc, ◌+◌, ◌*◌, ◌≤◌, ◌<◌, ◌/◌, nat_le, None, Bool, ◌==◌, ◌||◌, not, if◌then◌else◌, List, [], ◌∷◌, ◌++◌, length, take, drop, Some, slice_get, slice_set}
+use Rattle.std.specs.Prelude.{◌≡◌, ℕ, zero, suc, ◌+◌, ◌-◌, ◌*◌, ◌≤◌, ◌<◌, ◌/◌, nat_le, None, Bool, ◌==◌, ◌||◌, not, if◌then◌else◌, List, [], ◌∷◌, ◌++◌, length, take, drop, Some, slice_get, slice_set}
 use Rattle.std.specs.FinMap.{get, len, contains_key}
 use Rattle.std.specs.List.{filter, flat_map, remove}
 use Rattle.jt_value.specs.declared.limits.TheConstants.{BODY_LIMIT}
