@@ -1,7 +1,7 @@
 //! Links: what octets come from and go to at once.
 
 ghost use Rattle.std.specs.Prelude.{◌≡◌, ◌<◌, length};
-ghost use Rattle.jt_outside.specs.Link.{Reads, ReadHasCause};
+ghost use Rattle.jt_outside.specs.Link.{Reads, ReadHasCause, wire_of};
 
 use crate::Sink;
 
@@ -27,4 +27,11 @@ pub trait Link: Sink {
         ensures cause { ReadHasCause (Self.faults self.old) (Self.faults self.new)
             (Self.inbound self.old) (Self.inbound self.new) result }
         ensures written { Self.written self.new ≡ Self.written self.old };
+
+    /// Ends the connection that the link stands for, where there is one; nothing is read or written behind it. What the link tells
+    /// stays as it was. It takes no memory.
+    fn hang_up(&mut self)
+        ensures kept { wire_of Self.inbound Self.written Self.faults self.new
+            ≡ wire_of Self.inbound Self.written Self.faults self.old }
+    {}
 }

@@ -8,18 +8,33 @@ ghost use Rattle.jt_outside.specs.Adapters.{untold, wire};
 
 use crate::Dial;
 use crate::tcp_link::TcpLink;
-use std::io;
+use std::io::ErrorKind;
 use std::marker::Model;
-use std::net::{Net, TcpStream};
+use std::net::{Net, TcpStream, ToSocketAddrs};
 use std::time::Duration;
+use std::{io, thread, time};
 
 // How long a read of the terminal's links waits, in seconds (this project's own).
 const WAIT: u64 = 1;
 
-/// Connects by TCP. The links' reads wait for one second.
+// How long a write of them waits for the other end to read, in seconds, and how often (this project's own).
+const WRITE_WAIT: u64 = 10;
+
+const WRITE_WAITS: u32 = 3;
+
+// How long a connection to one address may take to come about, in seconds (this project's own).
+const CONNECT_WAIT: u64 = 30;
+
+// How long after a dial's beginning the next one begins at the earliest, in seconds (this project's own).
+const PAUSE: u64 = 1;
+
+/// Connects by TCP, to each address of the host in turn, for up to 30 seconds each. Two dials begin at least a second apart. The
+/// links' reads wait for one second, their writes for 30.
 #[derive(Drop)]
 pub struct TcpDial<R> {
     rt: R,
+    // The clock's moment when the last dial began.
+    begun: Option<Duration>,
     faults: u64,
 }
 
@@ -38,17 +53,50 @@ impl<R: Net<Stream = TcpStream>> TcpDial<R> {
     pub fn new(rt: R) -> TcpDial<R>
         ensures { result ≡ 0 }
     {
-        TcpDial { rt, faults: 0 }
+        TcpDial {
+            rt,
+            begun: None,
+            faults: 0,
+        }
+    }
+}
+
+impl<R: time::Clock> TcpDial<R> {
+    // Waits until a dial may begin. Where the clock cannot be read that is a second.
+    fn wait_for_turn(&mut self)
+        ensures { self.new ≡ self.old }
+    {
+        if let Some(begun) = self.begun {
+            let since = self.rt.monotonic().unwrap_or(begun).saturating_sub(begun);
+            thread::sleep(&self.rt, Duration::from_secs(PAUSE).saturating_sub(since));
+        }
+        self.begun = Some(self.rt.monotonic().unwrap_or(Duration::ZERO));
     }
 }
 
 fn connect<R: Net<Stream = TcpStream>>(rt: &R, host: &str, port: u16) -> io::Result<TcpStream> {
-    let stream = TcpStream::connect(rt, (host, port))?;
+    let mut last = io::Error::from(ErrorKind::NotFound);
+    for address in (host, port).to_socket_addrs(rt)? {
+        match TcpStream::connect_timeout(rt, &address, Duration::from_secs(CONNECT_WAIT)) {
+            Ok(stream) => return Ok(stream),
+            Err(error) => last = error,
+        }
+    }
+    Err(last)
+}
+
+fn connect_link<R: Net<Stream = TcpStream>>(
+    rt: &R,
+    host: &str,
+    port: u16,
+) -> io::Result<TcpStream> {
+    let stream = connect(rt, host, port)?;
     stream.set_read_timeout(Some(Duration::from_secs(WAIT)))?;
+    stream.set_write_timeout(Some(Duration::from_secs(WRITE_WAIT)))?;
     Ok(stream)
 }
 
-impl<R: Net<Stream = TcpStream>> Dial for TcpDial<R> {
+impl<R: Net<Stream = TcpStream> + time::Clock> Dial for TcpDial<R> {
     type Link = TcpLink;
 
     ghost pool = { λ _. untold };
@@ -60,8 +108,9 @@ impl<R: Net<Stream = TcpStream>> Dial for TcpDial<R> {
         ensures count { Counts self.old self.new }
         ensures cause { IsNone result → Rose self.old self.new }
     {
-        match connect(&self.rt, host, port) {
-            Ok(stream) => Some(TcpLink::new(stream)),
+        self.wait_for_turn();
+        match connect_link(&self.rt, host, port) {
+            Ok(stream) => Some(TcpLink::new(stream, WRITE_WAITS)),
             Err(_) => {
                 self.faults = self.faults.saturating_add(1);
                 None

@@ -1,20 +1,26 @@
 //! A TCP stream as a link.
 
 ghost use Rattle.std.specs.Prelude.{◌≡◌, ◌<◌, None, length};
+ghost use Rattle.std.specs.Io.{ReadsAtMost, WritesAtMost};
 ghost use Rattle.jt_outside.specs.Sink.{TakesOctets, WriteHasCause};
 ghost use Rattle.jt_outside.specs.Link.{Reads, ReadHasCause};
-ghost use Rattle.jt_outside.specs.Adapters.{inbound_of, after_read, after_write};
+ghost use Rattle.jt_outside.specs.Adapters.{inbound_of, wire, after_read, after_write};
 
+use crate::retrying::{read_again, write_again};
 use crate::{Link, LinkGot, Put, Sink};
-use std::io::{ErrorKind, Read, Write};
+use std::io;
+use std::io::ErrorKind;
 use std::marker::Model;
-use std::net::TcpStream;
+use std::net::{Shutdown, TcpStream};
 
 /// A TCP stream as a link. A read that ran into the stream's timeout is quiet, every other error is a fault, and so is a
-/// write that takes nothing.
+/// write that takes nothing, or that runs into the stream's timeout as often as the link waits. What was interrupted is made again, up to 1,000 times. Hanging up gives the
+/// stream's descriptor back; each read and write behind it is a fault.
 #[derive(Drop)]
 pub struct TcpLink {
-    stream: TcpStream,
+    stream: Option<TcpStream>,
+    // How often a write waits for the stream's timeout.
+    waits: u32,
     faults: u64,
     quiets: u64,
     run: u64,
@@ -33,15 +39,52 @@ impl Model for TcpLink {
 
 impl TcpLink {
     /// The link of a stream, of which nothing was counted so far.
-    pub(crate) fn new(stream: TcpStream) -> TcpLink
+    pub(crate) fn new(stream: TcpStream, waits: u32) -> TcpLink
         ensures { result ≡ record { faults = 0; quiets = 0; run = 0 } }
     {
         TcpLink {
-            stream,
+            stream: Some(stream),
+            waits,
             faults: 0,
             quiets: 0,
             run: 0,
         }
+    }
+}
+
+fn read_stream(stream: &mut Option<TcpStream>, buf: &mut [u8]) -> io::Result<usize>
+    ensures { ReadsAtMost result buf.new }
+{
+    match stream {
+        Some(stream) => read_again(stream, buf),
+        None => Err(io::Error::from(ErrorKind::NotConnected)),
+    }
+}
+
+fn is_timeout(error: &io::Error) -> bool {
+    matches!(error.kind(), ErrorKind::WouldBlock | ErrorKind::TimedOut)
+}
+
+// Writes, and where the other end took nothing in the stream's timeout writes again, so often in all. The system tells of a part
+// that it took only once it has waited for the rest, so one long timeout would be waited for twice.
+fn write_patiently(stream: &mut TcpStream, buf: &[u8], waits: u32) -> io::Result<usize>
+    ensures { WritesAtMost result buf.now }
+{
+    for _ in 1..waits {
+        match write_again(stream, buf) {
+            Err(error) if is_timeout(&error) => {}
+            answer => return answer,
+        }
+    }
+    write_again(stream, buf)
+}
+
+fn write_stream(stream: &mut Option<TcpStream>, buf: &[u8], waits: u32) -> io::Result<usize>
+    ensures { WritesAtMost result buf.now }
+{
+    match stream {
+        Some(stream) => write_patiently(stream, buf, waits),
+        None => Err(io::Error::from(ErrorKind::NotConnected)),
     }
 }
 
@@ -59,7 +102,7 @@ impl Sink for TcpLink {
         ensures inbound { inbound_of self.new ≡ inbound_of self.old }
         ensures exact { self.new ≡ after_write self.old result }
     {
-        match self.stream.write(buf) {
+        match write_stream(&mut self.stream, buf, self.waits) {
             Ok(count) if count > 0 => Put::Count(count),
             _ => {
                 self.faults = self.faults.saturating_add(1);
@@ -77,7 +120,7 @@ impl Link for TcpLink {
             (inbound_of self.old) (inbound_of self.new) result }
         ensures exact { self.new ≡ after_read self.old result }
     {
-        match self.stream.read(buf) {
+        match read_stream(&mut self.stream, buf) {
             Ok(0) => LinkGot::End,
             Ok(count) => {
                 self.run = 0;
@@ -94,6 +137,15 @@ impl Link for TcpLink {
                     LinkGot::Failed
                 }
             },
+        }
+    }
+
+    fn hang_up(&mut self)
+        ensures kept { wire self.new ≡ wire self.old }
+        ensures exact { self.new ≡ self.old }
+    {
+        if let Some(stream) = self.stream.take() {
+            let _ = stream.shutdown(Shutdown::Both);
         }
     }
 }

@@ -9,16 +9,32 @@ ghost use Rattle.jt_outside.specs.Adapters.{untold, wire};
 
 use crate::tcp_link::TcpLink;
 use crate::{Accepted, Listen};
-use std::io;
 use std::io::ErrorKind;
 use std::marker::Model;
 use std::net::{Net, TcpListener, TcpStream};
+use std::os::fd::AsRawFd;
 use std::time::Duration;
+use std::{io, thread, time};
 
 // How long a read of the platform's links waits, in seconds (this project's own).
 const WAIT: u64 = 60;
 
-/// Listens by TCP on every address of IPv4. The links' reads wait for 60 seconds.
+// How long a write of them waits for the other end to read, in seconds, and how often (this project's own).
+const WRITE_WAIT: u64 = 10;
+
+const WRITE_WAITS: u32 = 6;
+
+// How many connections the system keeps for the accepts to come (this project's own; it may keep fewer).
+const BACKLOG: i32 = 4_096;
+
+// The system has no descriptor left, by the number that it gives.
+const ENFILE: i32 = 23;
+
+// How often an accept waits where descriptors are short, a second each time (this project's own).
+const MOST_WAITS: u32 = 600;
+
+/// Listens by TCP on every address of IPv4. The links' reads wait for 60 seconds, their writes likewise. Where the process has no
+/// descriptor left an accept waits a second and tries again, 600 times; then it fails.
 #[derive(Drop)]
 pub struct TcpListen<R> {
     rt: R,
@@ -49,18 +65,48 @@ impl<R: Net<Listener = TcpListener, Stream = TcpStream>> TcpListen<R> {
     }
 }
 
-fn next_stream(listener: &Option<TcpListener>) -> io::Result<TcpStream> {
-    match listener {
-        Some(listener) => {
-            let (stream, _) = listener.accept()?;
-            stream.set_read_timeout(Some(Duration::from_secs(WAIT)))?;
-            Ok(stream)
-        }
-        None => Err(io::Error::from(ErrorKind::NotConnected)),
-    }
+// Listens at the port, with room for more connections to come than std asks for. Where the system refuses that, std's room stays.
+fn open<R: Net<Listener = TcpListener, Stream = TcpStream>>(
+    rt: &R,
+    port: u16,
+) -> io::Result<TcpListener> {
+    let listener = TcpListener::bind(rt, ("0.0.0.0", port))?;
+    let _ = libc::net::listen(listener.as_raw_fd(), BACKLOG);
+    Ok(listener)
 }
 
-impl<R: Net<Listener = TcpListener, Stream = TcpStream>> Listen for TcpListen<R> {
+// Whether an accept may succeed later: descriptors or memory are short.
+fn is_short(error: &io::Error) -> bool {
+    matches!(
+        error.raw_os_error(),
+        Some(libc::EMFILE | ENFILE | libc::ENOMEM)
+    )
+}
+
+// The next stream that comes.
+fn accept_on<R: time::Clock>(rt: &R, listener: &TcpListener) -> io::Result<TcpStream> {
+    for _ in 0..MOST_WAITS {
+        match listener.accept() {
+            Err(error) if is_short(&error) => thread::sleep(rt, Duration::from_secs(1)),
+            Err(error) => return Err(error),
+            Ok((stream, _)) => return Ok(stream),
+        }
+    }
+    let (stream, _) = listener.accept()?;
+    Ok(stream)
+}
+
+fn next_stream<R: time::Clock>(rt: &R, listener: &Option<TcpListener>) -> io::Result<TcpStream> {
+    let Some(listener) = listener else {
+        return Err(io::Error::from(ErrorKind::NotConnected));
+    };
+    let stream = accept_on(rt, listener)?;
+    stream.set_read_timeout(Some(Duration::from_secs(WAIT)))?;
+    stream.set_write_timeout(Some(Duration::from_secs(WRITE_WAIT)))?;
+    Ok(stream)
+}
+
+impl<R: Net<Listener = TcpListener, Stream = TcpStream> + time::Clock> Listen for TcpListen<R> {
     type Link = TcpLink;
 
     ghost pool = { λ _. untold };
@@ -71,7 +117,7 @@ impl<R: Net<Listener = TcpListener, Stream = TcpStream>> Listen for TcpListen<R>
         ensures count { Counts self.old self.new }
         ensures cause { result ≡ false → Rose self.old self.new }
     {
-        match TcpListener::bind(&self.rt, ("0.0.0.0", port)) {
+        match open(&self.rt, port) {
             Ok(listener) => {
                 self.listener = Some(listener);
                 true
@@ -88,8 +134,8 @@ impl<R: Net<Listener = TcpListener, Stream = TcpStream>> Listen for TcpListen<R>
         ensures count { Counts self.old self.new }
         ensures cause { result ≡ Failed → Rose self.old self.new }
     {
-        match next_stream(&self.listener) {
-            Ok(stream) => Accepted::Link(TcpLink::new(stream)),
+        match next_stream(&self.rt, &self.listener) {
+            Ok(stream) => Accepted::Link(TcpLink::new(stream, WRITE_WAITS)),
             Err(_) => {
                 self.faults = self.faults.saturating_add(1);
                 Accepted::Failed

@@ -11,6 +11,9 @@ use jt_value::{Octets, Seq};
 use sqlite::{Alter, Transaction, params};
 use std::alloc::Global;
 
+// How far the greatest key of as many rows as a phone may have is above the least one, at least.
+const KEYS: i64 = ROW_LIMIT as i64 - 1;
+
 // Every number of a row is below this one, 2^47.
 const NUMBERS: u64 = 140_737_488_355_328;
 
@@ -22,6 +25,12 @@ const FIRST_NUMBERS: u64 = 65_536;
 const LAST: &str = "SELECT number FROM rows808 WHERE phone = ?1 ORDER BY number DESC LIMIT 1";
 
 const COUNT: &str = "SELECT COUNT(*) FROM rows808 WHERE phone = ?1";
+
+// The keys that the database itself gives the rows of all phones. They differ, so there are no more rows than keys from the
+// least to the greatest.
+const LEAST_KEY: &str = "SELECT rowid FROM rows808 ORDER BY rowid LIMIT 1";
+
+const GREATEST_KEY: &str = "SELECT rowid FROM rows808 ORDER BY rowid DESC LIMIT 1";
 
 const AT: &str = "SELECT number, id, body FROM rows808 WHERE phone = ?1 AND number = ?2";
 
@@ -123,8 +132,9 @@ pub(crate) fn all<S: Alter>(
 ) -> Result<Seq<Row>, Refused> {
     let found = work.query_all(ALL, params![phone])?;
     let mut rows = Seq::new(alloc);
-    for row in &found {
-        rows.push(row_in(row)?)?;
+    // Each row of the database goes as its own row is made, so that all are held once.
+    for row in found {
+        rows.push(row_in(&row)?)?;
     }
     Ok(rows)
 }
@@ -149,8 +159,23 @@ pub(crate) fn add<S: Alter>(
     Ok(())
 }
 
+// The key that is found, or 0 where there is no row.
+fn key<S: Alter>(work: &mut Transaction<'_, S>, sql: &str) -> Result<i64, Refused> {
+    match found(work.query_row(sql, &[]))? {
+        Some(row) => Ok(row.get(0)?),
+        None => Ok(0),
+    }
+}
+
+// Whether the file may have as many rows as a phone may have.
+fn may_be_full<S: Alter>(work: &mut Transaction<'_, S>) -> Result<bool, Refused> {
+    let least = key(work, LEAST_KEY)?;
+    let greatest = key(work, GREATEST_KEY)?;
+    Ok(greatest.saturating_sub(least) >= KEYS)
+}
+
 // Whether a phone has as many rows as it may have. The numbers of its rows differ, so they are counted only once the last
-// one is so great that there may be as many.
+// one is so great that there may be as many, and only in a file that may have as many.
 fn is_full<S: Alter>(
     work: &mut Transaction<'_, S>,
     phone: &[u8],
@@ -158,6 +183,9 @@ fn is_full<S: Alter>(
 ) -> Result<bool, Refused> {
     match last {
         Some(last) if last >= ROW_LIMIT - 1 => {
+            if !may_be_full(work)? {
+                return Ok(false);
+            }
             let count: u64 = work.query_row(COUNT, params![phone])?.get(0)?;
             Ok(count >= ROW_LIMIT)
         }

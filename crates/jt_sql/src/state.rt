@@ -4,7 +4,7 @@ use crate::refused::Refused;
 use jt_value::Octets;
 use sqlite::{Alter, Row, Transaction, params};
 
-const READ: &str = "SELECT units_accepted, fixes_accepted, mark, next, code FROM state";
+const READ: &str = "SELECT units_accepted, fixes_accepted, mark, next, code FROM state LIMIT 2";
 
 const SET_NEXT: &str = "UPDATE state SET next = ?1";
 
@@ -44,14 +44,22 @@ fn code_in(row: &Row) -> Result<Option<Octets>, Refused> {
     }
 }
 
-/// The state.
+/// The state. A table with no state, or with two, is refused.
 pub(crate) fn read<S: Alter>(work: &mut Transaction<'_, S>) -> Result<State, Refused> {
-    let row = work.query_row(READ, &[])?;
+    let rows = work.query_all(READ, &[])?;
+    match rows.as_slice() {
+        [row] => state_in(row),
+        _ => Err(Refused::Failed),
+    }
+}
+
+// The state in the five columns.
+fn state_in(row: &Row) -> Result<State, Refused> {
     let units_accepted = row.get(0)?;
     let fixes_accepted = row.get(1)?;
-    let mark = serial_in(&row, 2)?;
-    let next = serial_in(&row, 3)?;
-    let code = code_in(&row)?;
+    let mark = serial_in(row, 2)?;
+    let next = serial_in(row, 3)?;
+    let code = code_in(row)?;
     Ok(State {
         units_accepted,
         fixes_accepted,
@@ -61,10 +69,18 @@ pub(crate) fn read<S: Alter>(work: &mut Transaction<'_, S>) -> Result<State, Ref
     })
 }
 
+// Whether a change was one of the only row. A change of no row, or of two, is refused, and so undone.
+fn changed_one(rows: usize) -> Result<(), Refused> {
+    if rows == 1 {
+        Ok(())
+    } else {
+        Err(Refused::Failed)
+    }
+}
+
 /// Sets the serial of the next unit.
 pub(crate) fn set_next<S: Alter>(work: &mut Transaction<'_, S>, next: u16) -> Result<(), Refused> {
-    work.execute(SET_NEXT, params![i64::from(next)])?;
-    Ok(())
+    changed_one(work.execute(SET_NEXT, params![i64::from(next)])?)
 }
 
 /// Sets how many units and fixes are accepted, and the serial of the last unit that is.
@@ -74,8 +90,7 @@ pub(crate) fn set_accepted<S: Alter>(
     fixes: i64,
     mark: u16,
 ) -> Result<(), Refused> {
-    work.execute(SET_ACCEPTED, params![units, fixes, i64::from(mark)])?;
-    Ok(())
+    changed_one(work.execute(SET_ACCEPTED, params![units, fixes, i64::from(mark)])?)
 }
 
 /// Sets the platform's code, or removes it.
@@ -83,6 +98,5 @@ pub(crate) fn set_code<S: Alter>(
     work: &mut Transaction<'_, S>,
     code: Option<&[u8]>,
 ) -> Result<(), Refused> {
-    work.execute(SET_CODE, params![code])?;
-    Ok(())
+    changed_one(work.execute(SET_CODE, params![code])?)
 }

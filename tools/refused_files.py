@@ -1,0 +1,195 @@
+#!/usr/bin/env python3
+"""Tries the program over files that it has to refuse, and over what no test of one process can try.
+
+    tools/refused_files.py [--program jt808]
+
+For each case: `report` with one fix in a folder whose `terminal.db` is that case, and `platform` in one whose `platform.db` is,
+with a terminal that registers. Both have to end with `store fault` and status 5, and the file has to be as it was, octet for
+octet. Two processes: of two `report`, and of two `platform`, in one folder the second is refused, and the first goes on. A full
+disk (a small tmpfs, for which it needs the leave to mount): `store fault`, the file is sound for sqlite3 and has what was
+accepted, and once there is room the next run goes on. It prints a line for each case; the status is 1 where one is wrong.
+"""
+import argparse
+import contextlib
+import os
+import socket
+import sqlite3
+import subprocess
+import sys
+import tempfile
+import time
+
+import kill_loop
+
+FIX = kill_loop.fix(0, 1).hex() + "\n"
+FAULT = (5, "store fault")
+
+
+def words_of_report(port):
+    named = ["--phone", kill_loop.PHONES["2013"], "--plate", kill_loop.PLATE, "--terminal", kill_loop.TERMINAL]
+    return ["report", "--host", "127.0.0.1", "--port", str(port), *named, "--tries", "1"]
+
+
+def ended(ran):
+    """The status and the last line of what a process printed."""
+    told = ran.communicate(timeout=60)[0].splitlines()
+    return ran.returncode, told[-1] if told else ""
+
+
+class Programs:
+    """The program, started in folders. All of it is killed at the end."""
+
+    def __init__(self, program):
+        self.program, self.started = program, []
+
+    def start(self, folder, words, given):
+        pipes = {"stdin": subprocess.PIPE, "stdout": subprocess.PIPE, "text": True}
+        ran = subprocess.Popen([self.program, *words], cwd=folder, **pipes)
+        # A program that is refused its file reads no further.
+        with contextlib.suppress(BrokenPipeError):
+            ran.stdin.write(given)
+        with contextlib.suppress(BrokenPipeError):
+            ran.stdin.close()
+        ran.stdin = None
+        self.started.append(ran)
+        return ran
+
+    def report(self, folder, port, given=FIX):
+        return self.start(folder, words_of_report(port), given)
+
+    def platform(self, folder, sessions=1):
+        """A platform that listens, and its port."""
+        port = kill_loop.free_port()
+        ran = self.start(folder, ["platform", "--port", str(port), "--sessions", str(sessions)], kill_loop.FLEET)
+        while ran.poll() is None and not kill_loop.listens(port):
+            time.sleep(0.005)
+        return ran, port
+
+    def end(self):
+        for it in self.started:
+            with contextlib.suppress(ProcessLookupError):
+                it.kill()
+            it.wait()
+
+
+def make_text(path):
+    with open(path, "w") as file:
+        file.write("a text that is no database\n" * 500)
+
+
+def make_database(path, *texts):
+    with contextlib.closing(sqlite3.connect(path)) as base:
+        for it in texts:
+            base.executescript(it)
+
+
+def make_cut(path):
+    make_database(path, "CREATE TABLE other (a); INSERT INTO other VALUES (randomblob(20000))")
+    with open(path, "r+b") as file:
+        file.truncate(os.path.getsize(path) - 5000)
+
+
+META = "CREATE TABLE meta (version INTEGER);"
+FILES = {
+    "a folder": os.mkdir,
+    "a text": make_text,
+    "another program's database": lambda path: make_database(path, "CREATE TABLE other (a)"),
+    "a cut file": make_cut,
+    "a newer version": lambda path: make_database(path, META, "INSERT INTO meta VALUES (3)"),
+    "no version": lambda path: make_database(path, META),
+    "two versions": lambda path: make_database(path, META, "INSERT INTO meta VALUES (1), (1)"),
+}
+
+
+def held(path):
+    if os.path.isdir(path):
+        return sorted(os.listdir(path))
+    with open(path, "rb") as file:
+        return file.read()
+
+
+def over_terminal(programs, folder, make):
+    make(f"{folder}/terminal.db")
+    before = held(f"{folder}/terminal.db")
+    found = ended(programs.report(folder, 1))
+    return found, before == held(f"{folder}/terminal.db")
+
+
+def over_platform(programs, folder, make):
+    make(f"{folder}/platform.db")
+    before = held(f"{folder}/platform.db")
+    os.mkdir(f"{folder}/elsewhere")
+    platform, port = programs.platform(folder)
+    ended(programs.report(f"{folder}/elsewhere", port))
+    return ended(platform), before == held(f"{folder}/platform.db")
+
+
+def two_reports(programs, folder, _):
+    """The first one waits for a platform that never answers."""
+    with socket.create_server(("127.0.0.1", 0)) as server:
+        first = programs.report(folder, server.getsockname()[1])
+        link, _ = server.accept()
+        found = ended(programs.report(folder, 1))
+        link.close()
+        return found, ended(first) == (7, "accepted=0 of 1")
+
+
+def two_platforms(programs, folder, _):
+    for it in ("first", "second"):
+        os.mkdir(f"{folder}/{it}")
+    one, port = programs.platform(folder, 2)
+    is_first_served = ended(programs.report(f"{folder}/first", port)) == (0, "accepted=1 of 1")
+    two, other = programs.platform(folder)
+    ended(programs.report(f"{folder}/second", other))
+    found = ended(two)
+    # (The second terminal has the first one's phone, so its unit is a new one of the same list.)
+    is_served_again = ended(programs.report(f"{folder}/second", port))[0] == 0
+    return found, is_first_served and is_served_again and ended(one)[0] == 0
+
+
+def full_disk(programs, folder, _):
+    """Fixes until the disk is full; then room, and all that was recorded is reported."""
+    subprocess.run(["mount", "-t", "tmpfs", "-o", "size=600k", "none", folder], check=True)
+    try:
+        found = ended(programs.report(folder, 1, FIX * 20000))
+        with tempfile.TemporaryDirectory() as copy:
+            kill_loop.copied(f"{folder}/terminal.db", f"{copy}/a.db")
+            with contextlib.closing(sqlite3.connect(f"{copy}/a.db")) as base:
+                recorded = base.execute("SELECT COUNT(*) FROM fix").fetchone()[0]
+                is_sound = base.execute("PRAGMA integrity_check").fetchall() == [("ok",)]
+        subprocess.run(["mount", "-o", "remount,size=20m", folder], check=True)
+        again = ended(programs.report(folder, 1, ""))
+        return found, is_sound and recorded > 0 and again == (7, f"accepted=0 of {recorded}")
+    finally:
+        subprocess.run(["umount", "-l", folder], check=True)
+
+
+def cases():
+    for name, make in FILES.items():
+        yield f"report over {name}", over_terminal, make
+        yield f"platform over {name}", over_platform, make
+    yield "two reports", two_reports, None
+    yield "two platforms", two_platforms, None
+    if os.geteuid() == 0:
+        yield "a full disk", full_disk, None
+
+
+def main():
+    asked = argparse.ArgumentParser(description="Tries the program over files that it has to refuse.")
+    root = os.path.dirname(os.path.dirname(os.path.realpath(__file__)))
+    asked.add_argument("--program", default=f"{root}/jt808")
+    programs, wrong = Programs(os.path.realpath(asked.parse_args().program)), 0
+    for name, case, make in cases():
+        with tempfile.TemporaryDirectory(prefix="refused-files-") as folder:
+            try:
+                found, stays = case(programs, folder, make)
+            finally:
+                programs.end()
+        is_right = found == FAULT and stays
+        wrong += not is_right
+        print(f"{name}: {'right' if is_right else 'WRONG'}, status {found[0]}, {found[1]!r}, {'as it was' if stays else 'NOT AS IT WAS'}")
+    return 1 if wrong else 0
+
+
+if __name__ == "__main__":
+    sys.exit(main())

@@ -1,0 +1,86 @@
+#!/usr/bin/env python3
+"""Tries wrong bodies of the stores in files that no clause can refuse, since no contract says what their tables hold: a test of
+sql_tests has to fail at each.
+
+    tools/wrong_stores.py [NAME..]
+
+It copies the crates that the tests stand on into a temporary folder, changes one line of jt_sql, and runs `rt try --test` in
+sql_tests there (some minutes each). First it runs the tests as they are, which have to pass. The status is 0 only where each
+wrong body fails a test.
+"""
+import os
+import re
+import shutil
+import subprocess
+import sys
+import tempfile
+
+ROOT = os.path.dirname(os.path.dirname(os.path.realpath(__file__)))
+CRATES = ("jt_value", "jt_layout", "jt_position", "jt_store", "jt_sql", "sql_tests")
+# The file of jt_sql, what stands there once, and what is put in its place.
+WRONG = {
+    "two rows in place of one": (
+        "rows.rt",
+        "    add(work, phone, row)?;\n    Ok(Adding::Done)",
+        "    add(work, phone, row)?;\n    work.execute(ADD, params![phone, i64::MAX, 0i64, row.body.as_slice()])?;\n    Ok(Adding::Done)",
+    ),
+    "an append that answers before its commit": (
+        "keeping.rt",
+        "    let adding = rows::append(&mut work, phone.digits.as_slice(), row)?;\n    work.commit()?;",
+        "    let adding = rows::append(&mut work, phone.digits.as_slice(), row)?;",
+    ),
+    "a fix that is answered before its commit": (
+        "vaulting.rt",
+        "    let adding = note_within(&mut work, fix)?;\n    work.commit()?;",
+        "    let adding = note_within(&mut work, fix)?;",
+    ),
+    "an acceptance that leaves the mark": (
+        "vaulting.rt",
+        "    state::set_accepted(work, units, fixes, unit.serial)",
+        "    state::set_accepted(work, units, fixes, state.mark)",
+    ),
+}
+
+
+def copied(to):
+    """Copies the crates without what checks kept."""
+    with open(f"{ROOT}/crates.txt") as file:
+        lines = [line for line in file if line.partition(":")[0] in CRATES]
+    with open(f"{to}/crates.txt", "w") as file:
+        file.writelines(lines)
+    for it in CRATES:
+        shutil.copytree(f"{ROOT}/crates/{it}", f"{to}/crates/{it}", ignore=shutil.ignore_patterns("out"))
+    shutil.copyfile(f"{ROOT}/HANDLES", f"{to}/HANDLES")
+
+
+def tried(root):
+    """Which tests failed, and whether all ran."""
+    words = ["rt", "try", "--test", "--seconds", "600"]
+    ran = subprocess.run(words, cwd=f"{root}/crates/sql_tests", stdin=subprocess.DEVNULL, capture_output=True, text=True)
+    told = ran.stdout + ran.stderr
+    return re.findall(r"test (\S+) \.\.\. FAILED", told), "test result:" in told
+
+
+def main():
+    wrong, names = 0, sys.argv[1:] or ["as it is", *WRONG]
+    for name in names:
+        with tempfile.TemporaryDirectory(prefix="wrong-stores-") as root:
+            copied(root)
+            if name in WRONG:
+                file, old, new = WRONG[name]
+                path = f"{root}/crates/jt_sql/src/{file}"
+                with open(path) as source:
+                    text = source.read()
+                if text.count(old) != 1:
+                    sys.exit(f"wrong_stores: {name} no longer fits {file}")
+                with open(path, "w") as source:
+                    source.write(text.replace(old, new))
+            failed, ran = tried(root)
+        is_right = ran and bool(failed) == (name in WRONG)
+        wrong += not is_right
+        print(f"{name}: {'right' if is_right else 'WRONG'}, {', '.join(failed) or 'no test'} failed", flush=True)
+    return 1 if wrong else 0
+
+
+if __name__ == "__main__":
+    sys.exit(main())
