@@ -2,7 +2,7 @@
 use Rattle.std.proofs.Common.{◌≡◌, ◌≢◌, ◌≤◌, ◌+◌, ◌⊎◌, inl, inr, ℕ, Bool, true, false, if◌then◌else◌, List, [], ◌∷◌, length, Option, Some, None, refl, sym, subst, ◌∙◌, arith}
 use Rattle.jt_value.specs.Counts.{Rose, RoseBy}
 use Rattle.jt_outside.specs.Pool.{Pool}
-use Rattle.jt_input.specs.Answer.{IsFault}
+use Rattle.jt_input.specs.Answer.{CutsShort, IsFault}
 use Rattle.jt_input.specs.declared.status.Status.{Status}
 use Rattle.jt_input.specs.declared.status.Status.TheVariants as status
 use Rattle.jt_server.specs.Served.{EndsAs, store_faults, one_fault}
@@ -12,6 +12,12 @@ use Rattle.jt_session.specs.declared.end.End.{End}
 use Rattle.jt_session.specs.declared.end.End.TheVariants as ends
 use Rattle.jt_session.specs.declared.report.Report.{Report}
 use Rattle.jt_platform_command.specs.Platform.{some_end, is_store_fault, first_limit, last_reply, store_reply}
+
+-- a text that is cut short has a status of a fault
+pub cut_fault : (s t : Status) → (s ≡ t) ⊎ CutsShort s → (s ≡ t) ⊎ IsFault s
+cut_fault s t (inl e) = inl e
+cut_fault s t (inr (inl e)) = inr (subst IsFault (sym e) tt)
+cut_fault s t (inr (inr e)) = inr (subst IsFault (sym e) tt)
 
 -- the status of a run with sessions
 abbrev pub status_of : Bool → Status → Status

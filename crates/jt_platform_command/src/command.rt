@@ -10,7 +10,7 @@ ghost use Rattle.jt_platform.specs.Hub.{opening_of};
 ghost use Rattle.jt_platform_command.specs.Running.{RunsPlatform, scene_of};
 ghost use Rattle.jt_platform_command.specs.Opening.{Opens};
 
-use crate::telling::tell_served;
+use crate::telling::{answer_bad_line, tell_served};
 use crate::{FleetRead, read_fleet};
 use jt_input::{EarlyEnd, Status, answer_early_end};
 use jt_outside::{Listen, Sink, Source};
@@ -137,7 +137,6 @@ where
 /// writes a line for each session, the line of the totals, and the last one, if there is one.
 ///
 /// A bad line of the source is told before anything is listened to. It may wait for peers, and its promises hold where it returns.
-#[tactic(auto, unfolding(crate::specs::Platform::platform_text))]
 pub fn platform<R: Threads + Wait + Sync, S: Source, K: Sink, L: Listen, P: Keeper + Send + Drop>(
     rt: &R,
     alloc: Global,
@@ -174,7 +173,7 @@ where
     let (secret, fleet) = match read_fleet(alloc, source) {
         FleetRead::Fleet(secret, fleet) => (secret, fleet),
         FleetRead::Bad(number) => {
-            let status = answer_early_end(alloc, sink, EarlyEnd::BadLine(number));
+            let status = answer_bad_line(alloc, sink, number);
             return without_links(alloc, status, keeper);
         }
         FleetRead::Failed => return without_links(alloc, Status::ReadFault, keeper),

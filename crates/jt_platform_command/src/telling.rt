@@ -4,16 +4,28 @@ ghost use Rattle.std.specs.Prelude.{◌≡◌, ◌≢◌, ◌⊎◌, ◌++◌, s
 ghost use Rattle.jt_value.specs.Counts.{Rose};
 ghost use Rattle.jt_input.specs.Answer.{AnswersReply, IsFault};
 ghost use Rattle.jt_input.specs.declared.status.Status.TheVariants.{Memory};
-ghost use Rattle.jt_platform_command.specs.Platform.{Served, is_memory, last_reply, platform_text, some_end};
+ghost use Rattle.jt_platform_command.specs.Platform.{BadLine, Served, is_memory, last_reply, platform_text, some_end};
 ghost use Rattle.jt_platform_command.specs.Running.{EndsOf};
 
 use crate::printing::{push_entries_line, push_last_line, push_session_lines, served_status};
-use jt_input::{Status, write_reply};
+use jt_input::{EarlyEnd, Status, answer_early_end, write_reply};
 use jt_outside::Sink;
 use jt_platform::Entry;
 use jt_server::ServeEnd;
 use jt_session::Report;
 use std::alloc::{AllocError, Global};
+
+/// The line of the source of this number is bad: what is written of it.
+#[tactic(auto, unfolding(crate::specs::Platform::platform_text))]
+pub(crate) fn answer_bad_line<K: Sink>(alloc: Global, sink: &mut K, number: u64) -> Status
+    ensures answers { AnswersReply result (platform_text (BadLine number))
+        (K.written sink.old) (K.written sink.new) }
+    ensures status { (result ≡ Status.Refused) ⊎ IsFault result }
+    ensures write_fault { result ≡ Status.WriteFault → Rose (K.faults sink.old) (K.faults sink.new) }
+    ensures no_read_fault { result ≢ Status.ReadFault }
+{
+    answer_early_end(alloc, sink, EarlyEnd::BadLine(number))
+}
 
 #[tactic(auto, using(std::proofs::Common::append_assoc), unfolding(crate::specs::Platform::platform_text))]
 fn push_served(
