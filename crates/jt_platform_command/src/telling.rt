@@ -21,7 +21,8 @@ pub(crate) fn answer_bad_line<K: Sink>(alloc: Global, sink: &mut K, number: u64)
     ensures answers { AnswersReply result (platform_text (BadLine number))
         (K.written sink.old) (K.written sink.new) }
     ensures status { (result ≡ Status.Refused) ⊎ IsFault result }
-    ensures write_fault { result ≡ Status.WriteFault → Rose (K.faults sink.old) (K.faults sink.new) }
+    ensures write_fault { result ≡ Status.WriteFault →
+        Rose (K.faults sink.old) (K.faults sink.new) }
     ensures no_read_fault { result ≢ Status.ReadFault }
 {
     answer_early_end(alloc, sink, EarlyEnd::BadLine(number))
