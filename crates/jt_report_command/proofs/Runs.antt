@@ -18,7 +18,7 @@ use Rattle.jt_report_command.specs.Noting.{Noting, held_with, noting}
 use Rattle.jt_report_command.specs.Reading.{NotesFixes}
 use Rattle.jt_report_command.specs.declared.noting.FixesError.{FixesError}
 use Rattle.jt_report_command.specs.declared.noting.FixesError.TheVariants as error
-use Rattle.jt_input.specs.Answer.{AnswersReply, HoldsOf}
+use Rattle.jt_input.specs.Answer.{AnswersReply, CutsShort, HoldsOf}
 use Rattle.jt_input.specs.declared.status.Status.{Status}
 use Rattle.jt_input.specs.declared.status.Status.TheVariants as status
 use Rattle.jt_report_command.specs.Came.{Came, BadLine, BeyondLimits, VaultFull, VaultFailed, Undialled, Reported, report_text}

@@ -4,14 +4,14 @@ use Rattle.jt_report_command.proofs.Runs.{from_start, runs_none, runs_refused, w
 use Rattle.jt_report_command.proofs.Words.{spoken_phone, spoken_plate, spoken_terminal}
 use Rattle.jt_report_command.proofs.command.report.Goals as goal
 
-pub settings-requires-clause-phone : goal.settings-requires-clause-phone
-settings-requires-clause-phone g c = spoken_phone (values_in_words c.args.words) c.requires.words (search rules)
+pub settings_for-requires-clause-phone : goal.settings_for-requires-clause-phone
+settings_for-requires-clause-phone g c = spoken_phone (values_in_words c.args.words) c.requires.words (search rules)
 
-pub settings-requires-clause-plate : goal.settings-requires-clause-plate
-settings-requires-clause-plate g c = spoken_plate (values_in_words c.args.words) c.requires.words
+pub settings_for-requires-clause-plate : goal.settings_for-requires-clause-plate
+settings_for-requires-clause-plate g c = spoken_plate (values_in_words c.args.words) c.requires.words
 
-pub settings-requires-clause-terminal : goal.settings-requires-clause-terminal
-settings-requires-clause-terminal g c = spoken_terminal (values_in_words c.args.words) c.requires.words
+pub settings_for-requires-clause-terminal : goal.settings_for-requires-clause-terminal
+settings_for-requires-clause-terminal g c = spoken_terminal (values_in_words c.args.words) c.requires.words
 
 pub returns-in-Err-clause-runs : goal.returns-in-Err-clause-runs
 returns-in-Err-clause-runs g c = runs_none _ _ _ _ _
