@@ -46,6 +46,7 @@ impl<K: Link, P: Keeper> Promise<Work<K, P>> for Given<K, P> {
 /// A thread that serves a link, or what the caller itself did in its place.
 pub(crate) type Job<K, P> = Result<PromisedHandle<Work<K, P>, Given<K, P>>, Work<K, P>>;
 
+/// Serves a link, and hangs up before the thread ends: what the peer sends behind a session's end is read by nobody.
 pub(crate) fn serve_one<R: Wait, K: Link, P: Keeper>(
     rt: &R,
     alloc: Global,
@@ -63,5 +64,6 @@ pub(crate) fn serve_one<R: Wait, K: Link, P: Keeper>(
     ensures same { IsSamePass pass result.pass }
 {
     let (report, pass) = serve_link(rt, alloc, &mut link, turn, pass);
+    link.hang_up();
     Work { link, pass, report }
 }

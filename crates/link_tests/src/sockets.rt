@@ -1,17 +1,34 @@
+ghost use Rattle.std.specs.Prelude.{◌≤◌, IfSome};
+
 use jt_outside::{
-    Accepted, Clock, Dial, Link, LinkGot, Listen, StdClock, TcpDial, TcpListen, write_all,
+    Accepted, Clock, Dial, Link, LinkGot, Listen, Put, Sink, StdClock, TcpDial, TcpListen,
+    write_all,
 };
 use std::test::Fail;
 use std::thread;
+use std::time::Duration;
 
-// Below those that the system gives to connections, so that none of an earlier program still has it.
-const PORT: u16 = 18_808;
+// Below those that the system gives to connections, so that none of an earlier program still has one; several, so that two runs at
+// one time on one machine do not meet.
+const FIRST_PORT: u16 = 18_808;
+
+const LAST_PORT: u16 = 18_907;
+
+// Begins to listen at the first port that is free.
+fn start<L: Listen>(listen: &mut L) -> Option<u16> {
+    for port in FIRST_PORT..=LAST_PORT {
+        if listen.start(port) {
+            return Some(port);
+        }
+    }
+    None
+}
 
 // Both ends in one process: the listener's end in a thread echoes one octet.
 #[test]
 fn both_ends(rt: HostRuntime) -> Result<(), Fail> {
     let mut listen = TcpListen::new(rt.clone()?);
-    assert!(rt; listen.start(PORT));
+    let port = start(&mut listen).expect(&rt, "a port is free");
     let child = thread::spawn(&rt, move || {
         let mut echoed = false;
         if let Accepted::Link(mut link) = listen.accept() {
@@ -26,7 +43,7 @@ fn both_ends(rt: HostRuntime) -> Result<(), Fail> {
     let mut got = 0;
     let mut quiet = false;
     let mut end = false;
-    if let Some(mut link) = dial.dial("127.0.0.1", PORT) {
+    if let Some(mut link) = dial.dial("127.0.0.1", port) {
         let mut buf = [0u8; 8];
         quiet = link.read(&mut buf) == LinkGot::Quiet;
         if write_all(&mut link, b"ab") {
@@ -42,14 +59,56 @@ fn both_ends(rt: HostRuntime) -> Result<(), Fail> {
     assert!(rt; quiet);
     assert!(rt; end);
     assert_eq!(rt; got, 2);
-    assert!(rt; dial.dial("127.0.0.1", 9).is_none());
     Ok(())
 }
 
+// The listener's end hangs up and is kept: the other end sees the end of what was sent, and the link itself fails from then on.
+#[test]
+fn a_link_that_hung_up(rt: HostRuntime) -> Result<(), Fail> {
+    let mut listen = TcpListen::new(rt.clone()?);
+    let port = start(&mut listen).expect(&rt, "a port is free");
+    let mut dial = TcpDial::new(rt.clone()?);
+    let dialled = dial.dial("127.0.0.1", port);
+    let accepted = listen.accept();
+    let mut buf = [0u8; 8];
+    let mut end = LinkGot::Quiet;
+    let mut read = LinkGot::Quiet;
+    let mut put = Put::Count(0);
+    if let (Some(mut near), Accepted::Link(mut far)) = (dialled, accepted) {
+        far.hang_up();
+        end = near.read(&mut buf);
+        read = far.read(&mut buf);
+        put = far.write(b"a");
+        dial.back(near);
+        listen.back(far);
+    }
+    assert_eq!(rt; end, LinkGot::End);
+    assert_eq!(rt; read, LinkGot::Failed);
+    assert_eq!(rt; put, Put::Failed);
+    Ok(())
+}
+
+// Nobody listens there. Two dials begin at least a second apart.
+#[test]
+fn a_refused_dial(rt: HostRuntime) -> Result<(), Fail> {
+    let mut clock = StdClock::new(rt.clone()?);
+    let mut dial = TcpDial::new(rt.clone()?);
+    let first = clock.now();
+    assert!(rt; dial.dial("127.0.0.1", 9).is_none());
+    assert!(rt; dial.dial("127.0.0.1", 9).is_none());
+    let second = clock.now();
+    assert!(rt; second.saturating_sub(first) >= 1_000);
+    Ok(())
+}
+
+// The clock tells milliseconds: neither seconds nor microseconds.
 #[test]
 fn a_clock_goes_on(rt: HostRuntime) -> Result<(), Fail> {
     let mut clock = StdClock::new(rt.clone()?);
     let first = clock.now();
-    assert!(rt; first <= clock.now());
+    thread::sleep(&rt, Duration::from_millis(100));
+    let passed = clock.now().saturating_sub(first);
+    assert!(rt; passed >= 100);
+    assert!(rt; passed < 50_000);
     Ok(())
 }

@@ -6,6 +6,8 @@ mod beginning;
 #[cfg(test)]
 mod ends;
 #[cfg(test)]
+mod faults;
+#[cfg(test)]
 mod rows;
 #[cfg(test)]
 mod running;

@@ -4,8 +4,8 @@ ghost use Rattle.std.specs.Prelude.{◌≡◌, ◌≤◌, ◌<◌, ◌+◌, ◌^
 
 use jt_platform::{Entry, Fleet, Hub, Reply, Request, is_closed};
 use jt_session::{Counts, End, Fed, Session};
-use jt_store::MemKeeper;
-use jt_value::{Buffer, Memory, Octets, Phone, Seq};
+use jt_store::{Keeper, MemKeeper};
+use jt_value::{Buffer, Edition, Memory, Octets, Phone, Seq};
 use std::alloc::Global;
 use std::process::Abort;
 
@@ -19,6 +19,14 @@ pub struct Ran {
     pub entries: Buffer<u8>,
     pub body: Buffer<u8>,
     pub counts: Counts,
+}
+
+/// What a session leaves of whose keeper a call failed: what came of it, and what the keeper has of phone 333435363738 then.
+#[derive(Drop)]
+pub struct Left {
+    pub ran: Ran,
+    pub is_registered: bool,
+    pub last: Option<u64>,
 }
 
 /// The most octets that a session is fed here at once.
@@ -340,4 +348,49 @@ pub fn run_closed(rt: &impl Abort, alloc: Global, before: &[u8], stream: &[u8], 
     let ran = run(rt, alloc, 10, &[], before, &[], stream, cut, true);
     assert!(rt; ran.fed == Fed::On);
     ran
+}
+
+// Whether the phone is registered, and the number of its last row.
+fn kept(
+    rt: &impl Abort,
+    alloc: Global,
+    keeper: &mut MemKeeper,
+    phone: &Phone,
+) -> (bool, Option<u64>) {
+    let registered = keeper
+        .registered(alloc, phone)
+        .expect(rt, "no other call fails");
+    let last = keeper.last(alloc, phone).expect(rt, "no other call fails");
+    (registered.is_some(), last)
+}
+
+/// One session that is fed the stream and closed then, over a hub whose keeper fails the call of this number.
+pub fn run_failing(rt: &impl Abort, alloc: Global, failing: u64, stream: &[u8]) -> Left {
+    assert!(rt; stream.len() <= MOST);
+    let mut hub = hub(rt, alloc, 10, &[failing]);
+    let mut first = Session::new(alloc, 1).expect(rt, "there is memory");
+    let mut second = Session::new(alloc, 2).expect(rt, "there is memory");
+    let ran = play(
+        rt,
+        alloc,
+        &mut hub,
+        &mut first,
+        &mut second,
+        &[],
+        &[],
+        stream,
+        0,
+        true,
+    );
+    let (mut keeper, _) = hub.into_parts();
+    let phone = Phone {
+        edition: Edition::E2013,
+        digits: [0, 0, 0, 0, 0x33, 0x34, 0x35, 0x36, 0x37, 0x38],
+    };
+    let (is_registered, last) = kept(rt, alloc, &mut keeper, &phone);
+    Left {
+        ran,
+        is_registered,
+        last,
+    }
 }
