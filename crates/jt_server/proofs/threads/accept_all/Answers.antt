@@ -22,7 +22,6 @@ loop-accepted-init g c = record {
   pool = lent_none (g.D.Door.pool c.args.door.now);
   name = refl;
   count = counts_none (g.D.Door.faults c.args.door.now);
-  still = λ first. refl;
   jobs = λ m job at. absurd (not_there c.args.jobs.now.items m job c.requires.room.0 at);
 }
 
@@ -82,7 +81,6 @@ loop-accepted-preserved g c =
       pool = lent_more m (g.D.Door.pool c.args.door.now) (g.D.Door.pool c.loop-accepted.door) (g.D.Door.pool c.accept.new.self) inv.pool c.in-Link.ensures.link.1;
       name = c.in-Link.ensures.name ∙ inv.name;
       count = counts_then _ _ _ inv.count c.in-Link.ensures.count;
-      still = λ first. omega (arith, first);
       jobs = all_more _ c.loop-accepted.jobs.items c.push.new.self.items c.start-job.result m c.in-Ok-push.ensures.ok inv.as_many inv.jobs
           (started c.start-job.result (λ x. option_map (λ o. opening_of (g.P.Keeper.tables o.start) (g.P.Keeper.limit o.start) o.fleet o.secret) x) c.args.pass.now.opening c.args.turn.now (g.D.Door.pool c.args.door.now).coming m c.in-Ok.one c.in-Link.link (λ k. wire_of g.D.Link.Sink.inbound g.D.Link.Sink.written g.D.Link.Sink.faults k)
           (λ h. h.promise.pass.value) (λ h. h.promise.link.value) (λ w. w.pass) (λ w. w.link) (λ w. w.report)
@@ -103,7 +101,7 @@ returns-in_default g c =
       name = inv.name;
       count = inv.count;
       few = omega (arith, inv.as_many, inv.within);
-      end = (omega (arith, inv.as_many, c.loop-accepted-test.true), λ first. inv.still (omega (arith, first, inv.as_many)));
+      end = omega (arith, inv.as_many, c.loop-accepted-test.true);
     }
 
 pub returns-in-Over : goal.returns-in-Over
