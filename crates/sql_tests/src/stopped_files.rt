@@ -59,32 +59,6 @@ fn written(alloc: Global, file: &Stopping) -> Option<Stopping> {
     Some(copy)
 }
 
-// A file with all that was written to this one, which fails after so many calls.
-fn limited(alloc: Global, file: &Stopping, calls: u64) -> Option<Stopping> {
-    let mut copy = Memory::new(alloc);
-    if copy.write_at(0, file.inner().bytes()).is_err() || copy.sync().is_err() {
-        return None;
-    }
-    copy.crash();
-    Some(Fuse::new(copy, calls))
-}
-
-/// Opens copies of files, of which the log fails after so many calls and the database after so many. Where that is refused
-/// already, what is left of them.
-pub fn open_again(
-    alloc: Global,
-    files: &Files<Stopping>,
-    log_calls: u64,
-    db_calls: u64,
-) -> Option<Result<Connection<FileStore<Stopping>>, Files<Stopping>>> {
-    let log = limited(alloc, &files.log, log_calls)?;
-    let db = limited(alloc, &files.db, db_calls)?;
-    match Connection::open_files(alloc, Files { log, db }, OPTIONS) {
-        Ok(connection) => Some(Ok(connection)),
-        Err((_, left)) => Some(Err(left.into_files())),
-    }
-}
-
 /// Opens copies of files as they are after the process was killed: what was written stays. They fail no more.
 pub fn open_written(
     alloc: Global,
