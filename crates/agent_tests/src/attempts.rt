@@ -129,18 +129,6 @@ fn a_link_that_never_ends(rt: HostRuntime) -> Result<(), Fail> {
     Ok(())
 }
 
-// One read takes 4,096 octets, all that the attempt may take; a second one would be the third call, which fails.
-#[test]
-fn a_read_takes_a_whole_piece(rt: HostRuntime) -> Result<(), Fail> {
-    let alloc = rt.alloc();
-    let zeros = Octets::from_vec(vec![in alloc; 0u8; 4096]?);
-    let mut calls = Seq::new(alloc);
-    calls.push(3)?;
-    let mut link = ScriptLink::new(alloc, zeros, 65_536, calls)?;
-    assert!(rt; answers_within(alloc, &mut link, 4096, 5, &[], b"spent ", b"R")?);
-    Ok(())
-}
-
 // Of 5,000 octets the first read takes 4,096, so a second one comes, which is the third call and fails.
 #[test]
 fn a_read_takes_at_most_a_piece(rt: HostRuntime) -> Result<(), Fail> {

@@ -87,19 +87,12 @@ where
     ran_over(rt, alloc, words, fleet, dial, listen)
 }
 
-// The one call of this number, which is to fail.
-fn failing(alloc: Global, call: u64) -> Result<Seq<u64>, Memory> {
-    let mut calls = Seq::new(alloc);
-    calls.push(call)?;
-    Ok(calls)
-}
-
-// A listener to which one heartbeat comes. The link's call and the listener's call of these numbers fail, where 0 is none.
-fn heartbeat(alloc: Global, link_fails: u64, listen_fails: u64) -> Result<ScriptListen, Memory> {
+// A listener to which one heartbeat comes.
+fn heartbeat(alloc: Global) -> Result<ScriptListen, Memory> {
     let octets = Octets::from_vec(Vec::from_slice(alloc, HEARTBEAT)?);
     let mut links = Seq::new(alloc);
-    links.push(ScriptLink::new(alloc, octets, 65_536, failing(alloc, link_fails)?)?)?;
-    ScriptListen::new(alloc, links, failing(alloc, listen_fails)?)
+    links.push(ScriptLink::new(alloc, octets, 65_536, Seq::new(alloc))?)?;
+    ScriptListen::new(alloc, links, Seq::new(alloc))
 }
 
 // Whether one link came back, to which this was written.
@@ -117,7 +110,7 @@ fn is_ran<D, L>(ran: &Ran<D, L>, status: Status, printed: &[u8]) -> bool {
 
 #[test]
 fn a_heartbeat_by_words(rt: HostRuntime) -> Result<(), Fail> {
-    let listen = heartbeat(rt.alloc(), 0, 0)?;
+    let listen = heartbeat(rt.alloc())?;
     let words = "platform --port 9000 --sessions 1";
     let ended = ran(&rt, rt.alloc(), words, "secret 3132", listen);
     assert!(rt;
@@ -130,51 +123,6 @@ fn a_heartbeat_by_words(rt: HostRuntime) -> Result<(), Fail> {
     assert!(rt; is_back(ended.outside.listen.links_back(), REFUSED));
     assert!(rt; ended.reports.len() == 1);
     assert!(rt; ended.history.len() == 2);
-    Ok(())
-}
-
-// The number of sessions, of the link's call and of the listener's call that fail, the status, and what is printed.
-#[test]
-fn links_and_listeners_that_fail_by_words(rt: HostRuntime) -> Result<(), Fail> {
-    let rows: &[(&str, u64, u64, Status, &[u8])] = &[
-        // The second read.
-        (
-            "platform --port 9000 --sessions 1",
-            3,
-            0,
-            Status::Done,
-            b"session 1 link-fault read=15 written=20 frames=1 refused=0 dropped=0\nentries=2 stored=0 repeat=0 renumbered=0\n",
-        ),
-        // The write.
-        (
-            "platform --port 9000 --sessions 1",
-            2,
-            0,
-            Status::Done,
-            b"session 1 link-fault read=15 written=0 frames=1 refused=0 dropped=0\nentries=2 stored=0 repeat=0 renumbered=0\n",
-        ),
-        // The second accept.
-        (
-            "platform --port 9000 --sessions 2",
-            0,
-            3,
-            Status::NetFault,
-            b"session 1 ended read=15 written=20 frames=1 refused=0 dropped=0\nentries=2 stored=0 repeat=0 renumbered=0\nlisten fault\n",
-        ),
-        // The start.
-        (
-            "platform --port 9000 --sessions 1",
-            0,
-            1,
-            Status::NetFault,
-            b"listen fault\n",
-        ),
-    ];
-    for &(words, link_fails, listen_fails, status, printed) in rows {
-        let listen = heartbeat(rt.alloc(), link_fails, listen_fails)?;
-        let ended = ran(&rt, rt.alloc(), words, "secret 3132", listen);
-        assert!(rt; is_ran(&ended, status, printed), "{words}");
-    }
     Ok(())
 }
 
@@ -294,10 +242,10 @@ impl Dial for Address {
 #[test]
 fn the_dial_is_told_the_host_and_the_port_of_the_words(rt: HostRuntime) -> Result<(), Fail> {
     let words =
-        "report --port 9000 --host example.org --phone 013912345678 --plate 4a54383038 --terminal 31323334353637 --tries 2";
+        "report --port 65535 --host example.org --phone 013912345678 --plate 4a54383038 --terminal 31323334353637 --tries 2";
     let dial = Address {
         host: "example.org",
-        port: 9000,
+        port: 65_535,
         is_told: true,
         calls: 0,
     };
