@@ -6,7 +6,8 @@ use Rattle.jt_value.specs.declared.phone.Edition.{Edition}
 use Rattle.jt_value.specs.declared.phone.Phone.{Phone}
 use Rattle.jt_report_command.specs.ReportWords.{ReportValues, TellsWords, Written as WrittenAs}
 use Rattle.jt_report_command.specs.Telling.{TellsPlain}
-use Rattle.jt_report_command.specs.Values.{edition_in, phone_in, phone_of, some_of}
+use Rattle.jt_report_command.specs.Values.{edition_in}
+use Rattle.jt_words.specs.PhoneDigits.{phone_in, phone_of, some_of}
 use Rattle.jt_report_command.specs.declared.report_words.Plain.{Plain}
 
 pub some_same : {A : Type 0} (one other : A) → Some one ≡ Some other → one ≡ other

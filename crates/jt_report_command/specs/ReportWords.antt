@@ -4,7 +4,8 @@ use Rattle.std.specs.Fmt.{decimal}
 use Rattle.jt_value.specs.declared.limits.TheConstants.{PORT_LIMIT}
 use Rattle.jt_value.specs.declared.phone.Phone.{Phone}
 use Rattle.jt_report_command.specs.Options.{AreOptions, values_of}
-use Rattle.jt_report_command.specs.Values.{is_host, edition_in, octets_in, phone_in, plate_most, terminal_most}
+use Rattle.jt_report_command.specs.Values.{is_host, edition_in, octets_in, plate_most, terminal_most}
+use Rattle.jt_words.specs.PhoneDigits.{phone_in}
 
 -- the values of the options, as they are written
 pub record Written : Type 0 where

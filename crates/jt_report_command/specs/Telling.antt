@@ -3,7 +3,8 @@ use Rattle.std.specs.Prelude.{◌≡◌, ◌≤◌, Some, string_bytes, option_c
 use Rattle.std.specs.Fmt.{decimal}
 use Rattle.jt_value.specs.declared.limits.TheConstants.{PORT_LIMIT}
 use Rattle.jt_report_command.specs.ReportWords.{ReportValues, Written as WrittenAs}
-use Rattle.jt_report_command.specs.Values.{edition_in, phone_in}
+use Rattle.jt_report_command.specs.Values.{edition_in}
+use Rattle.jt_words.specs.PhoneDigits.{phone_in}
 use Rattle.jt_report_command.specs.declared.report_words.ReportWords.{ReportWords}
 use Rattle.jt_report_command.specs.declared.report_words.Written.{Written}
 use Rattle.jt_report_command.specs.declared.report_words.Plain.{Plain}

@@ -4,11 +4,11 @@ ghost use Rattle.std.specs.Prelude.{◌≡◌, ◌≤◌, IfOk, IsTrue, MatchOpt
 ghost use Rattle.std.specs.Fmt.{decimal};
 ghost use Rattle.std.specs.List.{list_all};
 ghost use Rattle.jt_input.specs.Spelling.{Reads};
-ghost use Rattle.jt_report_command.specs.Values.{is_host as is_host_text, is_host_octet as is_of_host, edition_in, octets_in, phone_in};
+ghost use Rattle.jt_report_command.specs.Values.{is_host as is_host_text, is_host_octet as is_of_host, edition_in, octets_in};
 
-use hex::{FromHex, FromHexError};
+use hex::FromHexError;
 use jt_input::number;
-use jt_value::{Edition, Memory, Octets, Phone, Seq};
+use jt_value::{Edition, Memory, Octets, Seq};
 use std::alloc::Global;
 
 /// The octets of a host's name at most (this project's own).
@@ -89,22 +89,5 @@ pub(crate) fn octets(alloc: Global, text: &[u8], most: usize) -> Result<Option<O
         }
         Err(FromHexError::OutOfMemory) => Err(Memory),
         Err(_) => Ok(None),
-    }
-}
-
-// The phone of this edition that decimal digits write, twelve in 2013 and twenty in 2019.
-#[tactic(auto, unfolding(crate::specs::Values::phone_in))]
-pub(crate) fn phone(edition: Edition, text: &[u8]) -> Option<Phone>
-    ensures { result ≡ phone_in edition text.now }
-{
-    match edition {
-        Edition::E2013 => {
-            let field = <[u8; 6] as FromHex>::from_hex(text).ok()?;
-            Phone::from_octets(edition, &field).ok()
-        }
-        Edition::E2019 => {
-            let field = <[u8; 10] as FromHex>::from_hex(text).ok()?;
-            Phone::from_octets(edition, &field).ok()
-        }
     }
 }

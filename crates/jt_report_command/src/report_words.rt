@@ -7,9 +7,10 @@ ghost use Rattle.jt_report_command.specs.Values.{terminal_most as most_of_termin
 ghost use Rattle.jt_report_command.specs.declared.report_words.Plain.{Plain as PlainValues};
 
 use crate::options::{EDITION, HOST, PHONE, PLATE, PORT, TERMINAL, TRIES, one_value_of, value_of};
-use crate::readers::{edition, host, number_up_to, octets, phone};
+use crate::readers::{edition, host, number_up_to, octets};
 use jt_value::limits::{PLATE_LIMIT, PORT_LIMIT};
 use jt_value::{Edition, Memory, Octets, Phone};
+use jt_words::phone_in;
 use std::alloc::Global;
 
 /// What `report` is told (this project's own words).
@@ -101,7 +102,7 @@ fn plain_values(written: &Written) -> Option<Plain>
 {
     let port = number_up_to(written.port, PORT_LIMIT)?;
     let tries = number_up_to(written.tries, TRIES_MOST)?;
-    let phone = phone(edition(written.edition)?, written.phone)?;
+    let phone = phone_in(edition(written.edition)?, written.phone)?;
     Some(Plain {
         port: u16::try_from(port).ok()?,
         phone,

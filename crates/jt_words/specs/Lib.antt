@@ -1,2 +1,3 @@
 pub mod OptionWords
+pub mod PhoneDigits
 pub mod Platform

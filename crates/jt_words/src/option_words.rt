@@ -58,3 +58,18 @@ pub fn option_pair<'w>(
         None
     }
 }
+
+/// The value of the option of this name, where the words are that option and no more.
+pub fn only_option_value<'w>(words: &'w [String], name: &[u8]) -> Option<&'w [u8]>
+    ensures some { IfSome result (λ value.
+        IsOption name.now value.now (map string_bytes words.now)) }
+    ensures each { (value : List ℕ) → IsOption name.now value (map string_bytes words.now) →
+        MatchOption result ⊥ (λ found. found.now ≡ value) }
+{
+    let (value, count) = option_value(words, name)?;
+    if count == words.len() {
+        Some(value)
+    } else {
+        None
+    }
+}

@@ -1,0 +1,3 @@
+pub mod RelayWords
+pub mod Replies
+pub mod Running
