@@ -7,7 +7,7 @@ use Rattle.jt_report_command.specs.Settings.{settings_of}
 use Rattle.jt_terminal_steps.specs.Running.{IsStarted}
 use Rattle.jt_value.specs.declared.phone.Phone.{Phone}
 use Rattle.jt_input.specs.declared.status.Status.TheVariants as status
-use Rattle.jt_cli.specs.Ask.{Ask, Act, ReportFixes, ServeLinks, Asks, AskOnly, AskNothing, TakesMemory}
+use Rattle.jt_cli.specs.Ask.{Ask, Act, ReportFixes, ServeLinks, PassRowsOn, Asks, AskOnly, AskNothing, TakesMemory}
 use Rattle.jt_cli.specs.Running.{Eyes, Does, Ran, Refuses, Reports}
 use Rattle.jt_cli.specs.Usage.{usage, usage_line}
 use Rattle.jt_cli.specs.declared.outside.Outside.{Outside}
@@ -35,6 +35,7 @@ module _ {S K D L C P V : Type 0} (eyes : Eyes S K D C P V) (Serving : ℕ → O
   by_memory (Act task) old ended takes reports = absurd takes
   by_memory (ReportFixes told) old ended takes reports = reports told
   by_memory (ServeLinks port sessions) old ended takes reports = absurd takes
+  by_memory (PassRowsOn phone) old ended takes reports = absurd takes
 
   -- memory was wanted to read the words, and nothing was done
   given_up : (read : List (List ℕ)) (old : Outside S K D L C P V)

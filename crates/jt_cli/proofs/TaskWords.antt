@@ -1,11 +1,13 @@
--- The words of tasks, of `platform` and of `report`.
+-- The words of tasks, of `platform`, of `relay` and of `report`.
 use Rattle.std.proofs.Common.{◌≡◌, ℕ, Bool, true, false, if◌then◌else◌, List, [], ◌∷◌, map, codes, length, Option, None, refl, sym, ap, subst, ◌∙◌, arith}
 use Rattle.std.specs.Bool.{Decides}
 use Rattle.std.specs.Str.{bytes_eq}
 use Rattle.std.proofs.lemmas.Slice.Eq.{bytes_eq-Decides}
 use Rattle.jt_view.specs.declared.command.Encoding.TheVariants.{Hex}
 use Rattle.jt_words.specs.Platform.{PlatformWords as AreWords}
+use Rattle.jt_relay_command.specs.RelayWords.{AreWords as AreRelayWords}
 use Rattle.jt_report_command.specs.ReportWords.{ReportValues, AreWords as AreReportWords}
+use Rattle.jt_value.specs.declared.phone.Phone.{Phone}
 use Rattle.jt_cli.specs.Words.{task_named, task_of, telling}
 use Rattle.jt_cli.specs.declared.task.Task.{Task}
 
@@ -53,14 +55,29 @@ pub report_alone : (told : ReportValues) (words : List (List ℕ)) → AreReport
 unfolding task_named telling
 report_alone told words are = by_first words are.words_are.options (codes "report") are.words_are.command refl refl
 
-abbrev first_letter : List (List ℕ) → ℕ
-first_letter [] = 0
-first_letter ([] ∷ words) = 0
-first_letter ((letter ∷ letters) ∷ words) = letter
+-- the words of `relay` are those of no task
+pub relay_alone : (phone : Phone) (words : List (List ℕ)) → AreRelayWords phone words → task_of words ≡ None
+unfolding task_named telling
+relay_alone phone words are = by_first words are.option (codes "relay") are.command refl refl
 
-two_commands : (words first second : List (List ℕ)) → words ≡ codes "platform" ∷ first → words ≡ codes "report" ∷ second → ⊥
-two_commands words first second is other = let letters = ap first_letter (sym is ∙ other) in omega (arith, letters)
+-- ---- the first words of the others differ in their lengths
+
+abbrev first_length : List (List ℕ) → ℕ
+first_length [] = 0
+first_length (word ∷ words) = length word
+
+two_commands : (words first second : List (List ℕ)) (one other : List ℕ) → words ≡ one ∷ first → words ≡ other ∷ second → length one ≡ length other
+two_commands words first second one other is that = ap first_length (sym is ∙ that)
 
 -- and not those of `platform`
 pub platform_or_report : (port sessions : ℕ) (told : ReportValues) (words : List (List ℕ)) → AreWords port sessions words → AreReportWords told words → ⊥
-platform_or_report port sessions told words are report = two_commands words are.options report.words_are.options are.command report.words_are.command
+platform_or_report port sessions told words are report =
+    let same = two_commands words are.options report.words_are.options (codes "platform") (codes "report") are.command report.words_are.command in omega (arith, same)
+
+pub platform_or_relay : (port sessions : ℕ) (phone : Phone) (words : List (List ℕ)) → AreWords port sessions words → AreRelayWords phone words → ⊥
+platform_or_relay port sessions phone words are relay =
+    let same = two_commands words are.options relay.option (codes "platform") (codes "relay") are.command relay.command in omega (arith, same)
+
+pub relay_or_report : (phone : Phone) (told : ReportValues) (words : List (List ℕ)) → AreRelayWords phone words → AreReportWords told words → ⊥
+relay_or_report phone told words are report =
+    let same = two_commands words are.option report.words_are.options (codes "relay") (codes "report") are.command report.words_are.command in omega (arith, same)

@@ -2,6 +2,7 @@
 use Rattle.std.specs.Prelude.{◌≡◌, ◌≢◌, ◌⊎◌, ℕ, Bool, List, [], length, Option, None}
 use Rattle.std.specs.Io.KnownBytes.{IsAtEnd}
 use Rattle.jt_value.specs.Counts.{Rose}
+use Rattle.jt_value.specs.declared.phone.Phone.{Phone}
 use Rattle.jt_outside.specs.Pool.{Pool}
 use Rattle.jt_outside.specs.Time.{Time}
 use Rattle.jt_store.specs.Tables.{Tables, WhereKnown}
@@ -10,6 +11,8 @@ use Rattle.jt_platform.specs.History.{newest, tables_after}
 use Rattle.jt_platform_command.specs.Platform.{first_limit}
 use Rattle.jt_platform_command.specs.Running as platform
 use Rattle.jt_platform_command.specs.Running.{RunsPlatform}
+use Rattle.jt_relay_command.specs.Running as relay
+use Rattle.jt_relay_command.specs.Running.{RunsRelay}
 use Rattle.jt_report_command.specs.ReportWords as words
 use Rattle.jt_report_command.specs.Running as report
 use Rattle.jt_report_command.specs.Running.{RunsReport}
@@ -19,7 +22,7 @@ use Rattle.jt_terminal_steps.specs.Running.{IsStarted}
 use Rattle.jt_input.specs.Answer.{AnswersReply}
 use Rattle.jt_input.specs.declared.status.Status.TheVariants.{Done, Unsent, ReadFault, StoreFault, NetFault}
 use Rattle.jt_cli.specs.Acting.{Acts}
-use Rattle.jt_cli.specs.Ask.{Ask, Act, ReportFixes, ServeLinks, Asks}
+use Rattle.jt_cli.specs.Ask.{Ask, Act, ReportFixes, ServeLinks, PassRowsOn, Asks}
 use Rattle.jt_cli.specs.Usage.{usage}
 use Rattle.jt_cli.specs.declared.task.Task.{Task}
 use Rattle.jt_cli.specs.declared.outside.Outside.{Outside}
@@ -148,6 +151,30 @@ module _ {S K D L C P V : Type 0} (eyes : Eyes S K D C P V) where
     pub net_fault : ended.status ≡ NetFault
         → Rose (net_faults old.listen) (net_faults ended.outside.listen)
 
+  -- ---- `relay`: all but the sink, the keeper and the vault comes back as it was handed in; of the
+  -- keeper the tables and the limit are as before
+
+  -- what is seen of the keeper and the vault
+  abbrev pub relay_scene : Outside S K D L C P V → relay.Scene
+  relay_scene o = relay.scene_of (eyes.tables o.keeper) (eyes.row_limit o.keeper)
+      (eyes.keeper_faults o.keeper)
+      (eyes.held o.vault) (eyes.fix_limit o.vault) (eyes.vault_faults o.vault)
+
+  pub record PassesOn (phone : Phone) (old : Outside S K D L C P V) (ended : Ended S K D L C P V)
+      : Type 0 where
+    pub rest : ended.outside ≡ record old {
+      sink = ended.outside.sink;
+      keeper = ended.outside.keeper;
+      vault = ended.outside.vault;
+    }
+    pub no_link : (ended.reports ≡ []) × (ended.history ≡ [])
+    pub runs : RunsRelay phone (relay_scene old) (relay_scene ended.outside)
+        (eyes.written old.sink) (eyes.written ended.outside.sink) ended.status
+    pub vault : VaultKeeps (eyes.vault_faults old.vault) (eyes.vault_faults ended.outside.vault)
+        (eyes.fix_limit old.vault) (eyes.fix_limit ended.outside.vault)
+        (eyes.may_fail old.vault) (eyes.may_fail ended.outside.vault)
+    pub no_net_fault : ended.status ≢ NetFault
+
   -- ---- the table of commands. A run that waits for nobody serves no links, so what words of
   -- `platform` come to is handed in.
 
@@ -156,6 +183,7 @@ module _ {S K D L C P V : Type 0} (eyes : Eyes S K D C P V) where
   Does Serving (Act task) old ended = Streams task old ended
   Does Serving (ReportFixes told) old ended = Reports told old ended
   Does Serving (ServeLinks port sessions) old ended = Serving sessions old ended
+  Does Serving (PassRowsOn phone) old ended = PassesOn phone old ended
 
   -- What the words ask was done. Of any words either something that they ask was done, or they
   -- were answered the usage line.

@@ -6,7 +6,9 @@ use Rattle.jt_view.specs.declared.command.Encoding.TheVariants.{Octets, Hex}
 use Rattle.jt_view.specs.declared.command.Report.TheVariants.{View, Check}
 use Rattle.jt_cli.specs.declared.task.Task.{Task}
 use Rattle.jt_cli.specs.declared.task.Task.TheVariants as tasks
+use Rattle.jt_value.specs.declared.phone.Phone.{Phone}
 use Rattle.jt_words.specs.Platform.{PlatformWords}
+use Rattle.jt_relay_command.specs.RelayWords.{AreWords as AreRelayWords}
 use Rattle.jt_report_command.specs.ReportWords.{ReportValues, AreWords as AreReportWords}
 
 -- ---- the words of tasks, a line each
@@ -44,3 +46,7 @@ AreNoPlatform words = (port sessions : ℕ) → PlatformWords port sessions word
 -- they are no words of `report`
 abbrev pub AreNoReport : List (List ℕ) → Type 0
 AreNoReport words = (told : ReportValues) → AreReportWords told words → ⊥
+
+-- they are no words of `relay`
+abbrev pub AreNoRelay : List (List ℕ) → Type 0
+AreNoRelay words = (phone : Phone) → AreRelayWords phone words → ⊥

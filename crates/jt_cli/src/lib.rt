@@ -6,6 +6,7 @@ mod alone;
 mod asked;
 mod outside;
 mod playing;
+mod relaying;
 mod reporting;
 mod task;
 mod top;

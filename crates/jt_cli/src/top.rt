@@ -9,6 +9,7 @@ ghost use Rattle.jt_cli.specs.Running.{Ran, Serves, eyes_of};
 use crate::acting::{give_up, refuse, run_task};
 use crate::asked::Asked;
 use crate::outside::{Ended, Outside};
+use crate::relaying::run_relay;
 use crate::reporting::run_report;
 use jt_input::Status;
 use jt_outside::{Clock, Dial, Listen, Sink, Source};
@@ -76,7 +77,7 @@ where
 /// Does what the words say, which are those after the program's name.
 ///
 /// The commands are `view` and `check`, each with or without `--hex`, `rehearse`, `platform` with its port and its number of
-/// sessions, and `report` with its options. All other words are answered the usage line, and then nothing is read. Of the source
+/// sessions, `report` with its options, and `relay` with a phone. All other words are answered the usage line, and then nothing is read. Of the source
 /// at most 2^40 octets are viewed or checked, and of a script, of a fleet or of fixes at most 10,000,000 lines of at most 4,096 octets are
 /// heard.
 ///
@@ -115,6 +116,7 @@ where
         Asked::Act(task) => run_task(alloc, task, outside),
         Asked::Report(told) => run_report(alloc, told, outside),
         Asked::Platform(told) => run_platform(rt, alloc, told, outside),
+        Asked::Relay(told) => run_relay(alloc, told, outside),
         Asked::Nothing => refuse(alloc, outside),
         Asked::Unread => give_up(alloc, outside),
     }

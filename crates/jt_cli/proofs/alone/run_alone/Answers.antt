@@ -12,6 +12,9 @@ returns-in-Report-clause-ran g c = did _ _ _ _ _ _ _ (ap (map string_bytes) c.as
 pub returns-in-Platform-clause-ran : goal.returns-in-Platform-clause-ran
 returns-in-Platform-clause-ran g c = did _ _ _ _ _ _ _ (ap (map string_bytes) c.as_slice.ensures.value) c.in-Platform.ensures c.refuse.ensures.does
 
+pub returns-in-Relay-clause-ran : goal.returns-in-Relay-clause-ran
+returns-in-Relay-clause-ran g c = did _ _ _ _ _ _ _ (ap (map string_bytes) c.as_slice.ensures.value) c.in-Relay.ensures c.run_relay.ensures.does
+
 pub returns-in-Nothing-clause-ran : goal.returns-in-Nothing-clause-ran
 returns-in-Nothing-clause-ran g c = refused _ _ _ _ _ _ (ap (map string_bytes) c.as_slice.ensures.value) c.in-Nothing.ensures c.refuse-in-Nothing.ensures.does
 
