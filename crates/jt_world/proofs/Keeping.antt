@@ -18,7 +18,7 @@ use Rattle.jt_world.specs.declared.row.Row.{Row}
 use Rattle.jt_world.specs.declared.acknowledgement.Acknowledgement.{Acknowledgement}
 use Rattle.jt_world.specs.Messages.{serial_of, unit_header, unit_content, unit_frame, answer_header, answer, ack_octets, answer_frame, is_named, is_acceptance}
 use Rattle.jt_world.specs.World.{World, Line, written, with_one_taken, completed_item, carried, fixes_in, empty}
-use Rattle.jt_world.specs.Events.{Event, Record, Form, Send, Up, Down, Accept, MayForm, MaySend, MayCome, after, was_sent, frame_at, is_accepted_by, accepted_by, oldest_by, may_accept, after_response, after_hearing, line_with_sent, line_with_answer, is_above, is_new, rows_with, platform_after, unit_taken, moved_up, moved_down}
+use Rattle.jt_world.specs.Events.{Event, Record, Form, Send, Up, Down, Accept, CarriesNextFix, MaySend, MayCome, after, was_sent, frame_at, is_accepted_by, accepted_by, oldest_by, may_accept, after_response, after_hearing, line_with_sent, line_with_answer, is_above, is_new, rows_with, platform_after, unit_taken, moved_up, moved_down}
 use mathlib.Core.List.{IsPrefix}
 use Rattle.jt_value.specs.Reaching.{MayAll, after_all}
 use Rattle.jt_world.specs.Reaching.{Reached}
@@ -126,7 +126,7 @@ units_push units unit ok good above = record { rise = rise; good = each }
       | inr new ↦ absurd (omega (arith, new.0, get_within (units ++ unit ∷ []) k v later, length_push units unit))
     ]
 
-form_kept : Below → (w : World) (unit : Row) → Inv w → MayForm w unit → Inv (after w (Form unit))
+form_kept : Below → (w : World) (unit : Row) → Inv w → CarriesNextFix w unit → Inv (after w (Form unit))
 form_kept below w unit v may = record {
   units = units_push w.units unit v.units good may.above;
   fixes = v.fixes;

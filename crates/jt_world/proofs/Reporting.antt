@@ -12,7 +12,7 @@ use Rattle.jt_position.specs.Views.{is_position}
 use Rattle.jt_world.specs.declared.row.Row.{Row}
 use Rattle.jt_world.specs.Messages.{unit_frame}
 use Rattle.jt_world.specs.World.{World, Wire, written, fixes_in}
-use Rattle.jt_world.specs.Events.{Record, Form, Send, MayForm, MaySend, after, frame_at, past, past_accepted}
+use Rattle.jt_world.specs.Events.{Record, Form, Send, CarriesNextFix, MaySend, after, frame_at, past, past_accepted}
 use Rattle.jt_world.specs.Reaching.{Leads}
 use Rattle.jt_world.specs.Script.{next_unit, after_fix, after_fixes, waiting}
 use Rattle.jt_world.specs.Holding.{Terminal, Platform, IsNumbered, AllPositions, unit_at, units_from, world_of, frame_of_next, IsFormed}
@@ -122,7 +122,7 @@ past_is t (suc n) enough =
     ap past at ∙ number
 
 may_form : (t : Terminal) (platform : Platform) (up down : Wire) → IsNumbered t.recorded t.formed t.accepted → t.formed < length t.recorded
-    → MayForm (world_of t platform up down) (next_unit (world_of t platform up down) (get_or t.recorded t.formed []))
+    → CarriesNextFix (world_of t platform up down) (next_unit (world_of t platform up down) (get_or t.recorded t.formed []))
 may_form t platform up down ok lt = record {
   above = below 0 (take t.formed t.recorded) (length units) (omega (arith, length_units 0 (take t.formed t.recorded)));
   after_accepted = omega (arith, past_is t t.accepted (ok.accepted_formed, ok.formed_recorded), count, ok.accepted_formed);

@@ -40,7 +40,7 @@ past_accepted units (suc last) = past (slice_get units last)
 
 -- The unit carries the next fix that is in no unit. Its number is above those of all units, from the one after the last
 -- accepted unit's on, and so near that serials tell it from all that are not accepted. Below 65,536 numbers do not wrap.
-pub record MayForm (w : World) (unit : Row) : Type 0 where
+pub record CarriesNextFix (w : World) (unit : Row) : Type 0 where
   pub above : All (λ (older : Row). older.number < unit.number) w.units
   pub after_accepted : past_accepted w.units w.accepted ≤ unit.number
   pub near : unit.number < past_accepted w.units w.accepted + UNIT_WINDOW
@@ -125,7 +125,7 @@ platform_after w (Some (Message header body)) = if is_unit header body then unit
 
 abbrev pub MayCome : World → Event → Type 0
 MayCome w (Record fix) = IsFix fix
-MayCome w (Form unit) = MayForm w unit
+MayCome w (Form unit) = CarriesNextFix w unit
 MayCome w (Send place) = MaySend w place
 MayCome w Up = w.line.up.taken < length w.line.up.octets
 MayCome w Down = w.line.down.taken < length w.line.down.octets
