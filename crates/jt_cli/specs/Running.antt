@@ -173,6 +173,7 @@ module _ {S K D L C P V : Type 0} (eyes : Eyes S K D C P V) where
     pub vault : VaultKeeps (eyes.vault_faults old.vault) (eyes.vault_faults ended.outside.vault)
         (eyes.fix_limit old.vault) (eyes.fix_limit ended.outside.vault)
         (eyes.may_fail old.vault) (eyes.may_fail ended.outside.vault)
+    pub not_read : ended.status ≢ ReadFault
     pub no_net_fault : ended.status ≢ NetFault
 
   -- ---- the table of commands. A run that waits for nobody serves no links, so what words of

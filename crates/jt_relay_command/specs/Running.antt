@@ -1,11 +1,11 @@
 -- What a run of `relay` does. To be believed.
-use Rattle.std.specs.Prelude.{◌≡◌, ◌≤◌, ◌⊎◌, ℕ, List, length, Option, Result, Err, IsErrOf}
+use Rattle.std.specs.Prelude.{◌≡◌, ◌≤◌, ◌⊎◌, ℕ, List, length, Option, Result, Err, IfErr, IsErrOf}
 use Rattle.jt_value.specs.Counts.{Rose}
 use Rattle.jt_value.specs.Sameness.{key_of}
 use Rattle.jt_value.specs.declared.phone.Phone.{Phone}
 use Rattle.jt_store.specs.Tables.{Tables, WhereKnown}
 use Rattle.jt_store.specs.Vaults.{Held}
-use Rattle.jt_relay.specs.Relays.{Relays, placed_fixes}
+use Rattle.jt_relay.specs.Relays.{Grows, Relays, TellsLimit, placed_fixes}
 use Rattle.jt_relay.specs.declared.relayed.Relayed.{Relayed}
 use Rattle.jt_relay.specs.declared.relayed.RelayError.{RelayError}
 use Rattle.jt_relay.specs.declared.relayed.RelayError.TheVariants as errors
@@ -50,6 +50,10 @@ pub record RunsRelay (phone : Phone) (old now : Scene) (written written_now : Op
   pub later : (old.keeper_faults ≤ now.keeper_faults) × (old.vault_faults ≤ now.vault_faults)
   pub keeper : IsErrOf outcome errors.Keeper → Rose old.keeper_faults now.keeper_faults
   pub vault : IsErrOf outcome errors.Vault → Rose old.vault_faults now.vault_faults
+  -- whether or not the keeper tells, the vault recorded some fixes more and else is as before, and a
+  -- full one is told with its limit
+  pub grows : Grows old.held now.held
+  pub full : IfErr outcome (TellsLimit old.fix_limit now.held)
   -- a store failed, or the vault was full
   pub store_fault : status ≡ StoreFault → Rose old.keeper_faults now.keeper_faults
-      ⊎ Rose old.vault_faults now.vault_faults ⊎ ((limit : ℕ) × (outcome ≡ Err (errors.Full limit)))
+      ⊎ Rose old.vault_faults now.vault_faults ⊎ (outcome ≡ Err (errors.Full old.fix_limit))

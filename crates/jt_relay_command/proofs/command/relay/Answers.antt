@@ -11,5 +11,7 @@ returns-clause-runs g c = let done = c.relay_rows-outcome.ensures in record {
   later = done.later;
   keeper = done.keeper;
   vault = done.vault;
-  store_fault = store_fault _ _ _ _ _ _ c.tell_outcome.ensures.status done.keeper done.vault;
+  grows = done.grows;
+  full = done.full;
+  store_fault = store_fault _ _ _ _ _ _ _ _ c.tell_outcome.ensures.status done.keeper done.vault done.full;
 }
