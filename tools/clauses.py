@@ -2,7 +2,7 @@
 """Prints the public calls of a crate with what is promised of them, from the sources.
 
     tools/clauses.py CRATE ..          every public call of these crates: its `///` lines, its signature and its clauses
-    tools/clauses.py CRATE CALL ..     of one crate only the calls of these names, as `run` or `Hub::act`
+    tools/clauses.py CRATE CALL ..     of one crate only these calls, as `run`, `Hub::act` or all of `Hub`
     tools/clauses.py --list CRATE ..   one line a call: its name, and the names of its clauses
 
 Public is what src/lib.rt passes on with `pub use`: functions, methods of types, methods and ghost members of traits, and what an
@@ -220,7 +220,7 @@ def main(words):
     if not crates or (names and len(crates) > 1):
         sys.exit(f"no such crate: {' '.join(names)}")
     for crate in crates:
-        calls = [call for call in public_calls(crate) if not names or {call.name, call.fn} & set(names)]
+        calls = [call for call in public_calls(crate) if not names or {call.name, call.fn, call.owner} & set(names)]
         if not calls:
             sys.exit(f"{crate} has no such public call: {' '.join(names)}") if names else None
         for call in calls:

@@ -143,6 +143,10 @@ class Clauses(Small):
         self.assertIn("requires (one): length what.now < 4\n", see)
         self.assertIn("(record { a = seen self.old }).a ≡ seen self.new\n", see)
 
+    def test_all_calls_of_a_trait(self):
+        self.assertEqual(self.printed(clauses, "--list", "low", "Counts"), (
+            "low Counts::seen: (ghost member)\nlow Counts::see: seen\n"))
+
     def test_what_is_not_there(self):
         for words in (["low", "nothing"], ["nowhere"], []):
             with self.assertRaises(SystemExit):
