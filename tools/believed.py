@@ -8,7 +8,8 @@
 It begins at the names that the clauses use and the file imports from specs/, and follows the `use` lines of the files in specs/. A
 line for each file, lowest first, so that a file stands behind all that it uses: how many of its lines are definitions (with their
 comments) that are reached name by name, its lines in all, a mark, and its path. A name is reached where its text stands in what
-was reached before, so too much may be counted and nothing is left out; 0 says that the file is imported for other definitions.
+was reached before, so too much may be counted; 0 says that the file is imported for definitions that are not. What a value shows
+is the `ghost view` of its type in src/, which is not followed.
 Marks: 'steps' are files whose head says that they are for the proofs, 'partly' those that are so but for what the head names, and
 '?' those whose head says neither. Types (`declared`) are the program's own; they and the kit's definitions are not in the list.
 """
