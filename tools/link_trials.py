@@ -4,7 +4,7 @@
     tools/link_trials.py PROGRAM [TRIAL ..]
 
 without trials all of them, about five minutes. PROGRAM is crates/jt808/out/jt808 once it is built. Each trial prints a line with
-its name, what was seen, and `ok` or `WRONG`. docs/PROFILE.md has the rows.
+its name, what was seen, and `ok` or `WRONG`. docs/MEASURES.md has the rows.
 
     stopped   two sessions are open while the program is stopped and goes on (SIGSTOP, SIGCONT); a report likewise
     fenced    a later session takes a phone over: how soon the earlier one's peer sees the end

@@ -1,0 +1,223 @@
+#!/usr/bin/env python3
+"""Lists what has to be believed: the definitions to which the clauses of public calls lead, in the order in which to read them.
+
+    tools/believed.py                  of `run`, `serve`, the calls of jt_codec, and the law of the world of octets, each and together
+    tools/believed.py CRATE:CALL ..    of these calls alone; CRATE alone stands for all public calls of the crate
+    tools/believed.py --short ..       the sums alone
+
+It begins at the names that the clauses use and the file imports from specs/, and follows the `use` lines of the files in specs/. A
+line for each file, lowest first, so that a file stands behind all that it uses: how many of its lines are definitions (with their
+comments) that are reached name by name, its lines in all, a mark, and its path. A name is reached where its text stands in what
+was reached before, so too much may be counted; 0 says that the file is imported for definitions that are not. What a value shows
+is the `ghost view` of its type in src/, which is not followed.
+Marks: 'steps' are files whose head says that they are for the proofs, 'partly' those that are so but for what the head names, and
+'?' those whose head says neither. Types (`declared`) are the program's own; they and the kit's definitions are not in the list.
+"""
+import functools
+import os
+import re
+import sys
+
+HERE = os.path.dirname(os.path.realpath(__file__))
+sys.path.insert(0, HERE)
+sys.dont_write_bytecode = True
+import clauses  # noqa: E402
+
+ROOTS = {
+    "run": ["jt_cli:run"],
+    "serve": ["jt_server:serve"],
+    "the codec": ["jt_codec"],
+    "the world of octets": ["jt_octets:law_world"],
+}
+USE = re.compile(r"^\s*(?:pub |ghost )*use (Rattle\.[\w.]+?)(?:\.\{([^}]*)\}| as (\w+))?;?\s*$", re.M)
+DECLARED = re.compile(r"^(?:  )?(?:(?:abbrev|unfoldable)(?: pub)? |pub (?:record |data )?|record |data )(\S+)")
+FIELD = re.compile(r"^ +pub \S+ :")
+MEMBER = re.compile(r"^ {2,}(?:pub )?((?:[^\s(){}=]+ )+):")
+STEPS = re.compile(r"\bsteps?\b|\bfor (the )?proofs\b", re.I)
+BELIEVED = re.compile(r"(?<!needs )to be believed", re.I)
+
+
+def spec_file(module):
+    """The file of a module of specs/ in this repository, or None."""
+    found = re.match(r"Rattle\.(\w+)\.specs\.([\w.]+)$", module)
+    if not found or found.group(2).startswith("declared."):
+        return None
+    path = os.path.join("crates", found.group(1), "specs", found.group(2).replace(".", "/") + ".antt")
+    return path if os.path.isfile(os.path.join(clauses.ROOT, path)) else None
+
+
+@functools.lru_cache(None)
+def read(path):
+    with open(os.path.join(clauses.ROOT, path), encoding="utf-8") as file:
+        return file.read()
+
+
+def uses(text):
+    """What a text imports: (file, names as (there, here), the alias of the whole module)."""
+    found = []
+    for module, names, alias in USE.findall(text):
+        path = spec_file(module)
+        if path:
+            pairs = [name.split(" as ") for name in (part.strip() for part in names.split(",")) if name]
+            found.append((path, [(pair[0].strip(), pair[-1].strip()) for pair in pairs], alias))
+    return found
+
+
+def words_in(text):
+    """The words of a text without its comments; of `a.b` both parts and the whole."""
+    bare = re.sub(r"(^|\s)--[^\n]*", " ", text)
+    found = set(re.findall(r"[^\s(){},;]+", bare))
+    return found | {part for word in found for part in word.split(".")}
+
+
+def stands_in(name, words):
+    """Whether a name, or a part of an operator, is one of the words."""
+    return any(part in words for part in name.split("◌") if part)
+
+
+class Spec:
+    """A file of specs/, cut into its definitions."""
+
+    def __init__(self, path):
+        self.path, self.uses = path, uses(read(path))
+        self.chunks, self.names = [], []
+        chunk, comments = [], []
+        for line in read(path).split("\n"):
+            if USE.match(line) or re.match(r"\s*(module|infix)", line):
+                comments = []
+                continue
+            if line.strip().startswith("--") or not line.strip():
+                comments.append(line)
+                continue
+            named = None if FIELD.match(line) else DECLARED.match(line)
+            if named:
+                chunk = [held for held in comments if held.strip()] + [line]
+                self.chunks.append(chunk)
+                self.names.append({named.group(1)})
+            elif self.chunks:
+                chunk += [held for held in comments if held.strip()] + [line]
+                member = MEMBER.match(line)
+                if member:
+                    self.names[-1].update(member.group(1).split())
+            comments = []
+        self.words = [words_in("\n".join(chunk)) for chunk in self.chunks]
+
+
+@functools.lru_cache(None)
+def spec(path):
+    return Spec(path)
+
+
+def imported(listed, words):
+    """The (file, name) that words name, of what is imported; the name is None for a whole file."""
+    for path, names, alias in listed:
+        if alias:
+            for word in words:
+                if word.startswith(alias + "."):
+                    yield path, word.split(".")[1]
+            if alias in words and not any(word.startswith(alias + ".") for word in words):
+                yield path, None
+        for there, here in names:
+            if stands_in(here, words):
+                yield path, there
+        if not alias and not names:
+            yield path, None
+
+
+def reach(starts):
+    """The definitions, as (file, number), to which these names lead."""
+    found, waiting = set(), list(starts)
+    while waiting:
+        path, name = waiting.pop()
+        file = spec(path)
+        for number, names in enumerate(file.names):
+            if (path, number) in found or not (name is None or name in names):
+                continue
+            found.add((path, number))
+            words = file.words[number]
+            waiting += imported(file.uses, words)
+            waiting += [(path, own) for all_names in file.names for own in all_names if stands_in(own, words)]
+    return found
+
+
+def starts_of(root):
+    """The names of specs/ that the clauses of these calls use, as (file, name)."""
+    crate, _, name = root.partition(":")
+    calls = [call for call in clauses.public_calls(crate) if not name or name in (call.name, call.fn)]
+    if not calls:
+        sys.exit(f"{crate} has no public call {name}")
+    found = set()
+    for call in calls:
+        words = words_in(" ".join(said for kind, _, said in call.clauses if kind != "//"))
+        found.update(imported(uses(read(call.path)), words))
+    return found
+
+
+def order(files):
+    """The files and all that they use, each behind what it uses."""
+    listed, seen = [], set()
+
+    def visit(path):
+        if path not in seen:
+            seen.add(path)
+            for used in sorted({used for used, _, _ in uses(read(path))}):
+                visit(used)
+            listed.append(path)
+
+    for path in sorted(files):
+        visit(path)
+    return listed
+
+
+def mark(path):
+    """What the head of a file says of it."""
+    head = []
+    for line in read(path).split("\n"):
+        if not line.startswith("--"):
+            break
+        head.append(line[2:].strip())
+    said = " ".join(head)
+    if BELIEVED.search(said):
+        return "partly" if re.search(r"for (the )?proofs", said, re.I) else ""
+    return "steps" if STEPS.search(said) or "needs to be believed" in said else "?"
+
+
+def lines_in(path):
+    return read(path).count("\n")
+
+
+def reached_lines(found):
+    """Of each file how many lines of definitions are reached."""
+    counts = {}
+    for path, number in found:
+        counts[path] = counts.get(path, 0) + len(spec(path).chunks[number])
+    return counts
+
+
+def sums(starts):
+    """The sums of files and lines, whole and as reached."""
+    files, counts = order({path for path, _ in starts}), reached_lines(reach(starts))
+    steps = [path for path in files if mark(path) == "steps"]
+    return (f"{len(files)} files, {sum(map(lines_in, files))} lines, of which {sum(counts.values())} are reached; "
+            f"{len(steps)} are steps, {sum(map(lines_in, steps))} lines, "
+            f"of which {sum(counts.get(path, 0) for path in steps)} are reached")
+
+
+def main(words):
+    short = "--short" in words
+    words = [word for word in words if word != "--short"]
+    groups = {word: [word] for word in words} or ROOTS
+    starts = {name: set().union(*map(starts_of, roots)) for name, roots in groups.items()}
+    together = set().union(*starts.values())
+    if not short:
+        counts = reached_lines(reach(together))
+        for path in order({path for path, _ in together}):
+            print(f"{counts.get(path, 0):5} {lines_in(path):5} {mark(path):7} {path}")
+    for name, found in starts.items():
+        print(f"{name}: {sums(found)}")
+    if len(starts) > 1:
+        print(f"together: {sums(together)}")
+
+
+if __name__ == "__main__":
+    main(sys.argv[1:])
