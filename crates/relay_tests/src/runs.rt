@@ -8,7 +8,7 @@ use jt_store::Vault;
 use std::test::Fail;
 
 // Row 2 of one fix, and row 3 of two.
-const THREE_FIXES: [Put; 2] = [
+pub(crate) const THREE_FIXES: [Put; 2] = [
     Put {
         number: 2,
         id: 0x0200,

@@ -32,7 +32,7 @@ const WORDS: [(&[&str], Option<Phone>); 14] = [
     (&["gateway", "--phone", "013912345678"], None),
 ];
 
-fn owned(alloc: Global, words: &[&str]) -> Result<Vec<String>, AllocError> {
+pub(crate) fn owned(alloc: Global, words: &[&str]) -> Result<Vec<String>, AllocError> {
     let mut owned = Vec::new(alloc);
     for word in words {
         owned.push(String::from_str(alloc, word)?)?;
