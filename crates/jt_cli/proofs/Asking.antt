@@ -1,7 +1,6 @@
 -- Words that ask one thing ask nothing else.
 use Rattle.std.proofs.Common.{◌≡◌, ℕ, List, Option, Some, None, IfSome, MatchOption, refl, ap, sym, subst}
 use Rattle.jt_relay_command.specs.RelayWords.{AreWords as AreRelayWords}
-use Rattle.jt_relay_command.specs.declared.relay_words.RelayWords.{RelayWords}
 use Rattle.jt_value.specs.declared.phone.Phone.{Phone}
 use Rattle.jt_report_command.specs.ReportWords.{ReportValues, AreWords as AreReportWords}
 use Rattle.jt_report_command.specs.Telling.{values_in_words}
@@ -42,36 +41,17 @@ of_platform port sessions words are that = record { asks = are; only = platform_
 
 -- ---- rows to pass on
 
-abbrev TellsPhone : Option RelayWords → Phone → Type 0
-TellsPhone found phone = MatchOption found ⊥ (λ told. told.phone ≡ phone)
+relay_only : (phone : Phone) (words : List (List ℕ)) → AreRelayWords phone words
+    → ((p : Phone) → AreRelayWords p words → phone ≡ p) → AreNoTask words → AreNoPlatform words
+    → (other : Ask) → Asks other words → other ≡ PassRowsOn phone
+relay_only phone words are that task platform (Act other) asks = absurd (no_task_is words other task asks)
+relay_only phone words are that task platform (ReportFixes told) asks = absurd (relay_or_report phone told words are asks)
+relay_only phone words are that task platform (ServeLinks port sessions) asks = absurd (platform port sessions asks)
+relay_only phone words are that task platform (PassRowsOn p) asks = ap PassRowsOn (sym (that p asks))
 
-relay_are : (found : Option RelayWords) (told : RelayWords) (words : List (List ℕ)) → found ≡ Some told
-    → IfSome found (λ t. AreRelayWords t.phone words) → AreRelayWords told.phone words
-relay_are found told words is are = subst (λ (f : Option RelayWords). IfSome f (λ t. AreRelayWords t.phone words)) is are
-
-same_phone : (found : Option RelayWords) (told : RelayWords) (phone : Phone) → found ≡ Some told → TellsPhone found phone → told.phone ≡ phone
-same_phone found told phone is that = subst (λ (f : Option RelayWords). TellsPhone f phone) is that
-
-relay_only : (found : Option RelayWords) (told : RelayWords) (words : List (List ℕ)) → found ≡ Some told → AreRelayWords told.phone words
-    → ((phone : Phone) → AreRelayWords phone words → TellsPhone found phone) → AreNoTask words → AreNoPlatform words
-    → (other : Ask) → Asks other words → other ≡ PassRowsOn told.phone
-relay_only found told words is are that task platform (Act other) asks = absurd (no_task_is words other task asks)
-relay_only found told words is are that task platform (ReportFixes values) asks = absurd (relay_or_report told.phone values words are asks)
-relay_only found told words is are that task platform (ServeLinks port sessions) asks = absurd (platform port sessions asks)
-relay_only found told words is are that task platform (PassRowsOn phone) asks = ap PassRowsOn (sym (same_phone found told phone is (that phone asks)))
-
-pub of_relay : (found : Option RelayWords) (told : RelayWords) (words : List (List ℕ)) → found ≡ Some told
-    → IfSome found (λ t. AreRelayWords t.phone words)
-    → ((phone : Phone) → AreRelayWords phone words → MatchOption found ⊥ (λ t. t.phone ≡ phone)) → AreNoTask words → AreNoPlatform words
-    → AskOnly (PassRowsOn told.phone) words
-of_relay found told words is are that task platform = record {
-  asks = relay_are found told words is are;
-  only = relay_only found told words is (relay_are found told words is are) that task platform;
-}
-
-pub no_relay : (found : Option RelayWords) (words : List (List ℕ)) → found ≡ None
-    → ((phone : Phone) → AreRelayWords phone words → MatchOption found ⊥ (λ t. t.phone ≡ phone)) → AreNoRelay words
-no_relay found words is that phone are = subst (λ (f : Option RelayWords). TellsPhone f phone) is (that phone are)
+pub of_relay : (phone : Phone) (words : List (List ℕ)) → AreRelayWords phone words
+    → ((p : Phone) → AreRelayWords p words → phone ≡ p) → AreNoTask words → AreNoPlatform words → AskOnly (PassRowsOn phone) words
+of_relay phone words are that task platform = record { asks = are; only = relay_only phone words are that task platform }
 
 -- ---- fixes to report
 
