@@ -16,6 +16,7 @@ use Rattle.jt_region_bodies.specs.declared.kind.RegionKind.TheVariants as kind
 use Rattle.jt_region_bodies.specs.Regions.{rectangles, polygon, deletion}
 use Rattle.jt_regions.specs.declared.change.RegionChange.TheVariants as change
 use Rattle.jt_regions.specs.Tables.{AtMost}
+use Rattle.jt_script.specs.declared.event.WorldEvent.{WorldEvent}
 use Rattle.jt_script.specs.declared.event.WorldEvent.TheVariants as event
 use Rattle.jt_script.specs.declared.script.ScriptLine.{ScriptLine}
 use Rattle.jt_script.specs.declared.script.ScriptLine.TheVariants as script
@@ -101,13 +102,17 @@ words_say line = parted_say line (position (λ octet. octet == 32) line)
 
 -- ---- lines
 
--- Empty lines, comments and `fix K` are those of a rehearsal's script, whose other events are none here.
+-- `fix K` is the one of a rehearsal's script, whose other events are none here
+abbrev pub event_says : WorldEvent → FenceLine
+event_says (event.Fix lat) = fix_say (position_body.spell (position_at lat))
+event_says (event.Up number count) = Bad
+event_says (event.Down count) = Bad
+event_says (event.Tick milliseconds) = Bad
+
+-- empty lines and comments are those of such a script too
 abbrev pub script_says : List ℕ → ScriptLine → FenceLine
 script_says line script.Passed = Passed
-script_says line (script.Event (event.Fix lat)) = fix_say (position_body.spell (position_at lat))
-script_says line (script.Event (event.Up number count)) = Bad
-script_says line (script.Event (event.Down count)) = Bad
-script_says line (script.Event (event.Tick milliseconds)) = Bad
+script_says line (script.Event event) = event_says event
 script_says line script.Bad = words_say line
 
 -- what a line says
