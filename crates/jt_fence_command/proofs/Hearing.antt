@@ -1,13 +1,10 @@
 -- How a tally hears a line of a track.
-use Rattle.std.proofs.Common.{◌≡◌, ◌+◌, ℕ, true, IsTrue, List, [], ◌∷◌, ◌++◌, length, Option, Some, None, Result, Ok, Err, refl, sym, ap, ◌∙◌, append-nil}
+use Rattle.std.proofs.Common.{◌≡◌, ◌+◌, ℕ, IsTrue, List, [], ◌++◌, Result, Ok, Err, refl, sym, ap, ◌∙◌, append-nil}
 use Rattle.std.specs.Prelude.{IfOk}
 use Rattle.jt_value.specs.declared.memory.Memory.{Memory}
 use Rattle.jt_position.specs.declared.fixed.Fixed.{Fixed}
 use Rattle.jt_regions.specs.declared.change.RegionChange.{RegionChange}
-use Rattle.jt_regions.specs.declared.error.RegionError.{RegionError}
-use Rattle.jt_regions.specs.declared.error.RegionError.TheVariants as errors
-use Rattle.jt_regions.specs.Tables.{Applies, Regions}
-use Rattle.jt_terminal_rule.specs.Tables.{regions_after}
+use Rattle.jt_regions.specs.Tables.{Applies}
 use Rattle.jt_terminal_rule.proofs.Tabling.{change_says}
 use Rattle.jt_fence.specs.Settling.{settled_on}
 use Rattle.jt_fence.specs.Watching.{Seen}
@@ -20,7 +17,7 @@ use Rattle.jt_fence_command.specs.declared.line.FenceLine.{FenceLine}
 use Rattle.jt_fence_command.specs.declared.line.FenceLine.TheVariants.{Passed, Fix, Change, Bad}
 use Rattle.jt_fence_command.specs.AlarmText.{alarm_lines}
 use Rattle.jt_fence_command.specs.FenceLines.{meaning, says}
-use Rattle.jt_fence_command.specs.Tally.{ChangesTally, after_change, after_line, alarms_behind, change_behind, fix_behind, outcome_of}
+use Rattle.jt_fence_command.specs.Tally.{ChangesTally, after_change, after_line, alarms_behind, fix_behind, outcome_of}
 
 -- ---- a change of the table
 

@@ -1,11 +1,11 @@
 -- What octets are read as is what the functions of lines say of them.
-use Rattle.std.proofs.Common.{◌≡◌, ℕ, ◌≤◌, ◌<◌, true, false, List, length, Ok, Err, refl, subst, arith}
+use Rattle.std.proofs.Common.{◌≡◌, ℕ, ◌≤◌, ◌<◌, true, false, List, length, Err, refl, subst, arith}
 use Rattle.std.specs.Prelude.{nat_le}
 use Rattle.jt_value.specs.Octets.{AreOctets}
 use Rattle.jt_value.specs.declared.refusal.CodecError.{CodecError}
 use Rattle.jt_value.specs.declared.refusal.CodecError.TheVariants as errors
 use Rattle.jt_value.specs.declared.refusal.Refusal.{Refusal}
-use Rattle.jt_layout.specs.Layout.{Body, Fills, number}
+use Rattle.jt_layout.specs.Layout.{Fills, number}
 use Rattle.jt_layout.specs.Answer.{Answers, IsOneToOne}
 use Rattle.jt_position.specs.declared.position.Position.{Position}
 use Rattle.jt_position.specs.Positions.{position}
@@ -16,9 +16,8 @@ use Rattle.jt_region_bodies.specs.declared.kind.RegionKind.{RegionKind}
 use Rattle.jt_region_bodies.specs.Regions as bodies
 use Rattle.jt_region_bodies.specs.Regions.{rectangles, deletion}
 use Rattle.jt_regions.specs.declared.change.RegionChange.TheVariants as change
-use Rattle.jt_fence_command.specs.declared.line.FenceLine.{FenceLine}
 use Rattle.jt_fence_command.specs.declared.line.FenceLine.TheVariants.{Fix, Change, Bad}
-use Rattle.jt_fence_command.specs.FenceLines.{fix_say, rectangles_say, polygon_say, deletion_say, position_says, setting_says, region_says, deletion_says}
+use Rattle.jt_fence_command.specs.FenceLines.{fix_say, rectangles_say, polygon_say, deletion_say}
 
 few_is : (n most : ℕ) → n ≤ most → nat_le n most ≡ true
 few_is n most le = grind arith

@@ -1,16 +1,14 @@
 -- A run over a source and a sink, from the run of its lines.
-use Rattle.std.proofs.Common.{◌≡◌, ◌⊎◌, ◌+◌, ◌^◌, ℕ, List, [], ◌∷◌, Option, Some, None, IfSome, refl, sym, ap, subst, ◌∙◌, inl, inr}
+use Rattle.std.proofs.Common.{◌≡◌, ◌⊎◌, ◌+◌, ◌^◌, ℕ, List, [], ◌∷◌, Option, Some, None, IfSome, refl, subst, ◌∙◌, inl, inr}
 use Rattle.std.specs.Io.KnownBytes.{Appends, IsAtEnd}
 use Rattle.jt_regions.specs.Tables.{Regions}
 use Rattle.jt_terminal_rule.specs.Tables.{regions_after}
 use Rattle.jt_input.specs.Cutter.{Held, begun_of}
-use Rattle.jt_input.specs.Answer.{IsFault, AnswersReply, AnswersWhole, Runs, RunsTelling, ReadsNoFurther, PrintsTaken, StopsAtWrite}
-use Rattle.jt_input.specs.Lines.{HasHeard, IsHeard, answer_of}
-use Rattle.jt_input.specs.Reply.{Reply}
+use Rattle.jt_input.specs.Answer.{IsFault, AnswersReply, AnswersWhole, RunsTelling, ReadsNoFurther, PrintsTaken, StopsAtWrite}
+use Rattle.jt_input.specs.Lines.{HasHeard, answer_of}
 use Rattle.jt_input.specs.Text.{lines_of}
 use Rattle.jt_input.specs.declared.status.Status.{Status}
 use Rattle.jt_input.specs.declared.status.Status.TheVariants as status
-use Rattle.jt_input.proofs.Opened.{reads_opened, prints_opened, stops_opened}
 use Rattle.jt_fence_command.specs.declared.alarm_tally.AlarmTally.{AlarmTally}
 use Rattle.jt_fence_command.specs.declared.line.FenceLine.{FenceLine}
 use Rattle.jt_fence_command.specs.declared.line.FenceLine.TheVariants.{Passed, Fix, Change, Bad}

@@ -10,11 +10,10 @@ use Rattle.jt_region_bodies.specs.declared.circle.Circle.{Circle}
 use Rattle.jt_region_bodies.specs.declared.rectangle.Rectangle.{Rectangle}
 use Rattle.jt_region_bodies.specs.declared.polygon.Polygon.{Polygon}
 use Rattle.jt_region_bodies.specs.declared.route.Route.{Route}
-use Rattle.jt_region_bodies.specs.declared.kind.RegionKind.{RegionKind}
 use Rattle.jt_region_bodies.specs.declared.kind.RegionKind.TheVariants as kind
 use Rattle.jt_regions.specs.declared.change.RegionChange.{RegionChange}
 use Rattle.jt_regions.specs.declared.change.RegionChange.TheVariants as change
-use Rattle.jt_regions.specs.Kinds.{Sets, after_deletion, after_setting, count_after, kept, last_with, missing, region_limit}
+use Rattle.jt_regions.specs.Kinds.{Sets, after_deletion, count_after, kept, last_with, missing, region_limit}
 use Rattle.jt_regions.specs.Tables.{Applies, Regions}
 use Rattle.jt_regions.proofs.Filling.{flipped, same_test}
 use Rattle.jt_terminal_rule.specs.Tables.{deleted, put_all, regions_after, set_to, without_each}

@@ -1,5 +1,5 @@
 -- The text of a track is that of the alarms which its fixes raise.
-use Rattle.std.proofs.Common.{◌≡◌, ◌+◌, ℕ, List, [], ◌∷◌, ◌++◌, length, map, Option, Some, None, Ok, refl, ap, inl, inr, ◌∙◌}
+use Rattle.std.proofs.Common.{◌≡◌, ◌+◌, ℕ, List, [], ◌∷◌, ◌++◌, length, map, Option, Some, None, refl, ap, inl, inr}
 use Rattle.std.specs.FinMap.{get-empty}
 use Rattle.std.specs.Ordering.{nat_cmp}
 use Rattle.jt_value.specs.Counts.{counted}
@@ -8,23 +8,21 @@ use Rattle.jt_regions.specs.declared.change.RegionChange.{RegionChange}
 use Rattle.jt_regions.specs.Tables.{Regions}
 use Rattle.jt_terminal_rule.specs.Tables.{regions_after}
 use Rattle.jt_fence.specs.declared.step.Step.TheVariants as step
-use Rattle.jt_fence.specs.Alarms.{AreAlarms}
-use Rattle.jt_fence.specs.Settling.{settled_in, settled_on, unwatched}
+use Rattle.jt_fence.specs.Settling.{settled_in}
 use Rattle.jt_fence.specs.Track.{IsTableOf}
 use Rattle.jt_fence.specs.Watching.{StandsFor, fences_of, watched_behind}
 use Rattle.jt_fence.proofs.KeptLaws.{are_settled}
 use Rattle.jt_fence.proofs.SettleLaws.{change_stands}
 use Rattle.jt_fence.proofs.TakeLaws.{alarms_are, take_stands, watched_none}
 use Rattle.jt_input.specs.Lines.{reply_of}
-use Rattle.jt_input.specs.Reply.{Reply}
 use Rattle.jt_input.specs.Text.{lines_of}
 use Rattle.jt_fence_command.specs.declared.alarm_tally.AlarmTally.{AlarmTally}
 use Rattle.jt_fence_command.specs.declared.line.FenceLine.{FenceLine}
 use Rattle.jt_fence_command.specs.declared.line.FenceLine.TheVariants.{Passed, Fix, Change, Bad}
-use Rattle.jt_fence_command.specs.AlarmText.{alarm_lines, totals_line}
+use Rattle.jt_fence_command.specs.AlarmText.{alarm_lines}
 use Rattle.jt_fence_command.specs.FenceLines.{meaning}
 use Rattle.jt_fence_command.specs.Tally.{after_change, after_line, alarms_behind, change_behind, counted_by, fence_reply, first_tally, fix_behind, outcome_of}
-use Rattle.jt_fence_command.specs.Track.{Before, Makes, Tells, TellsAlarms, TellsFix, TellsLine, bad_reply, nothing}
+use Rattle.jt_fence_command.specs.Track.{Before, Tells, TellsAlarms, TellsLine, nothing}
 use Rattle.jt_fence_command.proofs.Taking.{takes}
 
 -- a tally is what is kept of all that came before

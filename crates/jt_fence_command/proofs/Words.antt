@@ -1,9 +1,8 @@
 -- What a line says, by its parts.
-use Rattle.std.proofs.Common.{◌≡◌, ◌+◌, ◌-◌, ◌==◌, ℕ, List, length, take, drop, Option, Some, None, Result, Ok, Err, refl, sym, ap, subst, ◌∙◌}
+use Rattle.std.proofs.Common.{◌≡◌, ◌+◌, ◌-◌, ◌==◌, ℕ, List, length, take, drop, Option, Some, None, Result, Ok, Err, ap, ◌∙◌}
 use Rattle.std.specs.Prelude.{IfOk, position}
 use Rattle.jt_value.specs.declared.memory.Memory.{Memory}
 use Rattle.jt_script.specs.declared.event.WorldEvent.{WorldEvent}
-use Rattle.jt_script.specs.declared.script.ScriptLine.{ScriptLine}
 use Rattle.jt_script.specs.declared.script.ScriptLine.TheVariants as script
 use Rattle.jt_script.specs.Said.{said}
 use Rattle.jt_script.proofs.Events.{rest_is}

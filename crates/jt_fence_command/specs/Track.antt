@@ -1,5 +1,5 @@
 -- What is printed of the lines of a track, by the alarms that each fix raises behind all that came before it. To be believed.
-use Rattle.std.specs.Prelude.{◌≡◌, ◌≢◌, ◌⊎◌, ℕ, ◌+◌, List, [], ◌∷◌, ◌++◌, length, Option, Some, None}
+use Rattle.std.specs.Prelude.{◌≡◌, ◌⊎◌, ℕ, ◌+◌, List, [], ◌∷◌, ◌++◌, length, Option, Some, None}
 use Rattle.jt_value.specs.Counts.{counted}
 use Rattle.jt_position.specs.declared.fixed.Fixed.{Fixed}
 use Rattle.jt_regions.specs.declared.change.RegionChange.{RegionChange}
