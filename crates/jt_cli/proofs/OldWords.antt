@@ -10,7 +10,7 @@ use Rattle.jt_view.specs.declared.command.Report.{Report}
 use Rattle.jt_view.specs.declared.command.Report.TheVariants.{View, Check}
 use Rattle.jt_cli.specs.Words.{task_named, task_of, telling}
 use Rattle.jt_cli.specs.declared.task.Task.{Task}
-use Rattle.jt_cli.specs.declared.task.Task.TheVariants.{Tell, Rehearse}
+use Rattle.jt_cli.specs.declared.task.Task.TheVariants.{Tell, Rehearse, Fence}
 
 abbrev pub report_word : Report → List ℕ
 report_word View = codes "view"
@@ -26,6 +26,7 @@ words_of command = report_word command.report ∷ encoding_words command.encodin
 abbrev pub words_of_task : Task → List (List ℕ)
 words_of_task (Tell command) = words_of command
 words_of_task Rehearse = codes "rehearse" ∷ []
+words_of_task Fence = codes "fence" ∷ []
 
 abbrev pub AreNoTask : List (List ℕ) → Type 0
 AreNoTask words = (task : Task) → words ≢ words_of_task task
@@ -43,6 +44,7 @@ told : (task : Task) → task_of (words_of_task task) ≡ Some task
 unfolding task_named
 told (Tell command) = tell_told command.report command.encoding
 told Rehearse = refl
+told Fence = refl
 
 pub asks_of : (task : Task) (words : List (List ℕ)) → words ≡ words_of_task task → task_of words ≡ Some task
 asks_of task words are = rw are (told task)
@@ -68,8 +70,10 @@ telling_back encoding word task =
 named_back : (word : List ℕ) (task : Task) → task_named word ≡ Some task → word ∷ [] ≡ words_of_task task
 unfolding task_named
 named_back word task =
-    one (bytes_eq word (codes "rehearse")) word (codes "rehearse") Rehearse (telling Octets word) task []
-    (bytes_eq-Decides word (codes "rehearse")) refl (telling_back Octets word task)
+    one (bytes_eq word (codes "rehearse")) word (codes "rehearse") Rehearse _ task []
+    (bytes_eq-Decides word (codes "rehearse")) refl
+    (one (bytes_eq word (codes "fence")) word (codes "fence") Fence (telling Octets word) task []
+    (bytes_eq-Decides word (codes "fence")) refl (telling_back Octets word task))
 
 hex_back : (b : Bool) (word flag : List ℕ) (task : Task) → Decides b (flag ≡ codes "--hex") → (if b then telling Hex word else None) ≡ Some task
     → word ∷ flag ∷ [] ≡ words_of_task task

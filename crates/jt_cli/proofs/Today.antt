@@ -11,6 +11,7 @@ use Rattle.jt_report_command.specs.ReportWords.{ReportValues, AreWords as AreRep
 use Rattle.jt_value.specs.declared.phone.Phone.{Phone}
 use Rattle.jt_view.specs.declared.command.Command.{Command}
 use Rattle.jt_words.specs.Platform.{PlatformWords as AreWords}
+use Rattle.jt_input.specs.Answer.{IsFault}
 use Rattle.jt_input.specs.declared.status.Status.{Status}
 use Rattle.jt_input.specs.declared.status.Status.TheVariants as status
 use Rattle.jt_cli.specs.Acting.{Acts, TellsOf, Plays}
@@ -23,17 +24,24 @@ use Rattle.jt_cli.proofs.OldWords.{AreNoTask, words_of, words_of_task, asks_of, 
 use Rattle.jt_cli.specs.declared.outside.Outside.{Outside}
 use Rattle.jt_cli.specs.declared.outside.Ended.{Ended}
 use Rattle.jt_cli.specs.declared.task.Task.{Task}
-use Rattle.jt_cli.specs.declared.task.Task.TheVariants.{Tell, Rehearse}
-use Rattle.jt_cli.proofs.StatusesOfRuns.{of_answers}
+use Rattle.jt_cli.specs.declared.task.Task.TheVariants.{Tell, Rehearse, Fence}
+use Rattle.jt_cli.proofs.StatusesOfRuns.{of_answers, of_fault}
+
+alone_watch : (s : Status) → (s ≡ status.Done) ⊎ (s ≡ status.Refused) ⊎ IsFault s → IsAlone s
+alone_watch s (inl done) = subst IsAlone (sym done) tt
+alone_watch s (inr (inl refused)) = subst IsAlone (sym refused) tt
+alone_watch s (inr (inr fault)) = of_fault s fault
 
 -- no task has a status of a store or a listener, and on Done it read its source to the end
 alone_of : (task : Task) (left left_now old now : Option (List ℕ)) (s : Status) → Acts task left left_now old now s → IsAlone s
 alone_of (Tell command) left left_now old now s acts = acts.alone
 alone_of Rehearse left left_now old now s acts = acts.alone
+alone_of Fence left left_now old now s acts = alone_watch s acts.ends
 
 end_of : (task : Task) (left left_now old now : Option (List ℕ)) (s : Status) → Acts task left left_now old now s → s ≡ status.Done → IsAtEnd left_now
 end_of (Tell command) left left_now old now s acts = acts.to_the_end
 end_of Rehearse left left_now old now s acts = acts.to_the_end
+end_of Fence left left_now old now s acts = acts.to_the_end
 
 alone_store : (s : Status) → IsAlone s → s ≡ status.StoreFault → ⊥
 alone_store s alone e = subst IsAlone e alone

@@ -2,6 +2,7 @@
 use Rattle.std.specs.Prelude.{◌≡◌, ◌⊎◌, ℕ, ◌^◌, List, Option, IfSome}
 use Rattle.std.specs.Io.KnownBytes.{Appends, IsAtEnd}
 use Rattle.jt_value.specs.declared.limits.TheConstants.{INPUT_LIMIT}
+use Rattle.jt_fence_command.specs.Running.{Watches}
 use Rattle.jt_world.specs.Claim.{Kept}
 use Rattle.jt_world.specs.Rehearsal.{script_reply, world_of}
 use Rattle.jt_world.specs.Rehearsing.{IsHeard}
@@ -12,7 +13,7 @@ use Rattle.jt_cli.specs.Script.{RunsScript}
 use Rattle.jt_cli.specs.Statuses.{IsAlone}
 use Rattle.jt_view.specs.declared.command.Command.{Command}
 use Rattle.jt_cli.specs.declared.task.Task.{Task}
-use Rattle.jt_cli.specs.declared.task.Task.TheVariants.{Tell, Rehearse}
+use Rattle.jt_cli.specs.declared.task.Task.TheVariants.{Tell, Rehearse, Fence}
 use Rattle.jt_input.specs.declared.status.Status.{Status}
 use Rattle.jt_input.specs.declared.status.Status.TheVariants.{Done, ReadFault, WriteFault}
 
@@ -57,3 +58,4 @@ abbrev pub Acts : Task → Option (List ℕ) → Option (List ℕ) → Option (L
     → Status → Type 0
 Acts (Tell command) left left_now old now status = TellsOf command left left_now old now status
 Acts Rehearse left left_now old now status = Plays left left_now old now status
+Acts Fence left left_now old now status = Watches left left_now old now status

@@ -24,6 +24,7 @@ telling encoding word =
 unfoldable pub task_named : List ℕ → Option Task
 task_named word =
     if bytes_eq word (codes "rehearse") then Some tasks.Rehearse
+    else if bytes_eq word (codes "fence") then Some tasks.Fence
     else telling Octets word
 
 -- the task that words ask

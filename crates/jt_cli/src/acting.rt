@@ -11,6 +11,7 @@ use crate::outside::{Ended, Outside};
 use crate::playing::play;
 use crate::task::Task;
 use crate::usage::push_usage_line;
+use jt_fence_command::fence;
 use jt_input::Status;
 use jt_outside::{Clock, Dial, Sink, Source, write_all};
 use jt_store::{Keeper, Vault};
@@ -53,6 +54,7 @@ fn act<S: Source, K: Sink>(alloc: Global, source: &mut S, sink: &mut K, task: Ta
     match task {
         Task::Tell(command) => report(alloc, source, sink, command, INPUT_LIMIT),
         Task::Rehearse => play(alloc, source, sink),
+        Task::Fence => fence(alloc, source, sink),
     }
 }
 

@@ -12,6 +12,8 @@ pub enum Task {
     Tell(Command),
     /// Rehearses a script: the word is `rehearse`.
     Rehearse,
+    /// Says which alarms a track raises: the word is `fence`.
+    Fence,
 }
 
 fn are_words(words: &[String], expected: &[&str]) -> bool
@@ -47,6 +49,9 @@ fn named(word: &str) -> Option<Task>
 {
     if word == "rehearse" {
         return Some(Task::Rehearse);
+    }
+    if word == "fence" {
+        return Some(Task::Fence);
     }
     telling(Encoding::Octets, word)
 }

@@ -11,7 +11,7 @@ use jt_value::{CodecError, Memory, Octets, Refusal, Seq, Why};
 use std::alloc::{AllocError, Global};
 use std::process::Abort;
 
-const USAGE: &str = "usage: jt808 view|check|rehearse|make|platform|report\n";
+const USAGE: &str = "usage: jt808 view|check|rehearse|make|platform|report|fence|relay\n";
 
 const HEARTBEAT: &[u8] = b"\x7e\x00\x02\x00\x00\x01\x39\x12\x34\x56\x78\x00\x00\x32\x7e";
 
@@ -469,6 +469,7 @@ fn words_that_are_no_command(rt: HostRuntime) {
         &["view", "--hex", "--hex"],
         &["view", "--help"],
         &["rehearse", "--hex"],
+        &["fence", "--hex"],
         &["make"],
     ];
     for &words in rows {
@@ -692,6 +693,25 @@ fn faults_of_scripts(rt: HostRuntime) {
     }
 }
 
+// The first fix is printed before the second read fails; and the second write fails.
+#[test]
+fn faults_of_tracks(rt: HostRuntime) {
+    let alloc = rt.alloc();
+    let track = b"rectangles 000100000007000001312d0a06bc3e4001312d0006bc3e4a\nfix 20000010\n";
+    let entered = "fix 1 enter rectangle 7\n";
+    let whole = "fix 1 enter rectangle 7\nfixes=1 events=1\n";
+    let rows: &[((u64, u64), Status, &str)] = &[
+        ((0, 0), Status::Done, whole),
+        ((1, 0), Status::ReadFault, ""),
+        ((2, 0), Status::ReadFault, entered),
+        ((0, 1), Status::WriteFault, ""),
+        ((0, 2), Status::WriteFault, entered),
+    ];
+    for &(failing, status, written) in rows {
+        expect(&rt, alloc, &["fence"], track, failing, status, written);
+    }
+}
+
 const VIEW: Option<Task> = Some(Task::Tell(Command {
     report: Report::View,
     encoding: Encoding::Octets,
@@ -726,6 +746,7 @@ fn words_of_tasks(rt: HostRuntime) {
         (&["check"], CHECK),
         (&["check", "--hex"], CHECK_HEX),
         (&["rehearse"], Some(Task::Rehearse)),
+        (&["fence"], Some(Task::Fence)),
         (&[], None),
         (&[""], None),
         (&["views"], None),
@@ -740,6 +761,7 @@ fn words_of_tasks(rt: HostRuntime) {
         (&["view", "--help"], None),
         (&["view\n"], None),
         (&["rehearse", ""], None),
+        (&["fences"], None),
         (&["rehearsal"], None),
         (&["platform"], None),
         (&["make"], None),
