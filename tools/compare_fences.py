@@ -2,16 +2,16 @@
 """Compares `jt808 fence` with a plain program that works out the alarms of a track by scanning all of it, on random tracks.
 
     tools/compare_fences.py [--program ./jt808] [--tracks 10000] [--seed 1]
-    tools/compare_fences.py --speed        fixes a second, with no polygon and with 1,024 polygons of 20 vertices
+    tools/compare_fences.py --speed        fixes a second of one processor, with no polygon and with 1,024 polygons of 20 vertices
 
 It prints a line for each track on which both differ, and how many tracks, fixes and alarms of each kind there were. The plain
 program shares nothing with the one that it is compared with: it keeps the whole track, and divides by fractions."""
 
 import argparse
 import random
+import resource
 import subprocess
 import sys
-import time
 from collections import Counter
 from datetime import datetime
 from fractions import Fraction
@@ -261,13 +261,14 @@ def ring(region, count):
 
 
 def seconds(program, text, times=5):
-    least = None
+    """The least processor time of some runs, which other work on the machine hardly changes."""
+    took = []
     for _ in range(times):
-        start = time.monotonic()
+        before = resource.getrusage(resource.RUSAGE_CHILDREN)
         run(program, text)
-        took = time.monotonic() - start
-        least = took if least is None else min(least, took)
-    return least
+        after = resource.getrusage(resource.RUSAGE_CHILDREN)
+        took.append(after.ru_utime + after.ru_stime - before.ru_utime - before.ru_stime)
+    return min(took)
 
 
 def speed(program):
