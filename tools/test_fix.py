@@ -108,10 +108,10 @@ class Samples(unittest.TestCase):
         # 02^01^39^12^34^56^78^0c = 3e. 2019 with serial 3: 02^40^01^01^39^12^34^56^78^03 = 70.
         self.assertEqual(make_samples.frame(2013, 0x0002, 12, b"").hex(), "7e0002000001391234567800" "0c3e7e")
         self.assertEqual(make_samples.frame(2019, 0x0002, 3, b"").hex(), "7e00024000010000000001391234567800" "03707e")
-        # 2013, id 0f00, five octets, serial 4, both escapes: 0f^05^01^39^12^34^56^78^04^30^7e^08^7d^55 = 52
+        # 2013, id 0f00, five octets, serial 4, both escapes: 0f^05^01^39^12^34^56^78^04^30^7e^08^7d^55 = 50
         self.assertEqual(
             make_samples.frame(2013, 0x0F00, 4, bytes.fromhex("307e087d55")).hex(),
-            "7e0f000005013912345678" "0004" "307d02087d0155" "527e",
+            "7e0f000005013912345678" "0004" "307d02087d0155" "507e",
         )
 
     @is_built
