@@ -237,7 +237,8 @@ def write_svg(positions, to):
         points = " ".join(",".join(it) for it, _ in itertools.groupby(map(place, track)))
         x, y = place(track[-1])
         print(f'<polyline points="{points}" fill="none" stroke="{colour}"/>', file=to)
-        print(f'<circle cx="{x}" cy="{y}" r="4" fill="{colour}"/><text x="{x}" y="{y}" dx="6">{phone}</text>', file=to)
+        side = 'dx="-6" text-anchor="end"' if float(x) > 400 else 'dx="6"'
+        print(f'<circle cx="{x}" cy="{y}" r="4" fill="{colour}"/><text x="{x}" y="{y}" dy="-6" {side}>{phone}</text>', file=to)
     print("</svg>", file=to)
 
 
