@@ -9,6 +9,7 @@ proved, and how long after the start. What is proved is kept: after an interrupt
 """
 import os
 import re
+import shutil
 import subprocess
 import sys
 import time
@@ -71,6 +72,9 @@ def link():
 
 
 def main():
+    if shutil.which("rt") is None:
+        say("rt, the command of a Rattle kit, is not on the path")
+        return 1
     began = time.monotonic()
     status, said = prove(crates(), began)
     if status:

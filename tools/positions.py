@@ -21,6 +21,7 @@ import collections
 import csv
 import datetime
 import fcntl
+import itertools
 import json
 import os
 import shutil
@@ -232,10 +233,12 @@ def write_svg(positions, to):
     print('<svg xmlns="http://www.w3.org/2000/svg" viewBox="0 0 800 800" font-size="10">', file=to)
     for at, (phone, track) in enumerate(by_phone(positions).items()):
         colour = f"hsl({at * 137 % 360} 70% 40%)"
-        points = " ".join(",".join(place(it)) for it in track)
+        # a stay is one point
+        points = " ".join(",".join(it) for it, _ in itertools.groupby(map(place, track)))
         x, y = place(track[-1])
         print(f'<polyline points="{points}" fill="none" stroke="{colour}"/>', file=to)
-        print(f'<circle cx="{x}" cy="{y}" r="4" fill="{colour}"/><text x="{x}" y="{y}" dx="6">{phone}</text>', file=to)
+        side = 'dx="-6" text-anchor="end"' if float(x) > 400 else 'dx="6"'
+        print(f'<circle cx="{x}" cy="{y}" r="4" fill="{colour}"/><text x="{x}" y="{y}" dy="-6" {side}>{phone}</text>', file=to)
     print("</svg>", file=to)
 
 
