@@ -1,4 +1,6 @@
-use crate::stopped_files::{Stopping, files_of, open_new, open_synced, open_written};
+use crate::stopped_files::{
+    Stopping, Stops, files_of, limits, open_new, open_synced, open_written,
+};
 use crate::{keeper_calls, vault_calls};
 use jt_sql::{AdoptedKeeper, AdoptedVault, SqlKeeper, SqlVault};
 use jt_store::{MemKeeper, MemVault};
@@ -38,17 +40,6 @@ const HELD: [vault_calls::Call; 5] = [
 ];
 
 const HELD_LOOKS: [vault_calls::Call; 2] = [vault_calls::Call::Load, vault_calls::Call::Oldest];
-
-// What stops after each number of calls in a range leave.
-#[derive(Clone, Copy, Debug, PartialEq, Eq)]
-enum Stops {
-    /// After so many calls on a file the tables are not those after some whole calls of the store.
-    Torn(u64),
-    /// The tables are those after whole calls, and no number was enough for all of them.
-    Whole,
-    /// The same, and some number was enough for all of them.
-    Ended,
-}
 
 type Keeping = AdoptedKeeper<Connection<FileStore<Stopping>>>;
 
@@ -183,15 +174,6 @@ fn vault_stops(alloc: Global, log_calls: u64, db_calls: u64) -> (usize, bool) {
         done,
         whole && holds_some(alloc, open_synced(alloc, left), done),
     )
-}
-
-// How many calls the two files take before they fail, where one of them fails after so many.
-fn limits(in_log: bool, calls: u64) -> (u64, u64) {
-    if in_log {
-        (calls, u64::MAX)
-    } else {
-        (u64::MAX, calls)
-    }
 }
 
 // What a keeper has that stops after each number of calls in a range, up to one that is enough for all.
