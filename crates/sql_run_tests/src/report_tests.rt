@@ -1,111 +1,83 @@
 use crate::files::{make_folder, remove_folder};
 use crate::frames::ANSWERS;
 use crate::looks::held;
-use crate::runs::{Scene, in_files, in_memory, is_ran, stores};
+use crate::runs::{Scene, ends_in_files, ends_in_memory, new_keeper, new_vault};
 use jt_cli::Status;
 use jt_sql::SqlVault;
-use jt_store::{MemKeeper, MemVault};
-use jt_value::Seq;
+use jt_store::MemVault;
+use std::process::Abort;
+use std::sync::Wait;
 use std::test::Fail;
+use std::thread::Threads;
 
-const WORDS: &str =
-    "report --host localhost --port 9000 --phone 013912345678 --plate 4a54383038 --terminal 31323334353637 --tries 1";
+const KEEPER: &str = "report_test/platform.db";
+
+const VAULT: &str = "report_test/terminal.db";
 
 const FIX: &str = "00000000000000030000000106bc3e40000000000000240101000000";
 
-const FOLDER: &str = "report_test";
+// The input of a terminal, what the link gives that comes, if one does, and how it ends.
+type Terminal = (
+    &'static str,
+    Option<&'static [&'static [u8]]>,
+    Status,
+    &'static str,
+);
 
-// Runs of a terminal, one after another: a fix and no connection, then no fix and none, then a connection that ends, one on which
-// the platform answers, and none once more. What each prints, and how it ends.
-const RUNS: [(Scene, Status, &str); 5] = [
-    (
-        Scene {
-            words: WORDS,
-            input: FIX,
-            link: None,
-        },
-        Status::Unsent,
-        "try 1 dial\naccepted=0 of 1\n",
-    ),
-    (
-        Scene {
-            words: WORDS,
-            input: "",
-            link: None,
-        },
-        Status::Unsent,
-        "try 1 dial\naccepted=0 of 1\n",
-    ),
-    (
-        Scene {
-            words: WORDS,
-            input: "",
-            link: Some(&[]),
-        },
-        Status::Unsent,
-        "try 1 end\naccepted=0 of 1\n",
-    ),
-    (
-        Scene {
-            words: WORDS,
-            input: "",
-            link: Some(&[ANSWERS]),
-        },
-        Status::Done,
-        "accepted=1 of 1\n",
-    ),
-    (
-        Scene {
-            words: WORDS,
-            input: "",
-            link: None,
-        },
-        Status::Done,
-        "accepted=1 of 1\n",
-    ),
+// Terminals one after another over one store: a fix and no link, then no fix and none, then a link that ends, one on which the
+// platform answers, and none once more.
+const RUNS: [Terminal; 5] = [
+    (FIX, None, Status::Unsent, "try 1 dial\naccepted=0 of 1\n"),
+    ("", None, Status::Unsent, "try 1 dial\naccepted=0 of 1\n"),
+    ("", Some(&[]), Status::Unsent, "try 1 end\naccepted=0 of 1\n"),
+    ("", Some(&[ANSWERS]), Status::Done, "accepted=1 of 1\n"),
+    ("", None, Status::Done, "accepted=1 of 1\n"),
 ];
 
-#[test]
-fn a_terminal_goes_on_where_its_file_stopped(rt: HostRuntime) -> Result<(), Fail> {
-    make_folder(&rt, FOLDER)?;
-    for (scene, status, printed) in &RUNS {
-        let files = stores(&rt, "report_test/platform.db", "report_test/terminal.db")?;
-        let ran = in_files(&rt, rt.alloc(), scene, files)?;
-        assert!(rt; is_ran(&ran, *status, printed));
+// A run of such a terminal.
+fn reported(terminal: &Terminal) -> Scene {
+    let (input, link, status, printed) = *terminal;
+    Scene {
+        words: "report --host localhost --port 9000 --phone 013912345678 --plate 4a54383038 --terminal 31323334353637 --tries 1",
+        input,
+        link,
+        status,
+        printed,
     }
-    remove_folder(&rt, FOLDER)?;
-    Ok(())
+}
+
+// Whether the file, opened anew, holds the same as the vault in memory.
+fn holds_the_same(rt: &impl Abort, host: &HostRuntime, vault: &mut MemVault) -> bool {
+    let mut again = SqlVault::at(host.clone().expect(rt, "memory"), VAULT).expect(rt, "memory");
+    let in_file = held(rt, host.alloc(), &mut again);
+    let in_memory = held(rt, host.alloc(), vault);
+    in_file.as_slice() == in_memory.as_slice()
+}
+
+// Whether terminals one after another end so, over memory and over files, and leave the same in both.
+fn go_alike<R: Threads + Wait + Sync + Abort>(
+    rt: &R,
+    host: &HostRuntime,
+    terminals: &[Terminal],
+) -> bool {
+    let mut keeper = new_keeper(host.alloc());
+    let mut vault = new_vault(host.alloc());
+    for terminal in terminals {
+        let scene = reported(terminal);
+        if !ends_in_memory(rt, host.alloc(), &scene, &mut keeper, &mut vault)
+            || !ends_in_files(rt, host, &scene, KEEPER, VAULT)
+            || !holds_the_same(rt, host, &mut vault)
+        {
+            return false;
+        }
+    }
+    true
 }
 
 #[test]
-fn a_terminal_in_memory_does_the_same(rt: HostRuntime) -> Result<(), Fail> {
-    let alloc = rt.alloc();
-    let mut vault = MemVault::new(alloc, 100_000, Seq::new(alloc));
-    for (scene, status, printed) in &RUNS {
-        let keeper = MemKeeper::new(alloc, 1_000_000_000, Seq::new(alloc));
-        let ran = in_memory(&rt, alloc, scene, keeper, vault)?;
-        assert!(rt; is_ran(&ran, *status, printed));
-        vault = ran.outside.vault;
-    }
-    Ok(())
-}
-
-// After each run both hold the same, the file opened anew.
-#[test]
-fn both_vaults_hold_the_same_after_each_run(rt: HostRuntime) -> Result<(), Fail> {
-    let alloc = rt.alloc();
-    make_folder(&rt, "held_test")?;
-    let mut vault = MemVault::new(alloc, 100_000, Seq::new(alloc));
-    for (scene, _, _) in &RUNS {
-        let keeper = MemKeeper::new(alloc, 1_000_000_000, Seq::new(alloc));
-        vault = in_memory(&rt, alloc, scene, keeper, vault)?.outside.vault;
-        let files = stores(&rt, "held_test/platform.db", "held_test/terminal.db")?;
-        drop(in_files(&rt, alloc, scene, files)?);
-        let mut again = SqlVault::at(rt.clone()?, "held_test/terminal.db").expect(&rt, "memory");
-        let in_memory = held(&rt, alloc, &mut vault);
-        let in_file = held(&rt, alloc, &mut again);
-        assert!(rt; in_file.as_slice() == in_memory.as_slice());
-    }
-    remove_folder(&rt, "held_test")?;
+fn terminals_go_on_where_the_file_stopped(rt: HostRuntime) -> Result<(), Fail> {
+    make_folder(&rt, "report_test")?;
+    assert!(rt; go_alike(&rt, &rt, &RUNS));
+    remove_folder(&rt, "report_test")?;
     Ok(())
 }

@@ -213,13 +213,13 @@ fn a_keeper_stopped_early_in_its_log_has_whole_calls(rt: HostRuntime) -> Result<
 
 #[test]
 fn a_keeper_stopped_late_in_its_log_has_whole_calls(rt: HostRuntime) -> Result<(), Fail> {
-    assert_eq!(rt; stops_of_keeper(rt.alloc(), true, 20, 100), Stops::Ended);
+    assert_eq!(rt; stops_of_keeper(rt.alloc(), true, 20, 400), Stops::Ended);
     Ok(())
 }
 
 #[test]
 fn a_keeper_stopped_in_its_database_has_whole_calls(rt: HostRuntime) -> Result<(), Fail> {
-    assert_eq!(rt; stops_of_keeper(rt.alloc(), false, 0, 100), Stops::Ended);
+    assert_eq!(rt; stops_of_keeper(rt.alloc(), false, 0, 400), Stops::Ended);
     Ok(())
 }
 
@@ -231,12 +231,12 @@ fn a_vault_stopped_early_in_its_log_has_whole_calls(rt: HostRuntime) -> Result<(
 
 #[test]
 fn a_vault_stopped_late_in_its_log_has_whole_calls(rt: HostRuntime) -> Result<(), Fail> {
-    assert_eq!(rt; stops_of_vault(rt.alloc(), true, 20, 100), Stops::Ended);
+    assert_eq!(rt; stops_of_vault(rt.alloc(), true, 20, 400), Stops::Ended);
     Ok(())
 }
 
 #[test]
 fn a_vault_stopped_in_its_database_has_whole_calls(rt: HostRuntime) -> Result<(), Fail> {
-    assert_eq!(rt; stops_of_vault(rt.alloc(), false, 0, 100), Stops::Ended);
+    assert_eq!(rt; stops_of_vault(rt.alloc(), false, 0, 400), Stops::Ended);
     Ok(())
 }

@@ -4,11 +4,11 @@ use sqlite::{Connection, FileStore, Files, Options};
 use sqlite_disk::{Crash, Disk, Fuse, Memory};
 use std::alloc::Global;
 
-/// A small cache, since each open makes it anew.
+/// A small cache, since each open makes it anew, and a log that is copied into the database before nearly each change.
 const OPTIONS: Options = Options {
     cache_pages: 16,
     spill_pages: 2000,
-    checkpoint_frames: 1000,
+    checkpoint_frames: 2,
     seed: 7,
 };
 
