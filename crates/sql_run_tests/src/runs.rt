@@ -15,7 +15,8 @@ use std::process::Abort;
 use std::sync::Wait;
 use std::thread::Threads;
 
-/// What is run: the words, the input, and what the one link that comes gives, if one comes. And how the run has to end.
+/// What is run: the words, the input, and what the one link that comes gives, if one comes; and the status and the text with which
+/// it has to end.
 #[derive(Clone, Copy)]
 pub struct Scene {
     pub words: &'static str,
@@ -106,11 +107,12 @@ fn is_right<P, V>(ran: &Ran<P, V>, scene: &Scene) -> bool {
     ran.status == scene.status && ran.outside.sink.octets() == scene.printed.as_bytes()
 }
 
-/// A keeper in memory with no row, and a vault in memory with no fix.
+/// A keeper in memory that has nothing.
 pub fn new_keeper(alloc: Global) -> MemKeeper {
     MemKeeper::new(alloc, ROW_LIMIT, Seq::new(alloc))
 }
 
+/// A vault in memory that has nothing.
 pub fn new_vault(alloc: Global) -> MemVault {
     MemVault::new(alloc, FIX_LIMIT, Seq::new(alloc))
 }
