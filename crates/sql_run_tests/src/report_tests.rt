@@ -29,7 +29,12 @@ type Terminal = (
 const RUNS: [Terminal; 5] = [
     (FIX, None, Status::Unsent, "try 1 dial\naccepted=0 of 1\n"),
     ("", None, Status::Unsent, "try 1 dial\naccepted=0 of 1\n"),
-    ("", Some(&[]), Status::Unsent, "try 1 end\naccepted=0 of 1\n"),
+    (
+        "",
+        Some(&[]),
+        Status::Unsent,
+        "try 1 end\naccepted=0 of 1\n",
+    ),
     ("", Some(&[ANSWERS]), Status::Done, "accepted=1 of 1\n"),
     ("", None, Status::Done, "accepted=1 of 1\n"),
 ];
