@@ -1,5 +1,8 @@
 //! Files in memory that stop at some call.
 
+ghost use Rattle.std.specs.Prelude.{IsTrue};
+ghost use Rattle.sqlite_disk.specs.Memory.{memory_is_usable};
+
 use sqlite::{Connection, FileStore, Files, Options};
 use sqlite_disk::{Crash, Disk, Fuse, Memory};
 use std::alloc::Global;
@@ -79,13 +82,15 @@ fn written(alloc: Global, file: &Stopping) -> Option<Stopping> {
     Some(copy)
 }
 
-// A file with all that was written to this one, which fails after so many calls. It lacks some of it where memory was refused.
-fn limited(alloc: Global, file: &Stopping, calls: u64) -> Stopping {
+// A file with all that was written to this one, and nothing more to be synced. It lacks some of it where memory was refused.
+fn copied(alloc: Global, file: &Stopping) -> Memory
+    ensures { IsTrue (memory_is_usable result) }
+{
     let mut copy = Memory::new(alloc);
     let _ = copy.write_at(0, file.inner().bytes());
     let _ = copy.sync();
     copy.crash();
-    Fuse::new(copy, calls)
+    copy
 }
 
 /// Opens copies of files, of which the log fails after so many calls and the database after so many. Where that is refused
@@ -97,8 +102,8 @@ pub fn open_again(
     db_calls: u64,
 ) -> Result<Connection<FileStore<Stopping>>, Files<Stopping>> {
     let copies = Files {
-        log: limited(alloc, &files.log, log_calls),
-        db: limited(alloc, &files.db, db_calls),
+        log: Fuse::new(copied(alloc, &files.log), log_calls),
+        db: Fuse::new(copied(alloc, &files.db), db_calls),
     };
     match Connection::open_files(alloc, copies, OPTIONS) {
         Ok(connection) => Ok(connection),
