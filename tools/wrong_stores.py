@@ -5,8 +5,9 @@ sql_tests has to fail at each.
     tools/wrong_stores.py [NAME..]
 
 It copies the crates that the tests stand on into a temporary folder, changes one line of jt_sql, and runs `rt try --test` in
-sql_tests there (some minutes each). First it runs the tests as they are, which have to pass. The status is 0 only where each
-wrong body fails a test.
+sql_tests there (some three minutes of one processor each), over the tests of what the tables hold: those of stops and of other
+files take longer, and are left out. First it runs these tests over the stores as they are, where they have to pass. The status
+is 0 only where each wrong body fails a test.
 """
 import os
 import re
@@ -17,6 +18,7 @@ import tempfile
 
 ROOT = os.path.dirname(os.path.dirname(os.path.realpath(__file__)))
 CRATES = ("jt_value", "jt_layout", "jt_position", "jt_store", "jt_sql", "sql_tests")
+MODULES = ("files", "keeper_calls", "keeper_tests", "vault_calls", "vault_tests")
 # The file of jt_sql, what stands there once, and what is put in its place.
 WRONG = {
     "two rows in place of one": (
@@ -51,6 +53,13 @@ def copied(to):
     for it in CRATES:
         shutil.copytree(f"{ROOT}/crates/{it}", f"{to}/crates/{it}", ignore=shutil.ignore_patterns("out"))
     shutil.copyfile(f"{ROOT}/HANDLES", f"{to}/HANDLES")
+    tests = f"{to}/crates/sql_tests/src"
+    for it in os.listdir(tests):
+        if it.removesuffix(".rt") not in MODULES:
+            os.remove(f"{tests}/{it}")
+    with open(f"{tests}/lib.rt", "w") as file:
+        file.write("//! Tests of what the tables hold.\n#![tactic(auto)]\n\n")
+        file.writelines(f"#[cfg(test)]\nmod {it};\n" for it in MODULES)
 
 
 def tried(root):
