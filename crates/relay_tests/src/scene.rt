@@ -1,5 +1,8 @@
 //! The stores that a relay is run over.
 
+ghost use Rattle.std.specs.Prelude.{◌≤◌};
+ghost use Rattle.jt_value.specs.declared.limits.TheConstants.{FIX_LIMIT};
+
 use crate::rows::{PHONE, Put, put_rows};
 use jt_input::Status;
 use jt_outside::MemSink;
@@ -32,7 +35,9 @@ impl Scene {
         limit: u64,
         keeper_call: u64,
         vault_call: u64,
-    ) -> Result<Scene, StoreError> {
+    ) -> Result<Scene, StoreError>
+        requires { limit ≤ FIX_LIMIT }
+    {
         let mut keeper = MemKeeper::new(alloc, 9, calls(alloc, keeper_call)?);
         put_rows(alloc, &mut keeper, rows)?;
         let vault = MemVault::new(alloc, limit, calls(alloc, vault_call)?);
