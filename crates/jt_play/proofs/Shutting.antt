@@ -111,6 +111,7 @@ module _ (law : HistoriesTell) (same : (key : List ℕ) → same_key key key ≡
     numbers = λ place lt. ap (λ (n : Numbered). n.number) (shut_at lines place (within place lt)) ∙ running.numbers place (within place lt);
     alone_is = alone_again law same t hub lines running own hub.keeper at;
     unclosed = λ place lt is_open. absurd (gone place lt is_open);
+    unopened = λ session lt. refl;
     reserved = λ place lt is_open. absurd (gone place lt is_open);
     limit = running.limit;
   }
