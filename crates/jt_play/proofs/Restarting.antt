@@ -55,6 +55,7 @@ module _ (law : StartIsARestart) (t now : TerminalValue Stock) (hub : HubValue K
     numbers = running.numbers;
     alone_is = subst (λ (key : List ℕ). tables_of hub.start ≡ alone key (shelf_in hub.start key)) (sym (ap (λ (s : State). key_of s.settings.phone) st.state ∙ own)) running.alone_is;
     unclosed = running.unclosed;
+    unopened = running.unopened;
     reserved = running.reserved;
     limit = limit ∙ running.limit;
   }
