@@ -267,12 +267,15 @@ def write(asked, positions):
 
 
 def main():
-    asked = words()
+    asked, unread = words(), 0
     try:
         if is_locked(asked.file):
             print(f"positions: a platform has {asked.file} open; this reads a copy of it and its log", file=sys.stderr)
         positions, unread = read(asked.file, asked.phone)
         write(asked, positions)
+        sys.stdout.flush()
+    except BrokenPipeError:
+        os.dup2(os.open(os.devnull, os.O_WRONLY), 1)
     except (OSError, sqlite3.Error, Unread) as why:
         print(f"positions: {asked.file}: {why}", file=sys.stderr)
         return 2
