@@ -2,7 +2,7 @@
 use Rattle.std.proofs.Common.{ℕ, zero, suc, ◌+◌, ◌<◌, ◌≤◌, ◌≡◌, ◌≢◌, List, [], ◌∷◌, ◌++◌, length, take, map, set, get_or, reverse, Option, Some, None, Bool, true, false, arith, refl, ap, sym, ◌∙◌, subst}
 use Rattle.std.specs.List.{flat_map}
 use Rattle.std.specs.Option.{option_to_list, option_map}
-use Rattle.std.specs.Prelude.{◌&&◌, ◌^◌, is_some}
+use Rattle.std.specs.Prelude.{◌&&◌, ◌||◌, ◌^◌, is_some}
 use Rattle.std.proofs.lemmas.Bool.{true≢false, lt-ltb}
 use Rattle.std.proofs.lemmas.List.{length-set, length_push, map-append, reverse-append, get_or_read}
 use Rattle.std.proofs.Math.Seq.{take-append_seam}
@@ -32,7 +32,7 @@ use Rattle.jt_octets.specs.Reaching.{Leads}
 use Rattle.jt_octets.proofs.Views.{StreamLaws}
 use Rattle.jt_octets.proofs.Exact.{Behind, one_behind, partial_on}
 use Rattle.jt_play.specs.declared.world.Told.{Told}
-use Rattle.jt_play.specs.Playing.{Play, behind_first, done, has_left, heard_in, reads_one, takes_first}
+use Rattle.jt_play.specs.Playing.{Play, behind_first, done, has_left, heard_in, moves, reads_one, takes_first}
 use Rattle.jt_play.specs.Holding.{IsHearing, IsRunning, Hears, Numbered, blank, heard_on, lines_in, noted_at, play_of, shelf_in, taken_on, told_of, wrote_all, wrote_last}
 use Rattle.jt_play.proofs.Rounds.{May, behind_frames, heard_next, machine_next, newest_set}
 use Rattle.jt_play.proofs.Upward.{grown, octet_of}
@@ -371,3 +371,10 @@ module _ (t : TerminalValue Stock) (hub : HubValue KeeperState) (lines : List Nu
 pub hears_on : (hears_now : Bool) (ears ears_now : LineValue) (seen : List ℕ) (octet : ℕ) (seen_now : List ℕ) → (hears_now ≡ true → StandsForLine ears_now (seen ++ octet ∷ [])) → IsHearing ears seen → ears_now.stream.place ≤ ears.stream.place + 1 → seen_now ≡ seen ++ octet ∷ [] → Hears hears_now ears_now seen_now
 hears_on hears_now ears ears_now seen octet seen_now stands was place is hearing =
     subst (IsHearing ears_now) (sym is) (record { stands = stands hearing; place = let e = was.place in let n = length_push seen octet in omega (arith, place, e, n) })
+
+-- ---- whether an octet moves
+
+pub moves_line : (p : Play) (place : ℕ) (line : Line) → length p.world.lines ≡ place + 1 → line_at p.world.lines place ≡ line → p.world.terminal.using ≡ true → moves p ≡ ((line.is_open && has_left line.up) || has_left line.down)
+moves_line p place line last at in_use =
+    ap (λ (b : Bool). b && (((newest p.world).is_open && has_left (newest p.world).up) || has_left (newest p.world).down)) in_use
+    ∙ ap (λ (l : Line). (l.is_open && has_left l.up) || has_left l.down) (ap (line_at p.world.lines) (newest_at p.world.lines place last) ∙ at)
