@@ -1,13 +1,13 @@
 -- Where nothing has happened.
-use Rattle.std.proofs.Common.{ℕ, zero, suc, ◌+◌, ◌<◌, ◌≤◌, ◌≡◌, List, [], ◌∷◌, length, drop, Option, Some, None, Bool, true, false, arith, refl, ap, sym, ◌∙◌, subst}
+use Rattle.std.proofs.Common.{ℕ, ◌≤◌, ◌≡◌, List, [], Option, Some, None, Bool, true, false, arith, refl, ap, sym, ◌∙◌, subst}
 use Rattle.std.specs.Prelude.{if◌then◌else◌}
 use Rattle.std.proofs.lemmas.List.Elements.{All-nil}
 use Rattle.jt_position.specs.Fixes.{IsFix}
 use Rattle.jt_params.specs.Tables.{HasOctets}
 use Rattle.jt_value.specs.Sameness.{key_of, same_key}
 use Rattle.jt_value.specs.declared.limits.TheConstants.{FIX_LIMIT, ROW_LIMIT}
-use Rattle.jt_store.specs.Memory.{KeeperState, Stock, list_under, tables_of, under}
-use Rattle.jt_store.specs.Verdicts.{Shelf, alone}
+use Rattle.jt_store.specs.Memory.{KeeperState, Stock, tables_of}
+use Rattle.jt_store.specs.Verdicts.{alone}
 use Rattle.jt_store.specs.Vaults.{Held, IsLoaded}
 use Rattle.jt_store.specs.declared.row.Registered.{Registered}
 use Rattle.jt_store.specs.declared.row.Row.{Row}
@@ -25,8 +25,8 @@ use Rattle.jt_terminal_rule.specs.Rule.{start_state}
 use Rattle.jt_terminal_rule.specs.Machines.{machine_of}
 use Rattle.jt_terminal_steps.specs.Running.{IsSound, IsStarted, TerminalValue}
 use Rattle.jt_delivery.specs.World.{Setting}
-use Rattle.jt_octets.specs.World.{World, empty}
-use Rattle.jt_octets.specs.Reaching.{Leads, Reached}
+use Rattle.jt_octets.specs.World.{empty}
+use Rattle.jt_octets.specs.Reaching.{Reached}
 use Rattle.jt_play.specs.Holding.{IsClock, IsNewHub, IsNewTerminal, IsRunning, Numbered, past_of, play_of, shelf_in, told_of}
 use Rattle.jt_play.specs.declared.world.Told.{Told}
 use Rattle.jt_play.specs.Laws.{first_play}

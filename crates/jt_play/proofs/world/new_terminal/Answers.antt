@@ -1,4 +1,4 @@
-use Rattle.std.proofs.Common.{◌≡◌, ap}
+use Rattle.std.proofs.Common.{ap}
 use Rattle.jt_store.specs.Memory.{Stock}
 use Rattle.jt_play.proofs.Starting.{is_new, is_sound}
 use Rattle.jt_play.proofs.world.new_terminal.Goals as goal

@@ -1,9 +1,9 @@
-use Rattle.std.proofs.Common.{◌≡◌, ap, sym, subst}
+use Rattle.std.proofs.Common.{sym, subst}
 use Rattle.std.proofs.lemmas.Bool.{false≢true}
 use Rattle.jt_value.specs.declared.limits.TheConstants.{ROW_LIMIT}
 use Rattle.jt_octets.specs.Reaching.{Reached}
 use Rattle.jt_terminal_rule.specs.declared.settings.Settings.{Settings}
-use Rattle.jt_play.specs.Holding.{IsNewTerminal, IsRunning}
+use Rattle.jt_play.specs.Holding.{IsNewTerminal}
 use Rattle.jt_play.specs.Playing.{Play}
 use Rattle.jt_play.proofs.Starting.{first_reached, new_clock, new_is, new_running}
 use Rattle.jt_play.proofs.world.World.new.Goals as goal
