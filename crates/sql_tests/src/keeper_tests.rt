@@ -1,4 +1,4 @@
-use crate::files::fresh;
+use crate::files::{make_folder, remove_folder};
 use crate::keeper_calls::{Call, Said, first_wrong};
 use jt_sql::SqlKeeper;
 use jt_store::{MemKeeper, StoreError};
@@ -83,12 +83,14 @@ fn a_keeper_in_memory_answers_so(rt: HostRuntime) -> Result<(), Fail> {
 #[test]
 fn a_keeper_in_a_file_answers_the_same(rt: HostRuntime) -> Result<(), Fail> {
     let alloc = rt.alloc();
-    fresh(&rt, "keeper_test")?;
+    make_folder(&rt, "keeper_test")?;
     let mut keeper = SqlKeeper::at(rt.clone()?, "keeper_test/a.db").expect(&rt, "memory");
     assert_eq!(rt; first_wrong(alloc, &mut keeper, &STORY), None);
     drop(keeper);
     let mut again = SqlKeeper::at(rt.clone()?, "keeper_test/a.db").expect(&rt, "memory");
     assert_eq!(rt; first_wrong(alloc, &mut again, &AFTER), None);
+    drop(again);
+    remove_folder(&rt, "keeper_test")?;
     Ok(())
 }
 

@@ -8,6 +8,10 @@ mod keeper_calls;
 #[cfg(test)]
 mod keeper_tests;
 #[cfg(test)]
+mod limit_tests;
+#[cfg(test)]
+mod migration_tests;
+#[cfg(test)]
 mod stop_tests;
 #[cfg(test)]
 mod stopped_files;

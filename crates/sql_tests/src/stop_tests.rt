@@ -1,4 +1,6 @@
-use crate::stopped_files::{Stopping, files_of, open_new, open_synced, open_written};
+use crate::stopped_files::{
+    Stopping, Stops, files_of, limits, open_new, open_synced, open_written,
+};
 use crate::{keeper_calls, vault_calls};
 use jt_sql::{AdoptedKeeper, AdoptedVault, SqlKeeper, SqlVault};
 use jt_store::{MemKeeper, MemVault};
@@ -38,17 +40,6 @@ const HELD: [vault_calls::Call; 5] = [
 ];
 
 const HELD_LOOKS: [vault_calls::Call; 2] = [vault_calls::Call::Load, vault_calls::Call::Oldest];
-
-// What stops after each number of calls in a range leave.
-#[derive(Clone, Copy, Debug, PartialEq, Eq)]
-enum Stops {
-    /// After so many calls on a file the tables are not those after some whole calls of the store.
-    Torn(u64),
-    /// The tables are those after whole calls, and no number was enough for all of them.
-    Whole,
-    /// The same, and some number was enough for all of them.
-    Ended,
-}
 
 type Keeping = AdoptedKeeper<Connection<FileStore<Stopping>>>;
 
@@ -185,15 +176,6 @@ fn vault_stops(alloc: Global, log_calls: u64, db_calls: u64) -> (usize, bool) {
     )
 }
 
-// How many calls the two files take before they fail, where one of them fails after so many.
-fn limits(in_log: bool, calls: u64) -> (u64, u64) {
-    if in_log {
-        (calls, u64::MAX)
-    } else {
-        (u64::MAX, calls)
-    }
-}
-
 // What a keeper has that stops after each number of calls in a range, up to one that is enough for all.
 fn stops_of_keeper(alloc: Global, in_log: bool, from: u64, to: u64) -> Stops {
     for calls in from..to {
@@ -231,13 +213,13 @@ fn a_keeper_stopped_early_in_its_log_has_whole_calls(rt: HostRuntime) -> Result<
 
 #[test]
 fn a_keeper_stopped_late_in_its_log_has_whole_calls(rt: HostRuntime) -> Result<(), Fail> {
-    assert_eq!(rt; stops_of_keeper(rt.alloc(), true, 20, 100), Stops::Ended);
+    assert_eq!(rt; stops_of_keeper(rt.alloc(), true, 20, 400), Stops::Ended);
     Ok(())
 }
 
 #[test]
 fn a_keeper_stopped_in_its_database_has_whole_calls(rt: HostRuntime) -> Result<(), Fail> {
-    assert_eq!(rt; stops_of_keeper(rt.alloc(), false, 0, 100), Stops::Ended);
+    assert_eq!(rt; stops_of_keeper(rt.alloc(), false, 0, 400), Stops::Ended);
     Ok(())
 }
 
@@ -249,12 +231,12 @@ fn a_vault_stopped_early_in_its_log_has_whole_calls(rt: HostRuntime) -> Result<(
 
 #[test]
 fn a_vault_stopped_late_in_its_log_has_whole_calls(rt: HostRuntime) -> Result<(), Fail> {
-    assert_eq!(rt; stops_of_vault(rt.alloc(), true, 20, 100), Stops::Ended);
+    assert_eq!(rt; stops_of_vault(rt.alloc(), true, 20, 400), Stops::Ended);
     Ok(())
 }
 
 #[test]
 fn a_vault_stopped_in_its_database_has_whole_calls(rt: HostRuntime) -> Result<(), Fail> {
-    assert_eq!(rt; stops_of_vault(rt.alloc(), false, 0, 100), Stops::Ended);
+    assert_eq!(rt; stops_of_vault(rt.alloc(), false, 0, 400), Stops::Ended);
     Ok(())
 }

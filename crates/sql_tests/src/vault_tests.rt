@@ -1,4 +1,4 @@
-use crate::files::fresh;
+use crate::files::{make_folder, remove_folder};
 use crate::vault_calls::{Call, Said, first_wrong};
 use jt_sql::SqlVault;
 use jt_store::MemVault;
@@ -49,12 +49,14 @@ fn a_vault_in_memory_answers_so(rt: HostRuntime) -> Result<(), Fail> {
 #[test]
 fn a_vault_in_a_file_answers_the_same(rt: HostRuntime) -> Result<(), Fail> {
     let alloc = rt.alloc();
-    fresh(&rt, "vault_test")?;
+    make_folder(&rt, "vault_test")?;
     let mut vault = SqlVault::at(rt.clone()?, "vault_test/a.db").expect(&rt, "memory");
     assert_eq!(rt; first_wrong(alloc, &mut vault, &STORY), None);
     drop(vault);
     let mut again = SqlVault::at(rt.clone()?, "vault_test/a.db").expect(&rt, "memory");
     assert_eq!(rt; first_wrong(alloc, &mut again, &AFTER), None);
+    drop(again);
+    remove_folder(&rt, "vault_test")?;
     Ok(())
 }
 

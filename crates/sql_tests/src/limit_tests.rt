@@ -1,0 +1,46 @@
+use crate::keeper_calls::{Call, Said, first_wrong};
+use jt_sql::SqlKeeper;
+use jt_value::{Edition, Phone};
+use sqlite::Connection;
+use std::test::Fail;
+
+const PHONE: Phone = Phone {
+    edition: Edition::E2013,
+    digits: [0, 0, 0, 0, 0x01, 0x39, 0x12, 0x34, 0x56, 0x78],
+};
+
+const TABLES: &str = "CREATE TABLE meta (version INTEGER); \
+     INSERT INTO meta (version) VALUES (2); \
+     CREATE TABLE registered (phone BLOB PRIMARY KEY, plate BLOB UNIQUE, terminal BLOB UNIQUE); \
+     CREATE TABLE rows808 (phone BLOB, number INTEGER, id INTEGER, body BLOB, PRIMARY KEY (phone, number))";
+
+// Rows of a phone whose last number is as great as that of a full one: one row, and two whose keys are as far apart as those of a
+// full file.
+const ROWS: [&str; 2] = [
+    "INSERT INTO rows808 VALUES (x'00000000013912345678', 999999999, 512, x'07')",
+    "INSERT INTO rows808 (rowid, phone, number, id, body) VALUES (1, x'00000000013912345678', 2, 512, x'06'); \
+     INSERT INTO rows808 (rowid, phone, number, id, body) VALUES (2000000000, x'00000000013912345678', 999999999, 512, x'07')",
+];
+
+const CALLS: [(Call, Said); 4] = [
+    (Call::Last(PHONE), Said::Number(999_999_999)),
+    (Call::Append(PHONE, 1_000_000_000, 8), Said::Done),
+    (Call::Append(PHONE, 1_000_000_001, 9), Said::Done),
+    (
+        Call::From(PHONE, 1_000_000_001),
+        Said::Row(1_000_000_001, 9),
+    ),
+];
+
+#[test]
+fn a_phone_with_great_numbers_and_few_rows_is_not_full(rt: HostRuntime) -> Result<(), Fail> {
+    let alloc = rt.alloc();
+    for rows in ROWS {
+        let mut connection = Connection::open_in_memory(alloc)?;
+        connection.execute_batch(TABLES)?;
+        connection.execute_batch(rows)?;
+        let mut keeper = SqlKeeper::over(connection);
+        assert_eq!(rt; first_wrong(alloc, &mut keeper, &CALLS), None);
+    }
+    Ok(())
+}
