@@ -18,9 +18,9 @@ use std::{io, thread, time};
 const WAIT: u64 = 1;
 
 // How long a write of them waits for the other end to read, in seconds, and how often (this project's own).
-const WRITE_WAIT: u64 = 10;
+const WRITE_WAIT: u64 = 5;
 
-const WRITE_WAITS: u32 = 3;
+const WRITE_WAITS: u32 = 6;
 
 // How long a connection to one address may take to come about, in seconds (this project's own).
 const CONNECT_WAIT: u64 = 30;

@@ -20,9 +20,9 @@ use std::{io, thread, time};
 const WAIT: u64 = 60;
 
 // How long a write of them waits for the other end to read, in seconds, and how often (this project's own).
-const WRITE_WAIT: u64 = 10;
+const WRITE_WAIT: u64 = 5;
 
-const WRITE_WAITS: u32 = 6;
+const WRITE_WAITS: u32 = 12;
 
 // How many connections the system keeps for the accepts to come (this project's own; it may keep fewer).
 const BACKLOG: i32 = 4_096;
