@@ -17,7 +17,7 @@ use Rattle.jt_terminal_rule.specs.declared.state.State.{State}
 use Rattle.jt_terminal_rule.specs.declared.state.Event.TheVariants.{Opened, Tick, Lost}
 use Rattle.jt_terminal_rule.specs.declared.state.GiveUp.TheVariants as give_up
 use Rattle.jt_terminal_rule.specs.Rule.{Step, Ruled, rule, sends}
-use Rattle.jt_terminal_steps.specs.AfterError.{AreSameTables, AllTablesOrNone, CutLists, lists_of}
+use Rattle.jt_terminal_steps.specs.AfterError.{AreSameTables, CutLists, lists_of}
 use Rattle.jt_terminal_steps.specs.Running.{holds_after, CutShort, IsDown}
 use Rattle.jt_terminal.specs.Line.{LineValue, StandsForLine, rule_at_octets}
 use Rattle.jt_agent.specs.Course.{Move, Ticks, Opens, Reads, Waits, Course, course, made, goes_on, due, kind, Due, ATick, AnOpening, ARead, IsPiece, IsAtRead, IsTold, moments_of, waits_of, octets_of, said_octets, Stop, Finished, GaveUp}
@@ -553,17 +553,13 @@ cause_after octets quiets moves old now state held faults Memory later cause = c
 same_tables : (old state : State) → AreSameTables old state → AreSameTables old (rule state Lost).state
 same_tables old state same = record { timing = same.timing; params = same.params; regions = same.regions }
 
-tables_after : (old ruled state : State) → AllTablesOrNone old ruled state → AllTablesOrNone old ruled (rule state Lost).state
-tables_after old ruled state (inl same) = inl (same_tables old state same)
-tables_after old ruled state (inr same) = inr (same_tables ruled state same)
-
 left_after : (s : State) (read : List ℕ) (move : Move) (state : State) → LeavesAt s read move state → LeavesAt s read move (rule state Lost).state
-left_after s read (Ticks moment) state left = record { time = left.time; last = left.last; tables = tables_after s (rule s (Tick moment)).state state left.tables }
-left_after s read Opens state left = record { time = left.time; last = left.last; tables = tables_after s (rule s Opened).state state left.tables }
+left_after s read (Ticks moment) state left = record { time = left.time; last = left.last; tables = same_tables s state left.tables }
+left_after s read Opens state left = record { time = left.time; last = left.last; tables = same_tables s state left.tables }
 left_after s read (Reads octets) state left = record {
   time = left.time;
   last = left.last;
-  tables = record { front = left.tables.front; back = left.tables.back; parts = left.tables.parts; tables = same_tables _ state left.tables.tables };
+  tables = record { front = left.tables.front; failed = left.tables.failed; back = left.tables.back; parts = left.tables.parts; tables = same_tables _ state left.tables.tables };
 }
 left_after s read Waits state left = left
 

@@ -8,10 +8,10 @@ use Rattle.jt_outside.specs.Link.{Wire, Gives}
 use Rattle.jt_outside.specs.Time.{Time, TellsAll}
 use Rattle.jt_store.specs.Vaults.{Held}
 use Rattle.jt_terminal_rule.specs.declared.state.State.{State}
-use Rattle.jt_terminal_rule.specs.declared.state.Event.TheVariants.{Opened, Tick, Lost}
+use Rattle.jt_terminal_rule.specs.declared.state.Event.TheVariants.{Lost}
 use Rattle.jt_terminal_rule.specs.declared.state.GiveUp.TheVariants as give_up
 use Rattle.jt_terminal_rule.specs.Rule.{rule}
-use Rattle.jt_terminal_steps.specs.AfterError.{AllTablesOrNone, CutLists, lists_of}
+use Rattle.jt_terminal_steps.specs.AfterError.{AreSameTables, CutLists, lists_of}
 use Rattle.jt_terminal_steps.specs.Running.{holds_after, CutShort, IsDown}
 use Rattle.jt_terminal.specs.Line.{TablesOfFirst, new_items, partial_of}
 use Rattle.jt_agent.specs.Course.{Move, Ticks, Opens, Reads, Waits, course, made, Fits, IsAtRead, IsTold, moments_of, waits_of, said_octets, before_last, Finished, GaveUp}
@@ -82,11 +82,11 @@ pub record Leaves (s : State) (moment : ℕ) (Tables : State → Type 0) (after 
   pub last : after.last ≡ s.last
   pub tables : Tables after
 
--- The time is that of the latest moment, this one included. Times, parameters and regions are all as they were, or all those that the rule
--- makes; at octets they are those that it makes of some first items, perhaps of none and perhaps of all. A quiet read is never cut short.
+-- The time is that of the latest moment, this one included. Times, parameters and regions are as they were; at octets they are those that the
+-- rule has before some item, which failed and left nothing of its own in them. A quiet read is never cut short.
 abbrev pub LeavesAt : State → List ℕ → Move → State → Type 0
-LeavesAt s read (Ticks moment) after = Leaves s moment (AllTablesOrNone s (rule s (Tick moment)).state) after
-LeavesAt s read Opens after = Leaves s s.time (AllTablesOrNone s (rule s Opened).state) after
+LeavesAt s read (Ticks moment) after = Leaves s moment (AreSameTables s) after
+LeavesAt s read Opens after = Leaves s s.time (AreSameTables s) after
 LeavesAt s read (Reads octets) after = Leaves s s.time (TablesOfFirst s (partial_of read) (new_items read octets)) after
 LeavesAt s read Waits after = ⊥
 

@@ -14,7 +14,7 @@ use Rattle.jt_terminal_rule.specs.declared.state.Event.TheVariants.{Tick}
 use Rattle.jt_terminal_rule.specs.declared.state.GiveUp.{GiveUp}
 use Rattle.jt_terminal_rule.specs.declared.state.GiveUp.TheVariants as give_up
 use Rattle.jt_terminal_rule.specs.Rule.{Ruled, rule}
-use Rattle.jt_terminal_steps.specs.AfterError.{AllTablesOrNone, CutLists, lists_of}
+use Rattle.jt_terminal_steps.specs.AfterError.{AreSameTables, CutLists, lists_of}
 use Rattle.jt_terminal_steps.specs.Running.{holds_after, time_after, CutShort, IsDown}
 use Rattle.jt_terminal.specs.Line.{LineValue, StandsForLine}
 use Rattle.jt_agent.specs.Course.{Move, Ticks, Opens, Reads, Waits, Course, course, due, Due, ARead, IsPiece, Stop, Finished, GaveUp, stop_of, is_done, octets_of}
@@ -43,7 +43,7 @@ pub record DidRule (r : Ruled) (state : State) (old now : Option Held) : Type 0 
 
 -- an event that was cut short left time, last fix and tables so
 abbrev pub LeavesEvent : State → Event → State → Type 0
-LeavesEvent s event after = Leaves s (time_after s event) (AllTablesOrNone s (rule s event).state) after
+LeavesEvent s event after = Leaves s (time_after s event) (AreSameTables s) after
 
 -- a rule was cut short, the state is one of these, and nothing was written
 pub record CutRule (r : Ruled) (Left : State → Type 0) (old now : AtLink) : Type 0 where

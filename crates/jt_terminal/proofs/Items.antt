@@ -1,5 +1,5 @@
 -- Items one after another: what the terminal does at them, and what is left of them.
-use Rattle.std.proofs.Common.{◌≡◌, ◌<◌, ℕ, List, [], ◌∷◌, ◌++◌, length, drop, map, Option, Some, None, Result, Ok, Err, OnOk, inl, inr, refl, sym, ap, ◌∙◌, subst, append_assoc}
+use Rattle.std.proofs.Common.{◌≡◌, ◌<◌, ℕ, List, [], ◌∷◌, ◌++◌, length, drop, map, Option, Some, None, Result, Ok, Err, OnOk, refl, sym, ap, ◌∙◌, subst, append_assoc}
 use Rattle.std.specs.Prelude.{IfOk}
 use Rattle.std.specs.Option.{option_to_list}
 use Rattle.std.proofs.lemmas.List.{append-nil, map-append}
@@ -19,7 +19,7 @@ use Rattle.jt_subpacket.specs.Partials.{Partial}
 use Rattle.jt_terminal_rule.specs.declared.state.State.{State}
 use Rattle.jt_terminal_rule.specs.declared.state.GiveUp.{GiveUp}
 use Rattle.jt_terminal_rule.specs.Rule.{Heard, Step, Ruled, and_then, stays}
-use Rattle.jt_terminal_steps.specs.AfterError.{AllTablesOrNone, AreSameTables, CutLists, Lists, lists_of}
+use Rattle.jt_terminal_steps.specs.AfterError.{AreSameTables, CutLists, Lists, lists_of}
 use Rattle.jt_terminal_steps.specs.Running.{CutShort, Ran}
 use Rattle.jt_terminal.specs.Line.{StandsForLine, TablesOfFirst, rule_at_octets, rule_at_items, then_unless_over, then_unless, rule_at, kept_behind, kept_by, more_unless, new_items, of_item, partial_of, places_at_octets, places_at_items, place_at}
 use Rattle.jt_terminal.specs.Feeding.{Brings, HasFed, HasFedFront, Scene, WasCut, message_at, scene}
@@ -226,17 +226,11 @@ fed_frame old now octets item end brings partial ran stream_items small fits =
       lists = subst (HasItsLists old.state) (sym (single r)) (lists_hears old.state (of_item old.partial item) small fits);
     }
 
-tables_of_one : (s : State) (partial : List Partial) (item : Unplaced) (now : State) → AllTablesOrNone s (rule_at s (of_item partial item)).state now → TablesOfFirst s partial (item ∷ []) now
-tables_of_one s partial item now (inl same) = record { front = []; back = item ∷ []; parts = refl; tables = same }
-tables_of_one s partial item now (inr same) = record {
-  front = item ∷ [];
-  back = [];
-  parts = refl;
-  tables = subst (λ (x : Ruled). AreSameTables x.state now) (sym (single (rule_at s (of_item partial item)))) same;
-}
+tables_of_one : (s : State) (partial : List Partial) (item : Unplaced) (now : State) → AreSameTables s now → TablesOfFirst s partial (item ∷ []) now
+tables_of_one s partial item now same = record { front = []; failed = item; back = []; parts = refl; tables = same }
 
 pub cut_frame : (old : Scene) (stream : Splitting) (state : State) (held : Option Held) (octets front back : List ℕ) (item : Unplaced) → octets ≡ front ++ back → Brings old.stream stream front (item ∷ [])
-    → CutShort (rule_at old.state (of_item old.partial item)).steps old.held held → AllTablesOrNone old.state (rule_at old.state (of_item old.partial item)).state state
+    → CutShort (rule_at old.state (of_item old.partial item)).steps old.held held → AreSameTables old.state state
     → CutLists (rule_at old.state (of_item old.partial item)).steps (lists_of old.state) (lists_of state) → WasCut old stream state held octets
 cut_frame old stream state held octets front back item parts brings cut tables lists = record {
   front = front;
@@ -284,8 +278,9 @@ fed_then old mid now a b end are same one two =
 tables_then : (s : State) (partial : List Partial) (xs ys : List Unplaced) (now : State) → (rule_at_items s partial xs).end ≡ None → TablesOfFirst (rule_at_items s partial xs).state (kept_behind partial xs) ys now → TablesOfFirst s partial (xs ++ ys) now
 tables_then s partial xs ys now is t = record {
   front = xs ++ t.front;
+  failed = t.failed;
   back = t.back;
-  parts = ap (λ (l : List Unplaced). xs ++ l) t.parts ∙ sym (append_assoc xs t.front t.back);
+  parts = ap (λ (l : List Unplaced). xs ++ l) t.parts ∙ sym (append_assoc xs t.front (t.failed ∷ t.back));
   tables = subst (λ (r : Ruled). AreSameTables r.state now) (sym (fed_more s partial xs t.front is)) t.tables;
 }
 
@@ -386,8 +381,9 @@ fed_tables old stream state held octets seen has_front stands cut =
     let first = cut.tables in
     let here : TablesOfFirst old.state old.partial (new_items seen octets) state = record {
       front = first.front;
+      failed = first.failed;
       back = first.back ++ more.0;
-      parts = more.1 ∙ (ap (λ (l : List Unplaced). l ++ more.0) first.parts ∙ append_assoc first.front first.back more.0);
+      parts = more.1 ∙ (ap (λ (l : List Unplaced). l ++ more.0) first.parts ∙ append_assoc first.front (first.failed ∷ first.back) more.0);
       tables = first.tables;
     } in
     subst (λ (ps : List Partial). TablesOfFirst old.state ps (new_items seen octets) state) stands.partial here
@@ -405,7 +401,7 @@ cut_alike old stream s given now held octets is tables lists cut =
       gone = cut.gone;
       brings = cut.brings;
       cut = cut.cut;
-      tables = record { front = first.front; back = first.back; parts = first.parts; tables = subst (AreSameTables (rule_at_items old.state old.partial first.front).state) (sym is) still };
+      tables = record { front = first.front; failed = first.failed; back = first.back; parts = first.parts; tables = subst (AreSameTables (rule_at_items old.state old.partial first.front).state) (sym is) still };
       lists = record { done = cut.lists.done; left = cut.lists.left; parts = cut.lists.parts; lists = ap lists_of is ∙ (lists ∙ cut.lists.lists) };
     }
 

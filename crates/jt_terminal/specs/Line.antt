@@ -80,11 +80,12 @@ abbrev pub rule_at_items : State → List Partial → List Unplaced → Ruled
 rule_at_items s partial [] = stays s
 rule_at_items s partial (item ∷ items) = then_unless_over (rule_at s (of_item partial item)) (λ t. rule_at_items t (kept_by partial item) items)
 
--- times and tables are those that the rule has after some first ones of these items, perhaps after none and perhaps after all
+-- times and tables are those that the rule has before one of these items
 pub record TablesOfFirst (s : State) (partial : List Partial) (items : List Unplaced) (now : State) : Type 0 where
   pub front : List Unplaced
+  pub failed : Unplaced
   pub back : List Unplaced
-  pub parts : items ≡ front ++ back
+  pub parts : items ≡ front ++ failed ∷ back
   pub tables : AreSameTables (rule_at_items s partial front).state now
 
 -- the units whose acceptance it is told at them

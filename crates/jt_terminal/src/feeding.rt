@@ -10,7 +10,7 @@ ghost use Rattle.jt_terminal_rule.specs.Law.{response_heard};
 ghost use Rattle.jt_terminal_rule.specs.Rule as rule;
 ghost use Rattle.jt_terminal.specs.Feeding.{HasFed, HasFedFront, WasCut, message_at, scene};
 ghost use Rattle.jt_terminal.specs.Line as line;
-ghost use Rattle.jt_terminal_steps.specs.AfterError.{AllTablesOrNone, CutLists, lists_of};
+ghost use Rattle.jt_terminal_steps.specs.AfterError.{AreSameTables, CutLists, lists_of};
 ghost use Rattle.jt_terminal_steps.specs.Running.{CutShort, IsDown, IsSame, IsSound, Outside, Ran};
 
 use crate::telling::tell;
@@ -41,8 +41,7 @@ fn hear_read<V: Vault>(
         (V.holds vault.old) (V.holds vault.new) out.old out.new end) }
     ensures err { OnErr result (CutShort (rule.on_message state.old header.now message.now).steps
         (V.holds vault.old) (V.holds vault.new)) }
-    ensures tables { OnErr result (AllTablesOrNone state.old
-        (rule.on_message state.old header.now message.now).state state.new) }
+    ensures tables { OnErr result (AreSameTables state.old state.new) }
     ensures lists { OnErr result (CutLists (rule.on_message state.old header.now message.now).steps
         (lists_of state.old) (lists_of state.new)) }
     ensures unmoved { OnErr result (IsDown state.old → state.new ≡ state.old) }
@@ -74,8 +73,7 @@ fn hear_message<V: Vault>(
         (V.holds vault.old) (V.holds vault.new) out.old out.new end) }
     ensures err { OnErr result (CutShort (rule.on_message state.old header.now message).steps
         (V.holds vault.old) (V.holds vault.new)) }
-    ensures tables { OnErr result
-        (AllTablesOrNone state.old (rule.on_message state.old header.now message).state state.new) }
+    ensures tables { OnErr result (AreSameTables state.old state.new) }
     ensures lists { OnErr result (CutLists (rule.on_message state.old header.now message).steps
         (lists_of state.old) (lists_of state.new)) }
     ensures unmoved { OnErr result (IsDown state.old → state.new ≡ state.old) }
@@ -103,8 +101,7 @@ fn hear_refused<V: Vault>(
         (V.holds vault.old) (V.holds vault.new) out.old out.new end) }
     ensures err { OnErr result (CutShort (rule.on_hearing state.old (rule.Refused header.now)).steps
         (V.holds vault.old) (V.holds vault.new)) }
-    ensures tables { OnErr result (AllTablesOrNone state.old
-        (rule.on_hearing state.old (rule.Refused header.now)).state state.new) }
+    ensures tables { OnErr result (AreSameTables state.old state.new) }
     ensures lists { OnErr result
         (CutLists (rule.on_hearing state.old (rule.Refused header.now)).steps
         (lists_of state.old) (lists_of state.new)) }
@@ -136,8 +133,7 @@ fn hear_lack<V: Vault>(
     ensures err { OnErr result
         (CutShort (rule.on_hearing state.old (rule.Lacks header.now first numbers)).steps
         (V.holds vault.old) (V.holds vault.new)) }
-    ensures tables { OnErr result (AllTablesOrNone state.old
-        (rule.on_hearing state.old (rule.Lacks header.now first numbers)).state state.new) }
+    ensures tables { OnErr result (AreSameTables state.old state.new) }
     ensures lists { OnErr result
         (CutLists (rule.on_hearing state.old (rule.Lacks header.now first numbers)).steps
         (lists_of state.old) (lists_of state.new)) }
@@ -169,8 +165,7 @@ fn hear_body<V: Vault>(
     ensures err { OnErr result
         (CutShort (rule.on_hearing state.old (line.of_body header.now body.now)).steps
         (V.holds vault.old) (V.holds vault.new)) }
-    ensures tables { OnErr result (AllTablesOrNone state.old
-        (rule.on_hearing state.old (line.of_body header.now body.now)).state state.new) }
+    ensures tables { OnErr result (AreSameTables state.old state.new) }
     ensures lists { OnErr result
         (CutLists (rule.on_hearing state.old (line.of_body header.now body.now)).steps
         (lists_of state.old) (lists_of state.new)) }
@@ -208,8 +203,7 @@ fn hear_fate<V: Vault>(
     ensures err { OnErr result
         (CutShort (line.rule_at state.old (line.of_packet header.now fate)).steps
         (V.holds vault.old) (V.holds vault.new)) }
-    ensures tables { OnErr result (AllTablesOrNone state.old
-        (line.rule_at state.old (line.of_packet header.now fate)).state state.new) }
+    ensures tables { OnErr result (AreSameTables state.old state.new) }
     ensures lists { OnErr result
         (CutLists (line.rule_at state.old (line.of_packet header.now fate)).steps
         (lists_of state.old) (lists_of state.new)) }
@@ -255,9 +249,7 @@ fn hear_packet<V: Vault>(
     ensures err { OnErr result (CutShort (line.rule_at state.old
         (line.of_packet header.now (taken_by assembler.old header.now body.now).fate)).steps
         (V.holds vault.old) (V.holds vault.new)) }
-    ensures tables { OnErr result (AllTablesOrNone state.old (line.rule_at state.old
-        (line.of_packet header.now (taken_by assembler.old header.now body.now).fate)).state
-        state.new) }
+    ensures tables { OnErr result (AreSameTables state.old state.new) }
     ensures lists { OnErr result (CutLists (line.rule_at state.old
         (line.of_packet header.now (taken_by assembler.old header.now body.now).fate)).steps
         (lists_of state.old) (lists_of state.new)) }
@@ -295,8 +287,7 @@ fn hear_frame<V: Vault>(
     ensures err { OnErr result (CutShort (line.rule_at state.old
         (line.of_frame assembler.old header.now body.now header.now.packet)).steps
         (V.holds vault.old) (V.holds vault.new)) }
-    ensures tables { OnErr result (AllTablesOrNone state.old (line.rule_at state.old
-        (line.of_frame assembler.old header.now body.now header.now.packet)).state state.new) }
+    ensures tables { OnErr result (AreSameTables state.old state.new) }
     ensures lists { OnErr result (CutLists (line.rule_at state.old
         (line.of_frame assembler.old header.now body.now header.now.packet)).steps
         (lists_of state.old) (lists_of state.new)) }
@@ -334,8 +325,7 @@ fn hear_last<V: Vault>(
     ensures err { OnErr result (CutShort (line.rule_at state.old
         (line.of_item assembler.old (message_at stream.now.splitter.content))).steps
         (V.holds vault.old) (V.holds vault.new)) }
-    ensures tables { OnErr result (AllTablesOrNone state.old (line.rule_at state.old
-        (line.of_item assembler.old (message_at stream.now.splitter.content))).state state.new) }
+    ensures tables { OnErr result (AreSameTables state.old state.new) }
     ensures lists { OnErr result (CutLists (line.rule_at state.old
         (line.of_item assembler.old (message_at stream.now.splitter.content))).steps
         (lists_of state.old) (lists_of state.new)) }

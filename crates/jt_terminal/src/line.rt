@@ -54,8 +54,8 @@ impl TerminalLine {
     ///
     /// Store comes only where the vault's count of faults rose in this call. After an error the vault holds what some first
     /// changes of what the octets ask make of it, the terminal has no line, its units, fixes, serials and code are what some first
-    /// steps of that make of them, and its times and tables are those that the rule has after some first items of the octets. The
-    /// last fix stays.
+    /// steps of that make of them, and its times, parameters and regions are those that the rule has before some item of the
+    /// octets. The last fix stays.
     ///
     /// A terminal that gave up has no line. While it has none, octets change nothing of it and of what its vault holds, in error
     /// or not, and after Ok nothing is to be sent and nothing is told.

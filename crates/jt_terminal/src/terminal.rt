@@ -9,7 +9,7 @@ ghost use Rattle.jt_terminal_rule.specs.Machines.{is_up};
 ghost use Rattle.jt_terminal_rule.specs.Messages.{AreSettings};
 ghost use Rattle.jt_terminal_rule.specs.Rule as rule;
 ghost use Rattle.jt_terminal.specs.Feeding.{HasFedFront, WasCut, scene};
-ghost use Rattle.jt_terminal_steps.specs.AfterError.{AllTablesOrNone, AreSameParams, CutLists, lists_of, sets_params};
+ghost use Rattle.jt_terminal_steps.specs.AfterError.{AreSameParams, AreSameTables, CutLists, lists_of, sets_params};
 ghost use Rattle.jt_terminal_steps.specs.Running.{CountsAsVault, CutShort, IsDone, IsDown, IsEvent, IsRefused, IsSame, IsSound, IsStarted, Outside, Ran, TerminalValue, holds_after, time_after};
 ghost use Rattle.jt_terminal_steps.specs.declared.error.TerminalError.TheVariants.{Store};
 ghost use Rattle.jt_terminal_rule.specs.declared.state.Event.TheVariants.{Lost, Tick};
@@ -129,8 +129,7 @@ fn run_rule<V: Vault>(
     ensures time { state.new.time ≡ time_after state.old event.now }
     ensures last { state.new.last ≡ state.old.last }
     ensures params { sets_params event.now ≡ false → AreSameParams state.old state.new }
-    ensures tables { OnErr result
-        (AllTablesOrNone state.old (rule.rule state.old event.now).state state.new) }
+    ensures tables { OnErr result (AreSameTables state.old state.new) }
     ensures lists { OnErr result
         (CutLists (rule.rule state.old event.now).steps (lists_of state.old) (lists_of state.new)) }
     ensures lost { event.now ≡ Lost → IsOk result }
@@ -198,8 +197,7 @@ fn act<V: Vault>(
     ensures time { state.new.time ≡ time_after state.old event.now }
     ensures last { state.new.last ≡ state.old.last }
     ensures params { sets_params event.now ≡ false → AreSameParams state.old state.new }
-    ensures tables { OnErr result
-        (AllTablesOrNone state.old (rule.rule state.old event.now).state state.new) }
+    ensures tables { OnErr result (AreSameTables state.old state.new) }
     ensures lists { OnErr result
         (CutLists (rule.rule state.old event.now).steps (lists_of state.old) (lists_of state.new)) }
     ensures lost { event.now ≡ Lost → IsOk result }
@@ -390,8 +388,8 @@ impl<V: Vault> Terminal<V> {
     ///
     /// Store comes only where the vault's count of faults rose in this call. After an error the vault holds what some first
     /// changes of the event make of it, and the terminal has no line and agrees with its vault: units, fixes, serials and code
-    /// are what some first steps of the event make of them, and times and tables are all as before or all the rule's. The last
-    /// fix stays at each event. At Lost there is no error.
+    /// are what some first steps of the event make of them, and times, parameters and regions are as before. The last fix stays at
+    /// each event. At Lost there is no error.
     pub fn event(&mut self, alloc: Global, event: Event) -> Result<Actions, TerminalError>
         requires { IsEvent self.old.state event }
         ensures state { OnOk result (self.new.state ≡ (rule.rule self.old.state event).state) }
@@ -414,8 +412,7 @@ impl<V: Vault> Terminal<V> {
         ensures last { self.new.state.last ≡ self.old.state.last }
         // A 0x8103 alone changes times and parameters.
         ensures params { sets_params event ≡ false → AreSameParams self.old.state self.new.state }
-        ensures tables { OnErr result
-            (AllTablesOrNone self.old.state (rule.rule self.old.state event).state self.new.state) }
+        ensures tables { OnErr result (AreSameTables self.old.state self.new.state) }
         ensures lists { OnErr result (CutLists (rule.rule self.old.state event).steps
             (lists_of self.old.state) (lists_of self.new.state)) }
         ensures lost { event ≡ Lost → IsOk result }

@@ -20,7 +20,9 @@ use Rattle.jt_terminal_rule.specs.declared.state.State.{State}
 use Rattle.jt_terminal_rule.specs.declared.state.Wait.{Wait}
 use Rattle.jt_terminal_rule.specs.Rule.{with_fix, after_acceptance, one_sent, down, capped_sum, after_saying}
 use Rattle.jt_terminal_rule.specs.Machines.{IsPhase, IsInOrder, Agrees}
-use Rattle.jt_params.specs.Tables.{HasOctets}
+use Rattle.jt_params.specs.Tables.{HasOctets, Table}
+use Rattle.jt_regions.specs.Tables.{Regions}
+use Rattle.jt_terminal_rule.specs.declared.state.Timing.{Timing}
 use Rattle.jt_terminal_rule.specs.declared.state.AnswerKind.{AnswerKind}
 use Rattle.jt_value.specs.declared.phone.Edition.{Edition}
 use Rattle.jt_value.specs.declared.phone.Edition.TheVariants.{E2013, E2019}
@@ -309,6 +311,10 @@ sound_changed held s a octets sound = record {
   params = octets;
   agrees = told_map held (AgreesWhole s) (AgreesWhole (changed_by s a)) (λ h t. (changed_agrees h s a t.0, record { recorded = t.1.recorded; accepted = t.1.accepted })) sound.agrees;
 }
+
+-- times and tables are put back
+pub sound_put_back : (held : Option Held) (s : State) (timing : Timing) (params : Table) (regions : Regions) → HasOctets params → IsSound held s → IsSound held (record s { timing = timing; params = params; regions = regions })
+sound_put_back held s timing params regions octets sound = sound_changed held s (record { timing = timing; params = params; regions = regions; says = None }) octets sound
 
 sound_says : (held : Option Held) (s : State) (says : Option (AnswerKind × List ℕ)) → IsSound held s → IsSound held (rule.says_answer s says).state
 sound_says held s None sound = sound

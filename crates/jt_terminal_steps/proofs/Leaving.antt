@@ -16,11 +16,13 @@ use Rattle.jt_subpacket.specs.Steps.{front, packets_of, piece_of}
 use Rattle.jt_terminal_rule.specs.declared.settings.Settings.{Settings}
 use Rattle.jt_terminal_rule.specs.declared.state.AnswerKind.{AnswerKind}
 use Rattle.jt_terminal_rule.specs.declared.state.AnswerKind.TheVariants.{Position}
-use Rattle.jt_terminal_rule.specs.Tables.{regions_after}
+use Rattle.jt_terminal_rule.specs.Tables.{params_after, regions_after}
 use Rattle.jt_terminal_rule.specs.declared.state.Phase.{Phase}
 use Rattle.jt_terminal_rule.specs.declared.state.Phase.TheVariants.{Down, Registering, Authenticating, Live}
 use Rattle.jt_terminal_rule.specs.declared.state.State.{State}
-use Rattle.jt_terminal_rule.specs.Answers.{Answer, answer_to, answer_to_lack, id_of_answer, only_says, responds, takes_regions, tells_position}
+use Rattle.jt_params.specs.declared.param.Param.{Param}
+use Rattle.jt_params.specs.Tables.{Table}
+use Rattle.jt_terminal_rule.specs.Answers.{Answer, answer_to, answer_to_lack, id_of_answer, only_says, responds, takes_params, takes_regions, tells_position}
 use Rattle.jt_terminal_rule.specs.Forming.{unit_of}
 use Rattle.jt_value.specs.declared.limits.TheConstants.{BODY_LIMIT}
 use Rattle.jt_terminal_rule.specs.Messages.{header_of}
@@ -29,7 +31,7 @@ use Rattle.jt_terminal_rule.specs.Rule as rule
 use Rattle.jt_value.specs.declared.phone.Edition.{Edition}
 use Rattle.jt_value.specs.declared.phone.Edition.TheVariants.{E2013, E2019}
 use Rattle.jt_terminal_answers.specs.Answering.{AllOrNothing}
-use Rattle.jt_terminal_steps.specs.AfterError.{AllTablesOrNone, AreSameParams, AreSameTables, CutLists, Lists, lists_accepted, lists_after, lists_changed, lists_of, next_said, sets_params_in}
+use Rattle.jt_terminal_steps.specs.AfterError.{AreSameParams, AreSameTables, CutLists, Lists, changes_regions_in, lists_accepted, lists_after, lists_changed, lists_of, next_said, sets_params_in}
 use Rattle.jt_terminal_steps.specs.Running.{Went, accept_first, took}
 
 -- ---- one list of steps after another
@@ -285,76 +287,21 @@ lists_answers s a small fits = answer_said (changed_by s a) small fits a.says
 pub tables_on : (a b c : State) → AreSameTables a b → AreSameTables b c → AreSameTables a c
 tables_on a b c one two = record { timing = two.timing ∙ one.timing; params = two.params ∙ one.params; regions = two.regions ∙ one.regions }
 
-abbrev TablesIf : State → Option Ruled → Type 0
-TablesIf s None = Unit {0}
-TablesIf s (Some r) = AreSameTables s r.state
-
-formed_tables : (s : State) (fix : List ℕ) (more : List (List ℕ)) (b : Bool)
-    → TablesIf s (cond b (let unit = unit_of s.next fix (fix ∷ more) in Some (record {
-      state = one_sent (record s { units = s.units ++ unit ∷ []; waiting = drop unit.count (fix ∷ more); next = serial_of (s.next + 1) });
-      steps = rule.Changes (Forms unit) ∷ rule.Sends s.sent unit ∷ [];
-      end = None;
-    })) None)
-formed_tables s fix more true = record { timing = refl; params = refl; regions = refl }
-formed_tables s fix more false = tt
-
-waiting_tables : (s : State) (fixes : List (List ℕ)) → TablesIf s (form_unit s fixes)
-waiting_tables s [] = tt
-waiting_tables s (fix ∷ more) = formed_tables s fix more (nat_lt (gap_of s.mark s.next) 32767)
-
-sends_tables : (s : State) (unit : Option OneUnit) → TablesIf s (send_unit s unit)
-sends_tables s None = waiting_tables s s.waiting
-sends_tables s (Some u) = record { timing = refl; params = refl; regions = refl }
-
-next_tables : (s : State) (unit : Option OneUnit) (b : Bool) → TablesIf s (cond b (send_unit s unit) None)
-next_tables s unit true = sends_tables s unit
-next_tables s unit false = tt
-
-fill_tables : (n : ℕ) (s : State) → AreSameTables s (fill n s).state
-fill_tables zero s = record { timing = refl; params = refl; regions = refl }
-fill_tables (suc n) s = by (send_next s) (next_tables s (slice_get s.units s.sent) (nat_lt s.sent window)) (λ t. fill_tables n t)
-  where
-    by : (r : Option Ruled) → TablesIf s r → ((t : State) → AreSameTables t (fill n t).state) → AreSameTables s (or_stays s r (fill n)).state
-    by None one rest = record { timing = refl; params = refl; regions = refl }
-    by (Some r) one rest = tables_on s r.state (fill n r.state).state one (rest r.state)
-
--- the window leaves them
-pub fills_tables : (s : State) → AreSameTables s (fill_window s).state
-fills_tables s = fill_tables window s
-
 says_tables : (s : State) (says : Option (AnswerKind × List ℕ)) → AreSameTables s (says_answer s says).state
 says_tables s None = record { timing = refl; params = refl; regions = refl }
 says_tables s (Some says) = record { timing = refl; params = refl; regions = refl }
+
+pub same_tables : (s : State) → AreSameTables s s
+same_tables s = record { timing = refl; params = refl; regions = refl }
 
 -- an answer makes them its own
 pub answers_tables : (s : State) (a : Answer) → AreSameTables (changed_by s a) (answers s a).state
 answers_tables s a = says_tables (changed_by s a) a.says
 
-pub equal_tables : (old now : State) → now ≡ old → AreSameTables old now
-equal_tables old now is = record { timing = ap (λ (t : State). t.timing) is; params = ap (λ (t : State). t.params) is; regions = ap (λ (t : State). t.regions) is }
-
--- two states that have the tables of a third
-tables_back : (a b now : State) → AreSameTables a b → AreSameTables a now → AreSameTables b now
-tables_back a b now one two = record { timing = two.timing ∙ sym one.timing; params = two.params ∙ sym one.params; regions = two.regions ∙ sym one.regions }
-
--- an answer, and then the window
-abbrev pub answers_and_fills : State → Answer → Ruled
-answers_and_fills s a = and_then (answers s a) fill_window
-
 -- nothing of an answer was done, or its times and tables were taken
 pub left_lists : (s now : State) (a : Answer) → AllOrNothing s a now → lists_of now ≡ lists_of s
 left_lists s now a (inl is) = ap lists_of is
 left_lists s now a (inr is) = ap lists_of is
-
-pub left_tables : (s now : State) (a : Answer) → AllOrNothing s a now → AllTablesOrNone s (answers_and_fills s a).state now
-left_tables s now a (inl is) = inl (equal_tables s now is)
-left_tables s now a (inr is) =
-    inr (tables_back (changed_by s a) (answers_and_fills s a).state now (tables_on (changed_by s a) (answers s a).state (answers_and_fills s a).state (answers_tables s a) (fills_tables (answers s a).state)) (equal_tables (changed_by s a) now is))
-
--- the answer was given, and the window was cut short
-pub filled_tables : (s mid now : State) (a : Answer) → mid ≡ (answers s a).state → AreSameTables mid now → AllTablesOrNone s (answers_and_fills s a).state now
-filled_tables s mid now a is same =
-    inr (tables_back (answers s a).state (answers_and_fills s a).state now (fills_tables (answers s a).state) (subst (λ (m : State). AreSameTables m now) is same))
 
 -- the request for packets leaves them
 pub lack_tables : (s mid now : State) (edition : Edition) (first : ℕ) (numbers : List ℕ) → mid ≡ (answers s (answer_to_lack s edition first numbers)).state → AreSameTables mid now → AreSameTables s now
@@ -362,6 +309,40 @@ lack_tables s mid now E2013 first numbers is same =
     record { timing = same.timing ∙ ap (λ (t : State). t.timing) is; params = same.params ∙ ap (λ (t : State). t.params) is; regions = same.regions ∙ ap (λ (t : State). t.regions) is }
 lack_tables s mid now E2019 first numbers is same =
     record { timing = same.timing ∙ ap (λ (t : State). t.timing) is; params = same.params ∙ ap (λ (t : State). t.params) is; regions = same.regions ∙ ap (λ (t : State). t.regions) is }
+
+-- ---- messages that change no regions
+
+params_regions : (s : State) (h : Header) (params : List Param) (table : Option Table) → (takes_params s h params table).regions ≡ s.regions
+params_regions s h params None = refl
+params_regions s h params (Some table) = refl
+
+position_regions : (s : State) (h : Header) (fix : Option (List ℕ)) → (tells_position s h fix).regions ≡ s.regions
+position_regions s h None = refl
+position_regions s h (Some fix) = by (nat_le (2 + length fix) BODY_LIMIT) (Some (Position, to_be_bytes w16 h.serial ++ fix))
+  where
+    by : (b : Bool) (says : Option (AnswerKind × List ℕ)) → (cond b (only_says s says) (responds s h 1)).regions ≡ s.regions
+    by true says = refl
+    by false says = refl
+
+answer_regions : (s : State) (h : Header) (m : Message) → changes_regions_in m ≡ false → (answer_to s h m).regions ≡ s.regions
+answer_regions s h (message.SetParams params) other = params_regions s h params (params_after params s.params)
+answer_regions s h message.QueryPosition other = position_regions s h s.last
+answer_regions s h (message.Circles setting list) other = absurd cc
+answer_regions s h (message.Rectangles setting list) other = absurd cc
+answer_regions s h (message.Polygon polygon) other = absurd cc
+answer_regions s h (message.Route route) other = absurd cc
+answer_regions s h (message.Delete kind ids) other = absurd cc
+answer_regions s h m other = refl
+
+-- nothing of such an answer was done, or its tables were taken
+pub left_regions : (s now : State) (h : Header) (m : Message) → AllOrNothing s (answer_to s h m) now → changes_regions_in m ≡ false → now.regions ≡ s.regions
+left_regions s now h m (inl is) other = ap (λ (t : State). t.regions) is
+left_regions s now h m (inr is) other = ap (λ (t : State). t.regions) is ∙ answer_regions s h m other
+
+-- such an answer was given, and then the window was filled or cut short
+pub filled_regions : (s mid now : State) (h : Header) (m : Message) → mid ≡ (answers s (answer_to s h m)).state → AreSameTables mid now → changes_regions_in m ≡ false → now.regions ≡ s.regions
+filled_regions s mid now h m is tables other =
+    tables.regions ∙ (ap (λ (t : State). t.regions) is ∙ ((answers_tables s (answer_to s h m)).regions ∙ answer_regions s h m other))
 
 -- ---- messages that set no parameters
 
@@ -406,3 +387,8 @@ filled_params s mid now h m is tables other =
       timing = tables.timing ∙ (ap (λ (t : State). t.timing) is ∙ (given.timing ∙ same.timing));
       params = tables.params ∙ (ap (λ (t : State). t.params) is ∙ (given.params ∙ same.params));
     }
+
+-- a message that changes regions sets no parameters
+pub sets_none : (m : Message) → changes_regions_in m ≡ true → sets_params_in m ≡ false
+sets_none (message.SetParams params) other = absurd cc
+sets_none m other = refl

@@ -17,3 +17,4 @@ pub mod Keeping
 pub mod Chaining
 pub mod Leaving
 pub mod Listing
+pub mod Copied

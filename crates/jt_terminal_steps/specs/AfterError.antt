@@ -1,5 +1,5 @@
 -- What an error in an event leaves of a terminal's state, beside that no line is in use. To be believed.
-use Rattle.std.specs.Prelude.{ℕ, ◌≡◌, ◌⊎◌, ◌+◌, List, [], ◌∷◌, ◌++◌, drop, Option, Bool, true, false, ◌==◌, ◌&&◌, nat_lt, if◌then◌else◌}
+use Rattle.std.specs.Prelude.{ℕ, ◌≡◌, ◌+◌, List, [], ◌∷◌, ◌++◌, drop, Option, Bool, true, false, ◌==◌, ◌&&◌, nat_lt, if◌then◌else◌}
 use Rattle.jt_value.specs.declared.limits.TheConstants.{UNIT_WINDOW}
 use Rattle.jt_value.specs.Serials.{gap_of, serial_of}
 use Rattle.jt_codec.specs.declared.message.Message.{Message}
@@ -68,14 +68,19 @@ pub record AreSameTables (old now : State) : Type 0 where
   pub params : now.params ≡ old.params
   pub regions : now.regions ≡ old.regions
 
--- all times and tables are the old ones, or all are those of the rule's state
-abbrev pub AllTablesOrNone : State → State → State → Type 0
-AllTablesOrNone old ruled now = AreSameTables old now ⊎ AreSameTables ruled now
-
 -- the message sets parameters
 abbrev pub sets_params_in : Message → Bool
 sets_params_in (message.SetParams params) = true
 sets_params_in _ = false
+
+-- the message changes regions
+abbrev pub changes_regions_in : Message → Bool
+changes_regions_in (message.Circles setting list) = true
+changes_regions_in (message.Rectangles setting list) = true
+changes_regions_in (message.Polygon polygon) = true
+changes_regions_in (message.Route route) = true
+changes_regions_in (message.Delete kind ids) = true
+changes_regions_in _ = false
 
 -- the platform sets parameters, as nothing else does
 abbrev pub sets_params : Event → Bool

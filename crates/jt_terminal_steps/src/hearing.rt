@@ -7,11 +7,12 @@ ghost use Rattle.jt_store.specs.Vaults.{Accepts, changed};
 ghost use Rattle.jt_terminal_rule.specs.Messages as messages;
 ghost use Rattle.jt_terminal_rule.specs.Answers as table;
 ghost use Rattle.jt_terminal_rule.specs.Rule as rule;
-ghost use Rattle.jt_terminal_steps.specs.AfterError.{AllTablesOrNone, AreSameParams, AreSameTables, CutLists, lists_of, sets_params_in};
+ghost use Rattle.jt_terminal_steps.specs.AfterError.{AreSameParams, AreSameTables, CutLists, changes_regions_in, lists_of, sets_params_in};
 ghost use Rattle.jt_terminal_steps.specs.Running.{CutShort, IsSame, IsSound, Outside, Ran, accept_first, oldest_is, took};
 ghost use Rattle.jt_terminal_rule.specs.declared.state.GiveUp.TheVariants.{Denied};
 ghost use Rattle.jt_terminal_rule.specs.declared.state.Phase.TheVariants.{Down};
 
+use crate::copying::copy_params;
 use crate::error::{TerminalError, trouble};
 use crate::window::fill_window;
 use jt_codec::{Message, write_body};
@@ -414,15 +415,152 @@ fn answer_and_fill<V: Vault>(
         (lists_of state.old) (lists_of state.new)) }
     ensures sound { IsSound (V.holds vault.new) state.new }
     ensures same { IsSame state.old state.new }
-    ensures tables { OnErr result (AllTablesOrNone state.old
-        (rule.and_then (rule.answers state.old (table.answer_to state.old header.now message.now))
-        rule.fill_window).state state.new) }
     ensures params { sets_params_in message.now ≡ false → AreSameParams state.old state.new }
+    ensures regions { changes_regions_in message.now ≡ false →
+        state.new.regions ≡ state.old.regions }
     ensures outside { Outside (V.faults vault.old) (V.faults vault.new) (V.limit vault.old)
         (V.limit vault.new) (V.may_fail vault.old) (V.may_fail vault.new) result }
 {
     answer(alloc, state, header, message, out)?;
     fill_window(alloc, vault, state, out)
+}
+
+// The same of a message that changes no regions. After an error times and parameters are put back.
+fn answer_over_params<V: Vault>(
+    alloc: Global,
+    vault: &mut V,
+    state: &mut State,
+    out: &mut Seq<Octets>,
+    header: &Header,
+    message: &Message,
+) -> Result<(), TerminalError>
+    requires fits { Fits header.now.edition message.now }
+    requires regions { changes_regions_in message.now ≡ false }
+    requires sound { IsSound (V.holds vault.old) state.old }
+    ensures ok { OnOk result (Ran state.old.settings
+        (rule.and_then (rule.answers state.old (table.answer_to state.old header.now message.now))
+        rule.fill_window) state.new (V.holds vault.old) (V.holds vault.new) out.old out.new None) }
+    ensures err { OnErr result (CutShort (rule.and_then (rule.answers state.old
+        (table.answer_to state.old header.now message.now)) rule.fill_window).steps
+        (V.holds vault.old) (V.holds vault.new)) }
+    ensures lists { OnErr result (CutLists (rule.and_then (rule.answers state.old
+        (table.answer_to state.old header.now message.now)) rule.fill_window).steps
+        (lists_of state.old) (lists_of state.new)) }
+    ensures sound { IsSound (V.holds vault.new) state.new }
+    ensures same { IsSame state.old state.new }
+    ensures tables { OnErr result (AreSameTables state.old state.new) }
+    ensures params { sets_params_in message.now ≡ false → AreSameParams state.old state.new }
+    ensures outside { Outside (V.faults vault.old) (V.faults vault.new) (V.limit vault.old)
+        (V.limit vault.new) (V.may_fail vault.old) (V.may_fail vault.new) result }
+{
+    let timing = state.timing;
+    let params = copy_params(alloc, &state.params)?;
+    match answer_and_fill(alloc, vault, state, out, header, message) {
+        Ok(()) => Ok(()),
+        Err(error) => {
+            state.timing = timing;
+            state.params = params;
+            Err(error)
+        }
+    }
+}
+
+// The same of a message that sets no parameters. After an error regions are put back.
+fn answer_over_regions<V: Vault>(
+    alloc: Global,
+    vault: &mut V,
+    state: &mut State,
+    out: &mut Seq<Octets>,
+    header: &Header,
+    message: &Message,
+) -> Result<(), TerminalError>
+    requires fits { Fits header.now.edition message.now }
+    requires params { sets_params_in message.now ≡ false }
+    requires sound { IsSound (V.holds vault.old) state.old }
+    ensures ok { OnOk result (Ran state.old.settings
+        (rule.and_then (rule.answers state.old (table.answer_to state.old header.now message.now))
+        rule.fill_window) state.new (V.holds vault.old) (V.holds vault.new) out.old out.new None) }
+    ensures err { OnErr result (CutShort (rule.and_then (rule.answers state.old
+        (table.answer_to state.old header.now message.now)) rule.fill_window).steps
+        (V.holds vault.old) (V.holds vault.new)) }
+    ensures lists { OnErr result (CutLists (rule.and_then (rule.answers state.old
+        (table.answer_to state.old header.now message.now)) rule.fill_window).steps
+        (lists_of state.old) (lists_of state.new)) }
+    ensures sound { IsSound (V.holds vault.new) state.new }
+    ensures same { IsSame state.old state.new }
+    ensures tables { OnErr result (AreSameTables state.old state.new) }
+    ensures params { sets_params_in message.now ≡ false → AreSameParams state.old state.new }
+    ensures outside { Outside (V.faults vault.old) (V.faults vault.new) (V.limit vault.old)
+        (V.limit vault.new) (V.may_fail vault.old) (V.may_fail vault.new) result }
+{
+    let regions = state.regions.copy()?;
+    match answer_and_fill(alloc, vault, state, out, header, message) {
+        Ok(()) => Ok(()),
+        Err(error) => {
+            state.regions = regions;
+            Err(error)
+        }
+    }
+}
+
+// Whether the message sets parameters.
+fn sets_params(message: &Message) -> bool
+    ensures { result ≡ sets_params_in message.now }
+{
+    match message {
+        Message::SetParams(_) => true,
+        _ => false,
+    }
+}
+
+// Whether the message changes regions.
+fn changes_regions(message: &Message) -> bool
+    ensures { result ≡ changes_regions_in message.now }
+{
+    match message {
+        Message::Circles { .. } => true,
+        Message::Rectangles { .. } => true,
+        Message::Polygon(_) => true,
+        Message::Route(_) => true,
+        Message::Delete { .. } => true,
+        _ => false,
+    }
+}
+
+// A Live terminal answers any message, and fills its window. After an error times and tables are as before.
+fn answer_as_before<V: Vault>(
+    alloc: Global,
+    vault: &mut V,
+    state: &mut State,
+    out: &mut Seq<Octets>,
+    header: &Header,
+    message: &Message,
+) -> Result<(), TerminalError>
+    requires fits { Fits header.now.edition message.now }
+    requires sound { IsSound (V.holds vault.old) state.old }
+    ensures ok { OnOk result (Ran state.old.settings
+        (rule.and_then (rule.answers state.old (table.answer_to state.old header.now message.now))
+        rule.fill_window) state.new (V.holds vault.old) (V.holds vault.new) out.old out.new None) }
+    ensures err { OnErr result (CutShort (rule.and_then (rule.answers state.old
+        (table.answer_to state.old header.now message.now)) rule.fill_window).steps
+        (V.holds vault.old) (V.holds vault.new)) }
+    ensures lists { OnErr result (CutLists (rule.and_then (rule.answers state.old
+        (table.answer_to state.old header.now message.now)) rule.fill_window).steps
+        (lists_of state.old) (lists_of state.new)) }
+    ensures sound { IsSound (V.holds vault.new) state.new }
+    ensures same { IsSame state.old state.new }
+    ensures tables { OnErr result (AreSameTables state.old state.new) }
+    ensures params { sets_params_in message.now ≡ false → AreSameParams state.old state.new }
+    ensures outside { Outside (V.faults vault.old) (V.faults vault.new) (V.limit vault.old)
+        (V.limit vault.new) (V.may_fail vault.old) (V.may_fail vault.new) result }
+{
+    if changes_regions(message) {
+        return answer_over_regions(alloc, vault, state, out, header, message);
+    }
+    if sets_params(message) {
+        return answer_over_params(alloc, vault, state, out, header, message);
+    }
+    answer_and_fill(alloc, vault, state, out, header, message)
 }
 
 // A message that is answered by a terminal that is Live alone.
@@ -448,14 +586,13 @@ fn answer_if_live<V: Vault>(
     ensures quiet { state.old.phase ≡ Down → IsOk result }
     ensures sound { IsSound (V.holds vault.new) state.new }
     ensures same { IsSame state.old state.new }
-    ensures tables { OnErr result (AllTablesOrNone state.old (rule.answer_if_live state.old.phase
-        state.old (table.answer_to state.old header.now message.now)).state state.new) }
+    ensures tables { OnErr result (AreSameTables state.old state.new) }
     ensures params { sets_params_in message.now ≡ false → AreSameParams state.old state.new }
     ensures outside { Outside (V.faults vault.old) (V.faults vault.new) (V.limit vault.old)
         (V.limit vault.new) (V.may_fail vault.old) (V.may_fail vault.new) result }
 {
     match state.phase {
-        Phase::Live(_) => answer_and_fill(alloc, vault, state, out, header, message),
+        Phase::Live(_) => answer_as_before(alloc, vault, state, out, header, message),
         Phase::Down | Phase::Registering(_) | Phase::Authenticating(_) => Ok(()),
     }
 }
@@ -603,8 +740,7 @@ pub fn on_message<V: Vault>(
     ensures quiet { state.old.phase ≡ Down → IsOk result }
     ensures sound { IsSound (V.holds vault.new) state.new }
     ensures same { IsSame state.old state.new }
-    ensures tables { OnErr result (AllTablesOrNone state.old
-        (rule.on_message state.old header.now message.now).state state.new) }
+    ensures tables { OnErr result (AreSameTables state.old state.new) }
     ensures params { sets_params_in message.now ≡ false → AreSameParams state.old state.new }
     ensures outside { Outside (V.faults vault.old) (V.faults vault.new) (V.limit vault.old)
         (V.limit vault.new) (V.may_fail vault.old) (V.may_fail vault.new) result }

@@ -1,6 +1,7 @@
 //! What a terminal does over its vault: the messages of the platform, time, and the window.
 #![tactic(auto)]
 
+mod copying;
 mod error;
 mod hearing;
 mod ticking;

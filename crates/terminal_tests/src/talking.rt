@@ -8,7 +8,7 @@ use jt_header::Header;
 use jt_position::Fix;
 use jt_register::{AuthTail, Register, RegisterReply};
 use jt_store::{MemVault, StoreError};
-use jt_terminal::{Actions, Event, GiveUp, Settings, Terminal, TerminalError};
+use jt_terminal::{Actions, Event, GiveUp, Settings, Terminal, TerminalError, TerminalLine};
 use jt_value::{Edition, Memory, Octets, Phone, Seq};
 use std::alloc::Global;
 
@@ -244,13 +244,29 @@ fn hear_ack(
     hear(alloc, terminal, edition, message)
 }
 
+// How many octets a line is handed here at most.
+const MOST: usize = 4_096;
+
+// The terminal reads octets of the platform on a line that just began.
+fn hand(alloc: Global, terminal: &mut Terminal<MemVault>, given: &[u8]) -> Result<Octets, Memory>
+    ensures { terminal.new.state.time ≡ terminal.old.state.time }
+{
+    if given.len() > MOST {
+        return octets(alloc, b"too many octets");
+    }
+    let mut line = TerminalLine::new(alloc);
+    let result = line.feed(alloc, terminal, given);
+    transcript(alloc, &result)
+}
+
 // A serial of sixteen bits.
 fn number_of(number: u32) -> u16 {
     (number % 65_536) as u16
 }
 
 // What a row says happens: a line is opened (O) or lost (L), a heartbeat is asked for (B), a fix at this latitude is recorded (F),
-// the reply to a registration (R) or a general response (A) of this serial is read, or it is this moment (T).
+// the reply to a registration (R) or a general response (A) of this serial is read, octets of the platform come (D), or it is this
+// moment (T).
 fn happens(
     alloc: Global,
     terminal: &mut Terminal<MemVault>,
@@ -271,6 +287,7 @@ fn happens(
         b'B' => beat(alloc, terminal),
         b'F' => note(alloc, terminal, number),
         b'R' => hear_reply(alloc, terminal, edition, number_of(number), answer, code),
+        b'D' => hand(alloc, terminal, code),
         b'A' => hear_ack(alloc, terminal, edition, number_of(number), id, answer),
         _ => {
             if number < *time {
@@ -283,7 +300,7 @@ fn happens(
 }
 
 /// The first row whose octets are not what the terminal said, or the number of rows. In a row stand what happens, a number, an
-/// id, a result, a code, and what is said then. Of the vault these calls fail.
+/// id, a result, a code or octets, and what is said then. Of the vault these calls fail.
 pub fn first_wrong(
     alloc: Global,
     edition: Edition,

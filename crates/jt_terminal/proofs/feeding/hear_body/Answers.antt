@@ -11,8 +11,5 @@ returns-in-Ok-clause-err g c = rw (read_is c.law_of_bodies.ensures.one_to_one c.
 pub returns-in-Ok-clause-told : goal.returns-in-Ok-clause-told
 returns-in-Ok-clause-told g c = rw (read_is c.law_of_bodies.ensures.one_to_one c.args.header.now c.args.body.now c.in-Ok.message (λ i. omega (arith, c.type_inv.body i)) c.in-Ok.ensures.answer) c.hear_message.ensures.told
 
-pub returns-in-Ok-clause-tables : goal.returns-in-Ok-clause-tables
-returns-in-Ok-clause-tables g c = rw (read_is c.law_of_bodies.ensures.one_to_one c.args.header.now c.args.body.now c.in-Ok.message (λ i. omega (arith, c.type_inv.body i)) c.in-Ok.ensures.answer) c.hear_message.ensures.tables
-
 pub returns-in-Ok-clause-lists : goal.returns-in-Ok-clause-lists
 returns-in-Ok-clause-lists g c = rw (read_is c.law_of_bodies.ensures.one_to_one c.args.header.now c.args.body.now c.in-Ok.message (λ i. omega (arith, c.type_inv.body i)) c.in-Ok.ensures.answer) c.hear_message.ensures.lists

@@ -1,8 +1,8 @@
-use Rattle.std.proofs.Common.{inl, refl}
+use Rattle.std.proofs.Common.{refl}
 use Rattle.jt_terminal_rule.specs.Rule.{on_message}
 use Rattle.jt_terminal_steps.proofs.Chaining.{any_err, cut_none}
 use Rattle.jt_terminal_steps.specs.AfterError.{lists_of}
-use Rattle.jt_terminal_steps.proofs.Leaving.{equal_tables, lists_none}
+use Rattle.jt_terminal_steps.proofs.Leaving.{lists_none, same_tables}
 use Rattle.jt_terminal.proofs.Idling.{never_fails}
 use Rattle.jt_terminal.proofs.feeding.hear_read.Goals as goal
 
@@ -11,7 +11,7 @@ returns-in_err-tell-clause-err g c =
     any_err _ (cut_none (on_message c.args.state.now c.args.header.now c.args.message.now).steps (g.V.Vault.holds c.args.vault.now) (g.V.Vault.holds c.args.vault.now) refl)
 
 pub returns-in_err-tell-clause-tables : goal.returns-in_err-tell-clause-tables
-returns-in_err-tell-clause-tables g c = any_err _ (inl (equal_tables c.args.state.now c.args.state.now refl))
+returns-in_err-tell-clause-tables g c = any_err _ (same_tables c.args.state.now)
 
 pub returns-in_err-tell-clause-lists : goal.returns-in_err-tell-clause-lists
 returns-in_err-tell-clause-lists g c = any_err _ (lists_none (on_message c.args.state.now c.args.header.now c.args.message.now).steps (lists_of c.args.state.now) (lists_of c.args.state.now) refl)

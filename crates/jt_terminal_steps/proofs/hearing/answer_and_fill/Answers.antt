@@ -5,7 +5,7 @@ use Rattle.jt_terminal_rule.specs.Rule.{answers, fill_window}
 use Rattle.jt_terminal_steps.proofs.Keeping.{answers_settings, sound_answers, sound_tables}
 use Rattle.jt_terminal_steps.proofs.Chaining.{any_err, cut_then, quiet_answers, ran_then}
 use Rattle.jt_terminal_steps.specs.AfterError.{lists_of}
-use Rattle.jt_terminal_steps.proofs.Leaving.{filled_params, filled_tables, left_lists, left_params, left_tables, lists_answers, lists_none, lists_then}
+use Rattle.jt_terminal_steps.proofs.Leaving.{filled_params, filled_regions, left_lists, left_params, left_regions, lists_answers, lists_none, lists_then}
 use Rattle.jt_terminal_steps.proofs.hearing.answer_and_fill.Goals as goal
 
 pub fill_window-requires : goal.fill_window-requires
@@ -31,9 +31,8 @@ returns-clause-lists g c =
     let a = answer_to c.args.state.now c.args.header.now c.args.message.now in
     on_err_weaker c.fill_window.result (lists_then (answers c.args.state.now a) fill_window c.args.state.now c.answer.new.state (lists_of c.fill_window.new.state) c.in_ok-answer.ensures.state (lists_answers c.args.state.now a c.requires.sound.order.mark c.requires.sound.order.next)) c.fill_window.ensures.lists
 
-pub returns-clause-tables : goal.returns-clause-tables
-returns-clause-tables g c =
-    any_err c.fill_window.result (filled_tables c.args.state.now c.answer.new.state c.fill_window.new.state (answer_to c.args.state.now c.args.header.now c.args.message.now) c.in_ok-answer.ensures.state c.fill_window.ensures.tables)
+pub returns-clause-regions : goal.returns-clause-regions
+returns-clause-regions g c = filled_regions c.args.state.now c.answer.new.state c.fill_window.new.state c.args.header.now c.args.message.now c.in_ok-answer.ensures.state c.fill_window.ensures.tables
 
 pub returns-clause-params : goal.returns-clause-params
 returns-clause-params g c = filled_params c.args.state.now c.answer.new.state c.fill_window.new.state c.args.header.now c.args.message.now c.in_ok-answer.ensures.state c.fill_window.ensures.tables
@@ -42,9 +41,8 @@ pub returns-in_err-answer-clause-lists : goal.returns-in_err-answer-clause-lists
 returns-in_err-answer-clause-lists g c =
     any_err _ (lists_none _ _ _ (left_lists c.args.state.now c.answer.new.state (answer_to c.args.state.now c.args.header.now c.args.message.now) c.in_err-answer.ensures.err))
 
-pub returns-in_err-answer-clause-tables : goal.returns-in_err-answer-clause-tables
-returns-in_err-answer-clause-tables g c =
-    any_err _ (left_tables c.args.state.now c.answer.new.state (answer_to c.args.state.now c.args.header.now c.args.message.now) c.in_err-answer.ensures.err)
+pub returns-in_err-answer-clause-regions : goal.returns-in_err-answer-clause-regions
+returns-in_err-answer-clause-regions g c = left_regions c.args.state.now c.answer.new.state c.args.header.now c.args.message.now c.in_err-answer.ensures.err
 
 pub returns-in_err-answer-clause-params : goal.returns-in_err-answer-clause-params
 returns-in_err-answer-clause-params g c = left_params c.args.state.now c.answer.new.state c.args.header.now c.args.message.now c.in_err-answer.ensures.err
