@@ -31,8 +31,8 @@ use Rattle.jt_octets.specs.Steps.{Down, after, just_read, partial_behind, respon
 use Rattle.jt_octets.specs.Reaching.{Leads}
 use Rattle.jt_octets.proofs.Views.{StreamLaws}
 use Rattle.jt_octets.proofs.Exact.{Behind, one_behind, partial_on}
-use Rattle.jt_play.specs.declared.world.Told.{Told}
-use Rattle.jt_play.specs.Playing.{Play, behind_first, done, has_left, heard_in, moves, reads_one, takes_first}
+use Rattle.jt_play.specs.declared.stage.Told.{Told}
+use Rattle.jt_play.specs.Playing.{Play, behind_first, done, has_left, heard_in, moves, reads_one, takes_first, reads_more}
 use Rattle.jt_play.specs.Holding.{IsHearing, IsRunning, Hears, Numbered, blank, heard_on, lines_in, noted_at, play_of, shelf_in, taken_on, told_of, wrote_all, wrote_last}
 use Rattle.jt_play.proofs.Rounds.{May, behind_frames, heard_next, machine_next, newest_set}
 use Rattle.jt_play.proofs.Upward.{grown, octet_of}
@@ -102,7 +102,7 @@ brought : (wire : Wire) (item : Option Unplaced) → wire.taken < length wire.oc
 brought wire None lt e = ap items (sym (grown wire lt)) ∙ e
 brought wire (Some item) lt e = ap items (sym (grown wire lt)) ∙ e
 
-newest_at : (lines : List Line) (place : ℕ) → length lines ≡ place + 1 → newest_place lines ≡ place
+pub newest_at : (lines : List Line) (place : ℕ) → length lines ≡ place + 1 → newest_place lines ≡ place
 newest_at [] place e = absurd (omega (arith, e))
 newest_at (line ∷ lines) place e = omega (arith, e)
 
@@ -378,3 +378,8 @@ pub moves_line : (p : Play) (place : ℕ) (line : Line) → length p.world.lines
 moves_line p place line last at in_use =
     ap (λ (b : Bool). b && (((newest p.world).is_open && has_left (newest p.world).up) || has_left (newest p.world).down)) in_use
     ∙ ap (λ (l : Line). (l.is_open && has_left l.up) || has_left l.down) (ap (line_at p.world.lines) (newest_at p.world.lines place last) ∙ at)
+
+pub more_line : (p : Play) (place : ℕ) (line : Line) → length p.world.lines ≡ place + 1 → line_at p.world.lines place ≡ line → p.world.terminal.using ≡ true → reads_more p ≡ has_left line.down
+more_line p place line last at in_use =
+    ap (λ (b : Bool). b && has_left (newest p.world).down) in_use
+    ∙ ap (λ (l : Line). has_left l.down) (ap (line_at p.world.lines) (newest_at p.world.lines place last) ∙ at)

@@ -132,3 +132,6 @@ module _ (law : HistoriesTell) (same : (key : List ℕ) → same_key key key ≡
 
   pub anew_leads : (last : ℕ) → last ≡ length past → Leads w (play_of t anew (shut_lines lines) (past_of (set (past ++ [] ∷ []) last hub.history)) told clock).world
   anew_leads last e = subst (Leads w) (anew_is last e) (leads_one w RestartPlatform tt)
+
+  pub anew_whole : (last : ℕ) → last ≡ length past → play_of t anew (shut_lines lines) (past_of (set (past ++ [] ∷ []) last hub.history)) told clock ≡ record (play_of t hub lines (past_of past) told clock) { world = after w RestartPlatform }
+  anew_whole last e = ap (λ (z : World). record (play_of t hub lines (past_of past) told clock) { world = z }) (sym (anew_is last e))

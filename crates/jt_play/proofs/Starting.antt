@@ -28,7 +28,7 @@ use Rattle.jt_delivery.specs.World.{Setting}
 use Rattle.jt_octets.specs.World.{empty}
 use Rattle.jt_octets.specs.Reaching.{Reached}
 use Rattle.jt_play.specs.Holding.{IsClock, IsNewHub, IsNewTerminal, IsRunning, Numbered, past_of, play_of, shelf_in, told_of}
-use Rattle.jt_play.specs.declared.world.Told.{Told}
+use Rattle.jt_play.specs.declared.stage.Told.{Told}
 use Rattle.jt_play.specs.Laws.{first_play}
 use Rattle.jt_play.specs.Playing.{Play}
 use Rattle.jt_play.proofs.Acting.{some_held}
