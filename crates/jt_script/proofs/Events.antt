@@ -22,7 +22,7 @@ reads_no_space words none = record {
   each = λ up h is. absurd (lacks_not 32 (decimal up.0) (amount up.1) (subst (Lacks 32) is (lacks_all 32 words none)));
 }
 
-parted : (words : List ℕ) (space : ℕ) → position (λ x. eqb x 32) words ≡ Some space → words ≡ take space words ++ 32 ∷ drop (space + 1) words
+pub parted : (words : List ℕ) (space : ℕ) → position (λ x. eqb x 32) words ≡ Some space → words ≡ take space words ++ 32 ∷ drop (space + 1) words
 parted words space found =
     sym (take-append-drop (space + 1) words) ∙ ap (λ (front : List ℕ). front ++ drop (space + 1) words) (front_before 32 words space found).2
     ∙ append_assoc (take space words) (32 ∷ []) (drop (space + 1) words)

@@ -1,3 +1,4 @@
 pub mod Amounts
+pub mod WordsOfLines
 pub mod Events
 pub mod Saying

@@ -1,2 +1,3 @@
 pub mod ScriptLine
 pub mod Said
+pub mod EventLines
