@@ -2,7 +2,7 @@
 """Says where the time of the gate goes.
 
     tools/gate_times.py record LOG    runs `rt ci` and writes what it prints, and the seconds of its processes, to LOG
-    tools/gate_times.py LOG           prints the table of crates from such a LOG, in seconds of one processor
+    tools/gate_times.py LOG           prints the table of the largest crates from such a LOG, in seconds of one processor
 
 `rt ci` prints no times. So while it runs, its processes are looked at once a second: each names its crate, and whether it
 proves the crate, proves its tests or tries an edit. Lines that begin with 'time:' are added to what it prints.
@@ -16,6 +16,8 @@ import time
 
 TICKS = os.sysconf("SC_CLK_TCK")
 PARTS = ("proof", "tests", "edits")
+# Crates with fewer seconds than these stand in one row of the table.
+LEAST = 400
 
 
 def read(path):
@@ -100,6 +102,11 @@ def record(log):
     return status
 
 
+def print_row(name, rows):
+    sums = [sum(row[part] for row in rows) for part in PARTS]
+    print(f"| {name} | {sums[0]} | {sums[1]} | {sums[2]} | {sum(sums)} |")
+
+
 def table(log):
     rows, elapsed = {}, "?"
     for crate, part, seconds in re.findall(r"(?m)^time: (\w+) (\w+) (\d+)$", read(log)):
@@ -107,11 +114,14 @@ def table(log):
             elapsed = int(seconds)
         else:
             rows.setdefault(crate, dict.fromkeys(PARTS, 0))[part] = int(seconds)
+    few = {crate for crate, row in rows.items() if sum(row.values()) < LEAST}
     print("| Crate | Proof | Tests | Edits | All |\n|---|---|---|---|---|")
     for crate, row in sorted(rows.items(), key=lambda it: -sum(it[1].values())):
-        print(f"| {crate} | {row['proof']} | {row['tests']} | {row['edits']} | {sum(row.values())} |")
+        if crate not in few:
+            print_row(crate, [row])
+    print_row(f"{len(few)} others, each under {LEAST}", [rows[crate] for crate in few])
+    print_row("all", rows.values())
     sums = [sum(row[part] for row in rows.values()) for part in PARTS]
-    print(f"| all | {sums[0]} | {sums[1]} | {sums[2]} | {sum(sums)} |")
     print(f"\nMinutes of one processor: {sum(sums) / 60:.0f}. Minutes by the clock: {elapsed / 60:.0f}." if rows else "no times in this log")
 
 

@@ -1,0 +1,185 @@
+#!/usr/bin/env python3
+"""Refuses the built program its memory, one allocation at a time:
+
+    tools/refused_memory.py [--program jt808] [--most 400]
+
+For each case (a heartbeat that is viewed, a script of one line, a platform with one session, a report without a link) the program
+first runs as it is, and its allocations are counted. Then it runs once for each of them, the first 400 at most, and that one is
+refused. Each run has to end as the whole one did, or with status 8 and a front of the whole one's text; with a session open it
+may also be that session which ends, as its line says (`memory`), and a store that is refused its memory may say `store fault`.
+A run that is killed by a signal, hangs, or prints anything else is wrong. It prints a row for each case. Wants a C compiler.
+"""
+import argparse
+import collections
+import os
+import re
+import subprocess
+import sys
+import tempfile
+import time
+
+import kill_loop
+import link_trials
+
+SHIM = r"""
+#define _GNU_SOURCE
+#include <dlfcn.h>
+#include <errno.h>
+#include <stdatomic.h>
+#include <stdio.h>
+#include <stdlib.h>
+
+/* Which allocation of the program itself is refused, and how many there were. */
+static atomic_long made;
+static long refused = -1;
+
+__attribute__((constructor)) static void begin(void) {
+    const char *said = getenv("REFUSED_ALLOCATION");
+    refused = said ? atol(said) : 0;
+    atomic_store(&made, 0);
+}
+
+__attribute__((destructor)) static void end(void) {
+    const char *path = getenv("COUNT_ALLOCATIONS");
+    FILE *file = path ? fopen(path, "w") : NULL;
+    if (file) { fprintf(file, "%ld", atomic_load(&made)); fclose(file); }
+}
+
+static int is_refused(void) {
+    if (refused < 0 || atomic_fetch_add(&made, 1) + 1 != refused) return 0;
+    errno = ENOMEM;
+    return 1;
+}
+
+#define REAL(name, type) static type real; if (!real) real = (type)dlsym(RTLD_NEXT, name)
+
+void *malloc(size_t size) {
+    REAL("malloc", void *(*)(size_t));
+    return is_refused() ? NULL : real(size);
+}
+
+void *realloc(void *old, size_t size) {
+    REAL("realloc", void *(*)(void *, size_t));
+    return is_refused() ? NULL : real(old, size);
+}
+
+void *aligned_alloc(size_t alignment, size_t size) {
+    REAL("aligned_alloc", void *(*)(size_t, size_t));
+    return is_refused() ? NULL : real(alignment, size);
+}
+
+int posix_memalign(void **place, size_t alignment, size_t size) {
+    REAL("posix_memalign", int (*)(void **, size_t, size_t));
+    return is_refused() ? ENOMEM : real(place, alignment, size);
+}
+"""
+
+Ran = collections.namedtuple("Ran", "status text made")
+
+
+class Case:
+    """What is run: words, what it reads, and what a peer says to it."""
+
+    def __init__(self, name, words, given=b"", peer=None):
+        self.name, self.words, self.given, self.peer = name, words, given, peer
+
+    def run(self, asked, refused):
+        with tempfile.TemporaryDirectory() as folder:
+            port = link_trials.free_port()
+            count = f"{folder}/count"
+            env = {**os.environ, "LD_PRELOAD": asked.shim, "REFUSED_ALLOCATION": str(refused), "COUNT_ALLOCATIONS": count}
+            words = [asked.program, *(it.replace("PORT", str(port)) for it in self.words)]
+            pipes = {"stdin": subprocess.PIPE, "stdout": subprocess.PIPE, "stderr": subprocess.PIPE}
+            ran = subprocess.Popen(words, cwd=folder, env=env, **pipes)
+            ran.stdin.write(self.given)
+            ran.stdin.close()
+            ran.stdin = None
+            if self.peer:
+                self.peer(ran, port)
+            try:
+                text = ran.communicate(timeout=20)[0]
+            except subprocess.TimeoutExpired:
+                ran.kill()
+                return Ran("hangs", ran.communicate()[0], 0)
+            made = int(open(count).read()) if os.path.exists(count) else 0
+            return Ran(ran.returncode, text, made)
+
+
+def speak(ran, port):
+    """A terminal that registers, authenticates itself, sends a unit and goes away."""
+    while ran.poll() is None and not kill_loop.listens(port):
+        time.sleep(0.002)
+    if ran.poll() is not None:
+        return
+    try:
+        with link_trials.connect(port) as peer:
+            peer.settimeout(5)
+            for sent in (link_trials.registration(0), link_trials.authentication(1), link_trials.position(2)):
+                peer.sendall(sent)
+                if not peer.recv(4096):
+                    return
+    except OSError:
+        pass
+
+
+def cases():
+    report = ["report", "--host", "127.0.0.1", "--port", "PORT", *link_trials.REPORT.split(), "--tries", "1"]
+    return [
+        Case("a heartbeat, `view`", ["view"], link_trials.heartbeat()),
+        Case("a script of one line, `rehearse`", ["rehearse"], b"run\n"),
+        Case("one session, `platform`", ["platform", "--port", "PORT", "--sessions", "1"], link_trials.FLEET, speak),
+        Case("no link, `report`", report, link_trials.FIX),
+    ]
+
+
+def is_front(text, whole):
+    return whole.startswith(text)
+
+
+def kind(ran, whole):
+    """What came of a run from which memory was withheld, or None where that is wrong."""
+    if (ran.status, ran.text) == (whole.status, whole.text):
+        return "as whole"
+    if ran.status == 8 and (is_front(ran.text, whole.text) or b"memory" in ran.text):
+        return "status 8"
+    if ran.status == 5 and ran.text.splitlines()[-1:] == [b"store fault"] or b"store-fault" in ran.text and ran.status == 5:
+        return "store fault"
+    if ran.status == whole.status and re.search(rb"^session \d+ .*end=memory", ran.text, re.M):
+        return "session ended"
+    return None
+
+
+def tried(asked, case):
+    """A row, and whether all was right."""
+    whole = case.run(asked, 0)
+    found, wrong = collections.Counter(), []
+    for number in range(1, min(whole.made, asked.most) + 1):
+        ran = case.run(asked, number)
+        came = kind(ran, whole)
+        found[came] += 1
+        if came is None:
+            wrong.append((number, ran.status, ran.text[-200:]))
+    told = ", ".join(f"{count} {came}" for came, count in found.most_common() if came)
+    print(f"| {case.name} | {whole.made} | {sum(found.values())} | {told} | {len(wrong)} |", flush=True)
+    for it in wrong[:5]:
+        print(f"wrong: {it}", file=sys.stderr)
+    return not wrong and whole.made > 0
+
+
+def main():
+    root = os.path.dirname(os.path.dirname(os.path.realpath(__file__)))
+    asked = argparse.ArgumentParser(description="Refuses the program its memory, one allocation at a time.")
+    asked.add_argument("--program", default=f"{root}/crates/jt808/out/jt808")
+    asked.add_argument("--most", type=int, default=400)
+    asked = asked.parse_args()
+    with tempfile.TemporaryDirectory() as folder:
+        asked.shim, asked.program = f"{folder}/shim.so", os.path.realpath(asked.program)
+        words = ["cc", "-shared", "-fPIC", "-O1", "-o", asked.shim, "-xc", "-", "-ldl"]
+        subprocess.run(words, input=SHIM, text=True, check=True)
+        print("| Case | Allocations | Refused in turn | What came of it | Wrong |")
+        print("|---|---|---|---|---|")
+        return 0 if all([tried(asked, it) for it in cases()]) else 1
+
+
+if __name__ == "__main__":
+    sys.exit(main())
