@@ -3,7 +3,7 @@
 
     tools/link_trials.py PROGRAM [TRIAL ..]
 
-without trials all of them, about five minutes. PROGRAM is crates/jt808/out/jt808 once it is built. Each trial prints a line with
+without trials all of them, about eight minutes. PROGRAM is crates/jt808/out/jt808 once it is built. Each trial prints a line with
 its name, what was seen, and `ok` or `WRONG`. docs/MEASURES.md has the rows.
 
     stopped   two sessions are open while the program is stopped and goes on (SIGSTOP, SIGCONT); a report likewise
@@ -13,6 +13,7 @@ its name, what was seen, and `ok` or `WRONG`. docs/MEASURES.md has the rows.
     crowd     300 connections at once with 128 descriptors
     deaf      a peer that sends and never reads, and others beside it
     away      a report whose platform comes 20 seconds late
+    idle      a peer that sends nothing for three minutes, and one that speaks after two
 """
 import hashlib
 import os
@@ -331,11 +332,31 @@ def away():
     return say("away", f"{len(lines) - 1} attempts found nobody, then {lines[-1:]}; status {status}", good)
 
 
+def idle():
+    run, port = platform(2)
+    quiet, other = connect(port, 300), connect(port, 300)
+    begun = time.time()
+    time.sleep(120)
+    answers = [ask(other, heartbeat(0))]
+    try:
+        end = quiet.recv(1)
+    except OSError:
+        end = None
+    took = time.time() - begun
+    answers.append(ask(other, heartbeat(1)))
+    quiet.close(), other.close()
+    status, text = run.wait(30)
+    run.end()
+    good = end == b"" and 179 < took < 185 and all(len(it) == 20 for it in answers) and status == 0
+    good = good and text.startswith("session 1 idle read=0 ") and "session 2 ended read=30 " in text
+    return say("idle", f"the quiet peer saw the end after {took:.1f} s, the other was answered behind it; status {status}", good)
+
+
 if __name__ == "__main__":
     if len(sys.argv) < 2:
         raise SystemExit(__doc__)
     PROGRAM = os.path.abspath(sys.argv[1])
     resource.setrlimit(resource.RLIMIT_NOFILE, (4096, resource.getrlimit(resource.RLIMIT_NOFILE)[1]))
-    trials = {it.__name__: it for it in (stopped, fenced, short, many, crowd, deaf, away)}
+    trials = {it.__name__: it for it in (stopped, fenced, short, many, crowd, deaf, away, idle)}
     wanted = sys.argv[2:] or list(trials)
     sys.exit(0 if all([trials[it]() for it in wanted]) else 1)

@@ -5,8 +5,9 @@
 
 For each case: `report` with one fix in a folder whose `terminal.db` is that case, and `platform` in one whose `platform.db` is,
 with a terminal that registers. Both have to end with `store fault` and status 5, and the file has to be as it was, octet for
-octet. Two processes: of two `report`, and of two `platform`, in one folder the second is refused, and the first goes on. A full
-disk (a small tmpfs, for which it needs the leave to mount): `store fault`, the file is sound for sqlite3 and has what was
+octet. Likewise in a folder that was removed, and in one that cannot be written, where `view` still works (a tmpfs that is mounted
+read-only, for which it needs the leave to mount). Two processes: of two `report`, and of two `platform`, in one folder the second
+is refused, and the first goes on. A full disk (a small tmpfs): `store fault`, the file is sound for sqlite3 and has what was
 accepted, and once there is room the next run goes on. It prints a line for each case; the status is 1 where one is wrong.
 """
 import argparse
@@ -42,9 +43,10 @@ class Programs:
     def __init__(self, program):
         self.program, self.started = program, []
 
-    def start(self, folder, words, given):
+    def start(self, folder, words, given, prepare=None):
+        """Starts it in a folder; there `prepare` is called first."""
         pipes = {"stdin": subprocess.PIPE, "stdout": subprocess.PIPE, "text": True}
-        ran = subprocess.Popen([self.program, *words], cwd=folder, **pipes)
+        ran = subprocess.Popen([self.program, *words], cwd=folder, preexec_fn=prepare, **pipes)
         # A program that is refused its file reads no further.
         with contextlib.suppress(BrokenPipeError):
             ran.stdin.write(given)
@@ -54,13 +56,13 @@ class Programs:
         self.started.append(ran)
         return ran
 
-    def report(self, folder, port, given=FIX):
-        return self.start(folder, words_of_report(port), given)
+    def report(self, folder, port, given=FIX, prepare=None):
+        return self.start(folder, words_of_report(port), given, prepare)
 
-    def platform(self, folder, sessions=1):
+    def platform(self, folder, sessions=1, prepare=None):
         """A platform that listens, and its port."""
         port = kill_loop.free_port()
-        ran = self.start(folder, ["platform", "--port", str(port), "--sessions", str(sessions)], kill_loop.FLEET)
+        ran = self.start(folder, ["platform", "--port", str(port), "--sessions", str(sessions)], kill_loop.FLEET, prepare)
         while ran.poll() is None and not kill_loop.listens(port):
             time.sleep(0.005)
         return ran, port
@@ -124,6 +126,41 @@ def over_platform(programs, folder, make):
     return ended(platform), before == held(f"{folder}/platform.db")
 
 
+def remove_folder():
+    """Removes the folder that a program is about to run in."""
+    os.rmdir(os.getcwd())
+
+
+def report_without_folder(programs, folder, _):
+    os.mkdir(f"{folder}/gone")
+    found = ended(programs.report(f"{folder}/gone", 1, prepare=remove_folder))
+    return found, os.listdir(folder) == []
+
+
+def platform_without_folder(programs, folder, _):
+    for it in ("gone", "elsewhere"):
+        os.mkdir(f"{folder}/{it}")
+    platform, port = programs.platform(f"{folder}/gone", prepare=remove_folder)
+    ended(programs.report(f"{folder}/elsewhere", port))
+    return ended(platform), os.listdir(folder) == ["elsewhere"]
+
+
+def closed_folder(programs, folder, _):
+    """Both commands in a folder that cannot be written. What needs no file works there."""
+    closed, elsewhere = f"{folder}/closed", f"{folder}/elsewhere"
+    for it in (closed, elsewhere):
+        os.mkdir(it)
+    subprocess.run(["mount", "-t", "tmpfs", "-o", "ro", "none", closed], check=True)
+    try:
+        is_viewed = ended(programs.start(closed, ["view"], "")) == (0, "frames=0 refused=0")
+        is_report_refused = ended(programs.report(closed, 1)) == FAULT
+        platform, port = programs.platform(closed)
+        ended(programs.report(elsewhere, port))
+        return ended(platform), is_viewed and is_report_refused and os.listdir(closed) == []
+    finally:
+        subprocess.run(["umount", "-l", closed], check=True)
+
+
 def two_reports(programs, folder, _):
     """The first one waits for a platform that never answers."""
     with socket.create_server(("127.0.0.1", 0)) as server:
@@ -168,9 +205,12 @@ def cases():
     for name, make in FILES.items():
         yield f"report over {name}", over_terminal, make
         yield f"platform over {name}", over_platform, make
+    yield "report in a folder that was removed", report_without_folder, None
+    yield "platform in a folder that was removed", platform_without_folder, None
     yield "two reports", two_reports, None
     yield "two platforms", two_platforms, None
     if os.geteuid() == 0:
+        yield "both in a folder that can't be written", closed_folder, None
         yield "a full disk", full_disk, None
 
 

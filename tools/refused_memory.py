@@ -3,12 +3,12 @@
 
     tools/refused_memory.py [--program jt808] [--most 400]
 
-For each case (a heartbeat that is viewed, a script of one line, a platform with one session, a report without a link) the program
+For each case (a heartbeat that is viewed, the script of samples/, a platform with one session, a report without a link) the program
 first runs as it is, and its allocations are counted. Then it runs once for each of them, the first 400 at most, and that one is
-refused. Each run has to end as the whole one did, or with status 8 and a front of the whole one's text, or the totals of no session;
-with a session open it may also be that session which ends, as its line says (`memory`), and a store that is refused its memory may
-say `store fault`. A run that is killed by a signal, hangs, or prints anything else is wrong. It prints a row for each case. Wants a
-C compiler.
+refused. Each run has to end as the whole one did, or with status 8 and a front of the whole one's text, the totals of no session, or
+a session's line that tells of it (`session 1 memory ..`); a store that is refused its memory may say `store fault`. A run that is
+killed by a signal, hangs, or prints anything else is wrong, and so is a case whose whole run does not end as it should. It prints a
+row for each case. Wants a C compiler.
 """
 import argparse
 import collections
@@ -81,14 +81,19 @@ int posix_memalign(void **place, size_t alignment, size_t size) {
 # What `platform` prints where no session began.
 NO_SESSIONS = b"entries=0 stored=0 repeat=0 renumbered=0\n"
 
+# What a session's line says where it ended for want of memory.
+ENDED_FOR_MEMORY = re.compile(rb"^session \d+ memory read=", re.M)
+
+ROOT = os.path.dirname(os.path.dirname(os.path.realpath(__file__)))
+
 Ran = collections.namedtuple("Ran", "status text made")
 
 
 class Case:
-    """What is run: words, what it reads, and what a peer says to it."""
+    """What is run: words, what it reads, what a peer says to it, and the status of the whole run."""
 
-    def __init__(self, name, words, given=b"", peer=None):
-        self.name, self.words, self.given, self.peer = name, words, given, peer
+    def __init__(self, name, words, given=b"", peer=None, status=0):
+        self.name, self.words, self.given, self.peer, self.status = name, words, given, peer, status
 
     def run(self, asked, refused):
         with tempfile.TemporaryDirectory() as folder:
@@ -133,12 +138,14 @@ def speak(ran, port):
 
 
 def cases():
+    with open(f"{ROOT}/samples/one_line.script", "rb") as file:
+        script = file.read()
     report = ["report", "--host", "127.0.0.1", "--port", "PORT", *link_trials.REPORT.split(), "--tries", "1"]
     return [
         Case("a heartbeat, `view`", ["view"], link_trials.heartbeat()),
-        Case("a script of one line, `rehearse`", ["rehearse"], b"run\n"),
+        Case("the script of samples/, `rehearse`", ["rehearse"], script),
         Case("one session, `platform`", ["platform", "--port", "PORT", "--sessions", "1"], link_trials.FLEET, speak),
-        Case("no link, `report`", report, link_trials.FIX),
+        Case("no link, `report`", report, link_trials.FIX, status=7),
     ]
 
 
@@ -146,12 +153,11 @@ def kind(ran, whole):
     """What came of a run from which memory was withheld, or None where that is wrong."""
     if (ran.status, ran.text) == (whole.status, whole.text):
         return "as whole"
-    if ran.status == 8 and (whole.text.startswith(ran.text) or b"memory" in ran.text or ran.text == NO_SESSIONS):
+    is_told = ran.text == NO_SESSIONS or ENDED_FOR_MEMORY.search(ran.text)
+    if ran.status == 8 and (is_told or whole.text.startswith(ran.text)):
         return "status 8"
-    if ran.status == 5 and ran.text.splitlines()[-1:] == [b"store fault"] or b"store-fault" in ran.text and ran.status == 5:
+    if ran.status == 5 and ran.text.splitlines()[-1:] == [b"store fault"]:
         return "store fault"
-    if ran.status == whole.status and re.search(rb"^session \d+ .*end=memory", ran.text, re.M):
-        return "session ended"
     return None
 
 
@@ -169,13 +175,14 @@ def tried(asked, case):
     print(f"| {case.name} | {whole.made} | {sum(found.values())} | {told} | {len(wrong)} |", flush=True)
     for it in wrong[:5]:
         print(f"wrong: {it}", file=sys.stderr)
-    return not wrong and whole.made > 0
+    if whole.status != case.status:
+        print(f"wrong: the whole run ended with {whole.status}: {whole.text[-200:]}", file=sys.stderr)
+    return not wrong and whole.made > 0 and whole.status == case.status
 
 
 def main():
-    root = os.path.dirname(os.path.dirname(os.path.realpath(__file__)))
     asked = argparse.ArgumentParser(description="Refuses the program its memory, one allocation at a time.")
-    asked.add_argument("--program", default=f"{root}/crates/jt808/out/jt808")
+    asked.add_argument("--program", default=f"{ROOT}/crates/jt808/out/jt808")
     asked.add_argument("--most", type=int, default=400)
     asked = asked.parse_args()
     with tempfile.TemporaryDirectory() as folder:
