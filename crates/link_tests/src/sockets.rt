@@ -1,4 +1,4 @@
-ghost use Rattle.std.specs.Prelude.{◌≤◌, IfSome};
+ghost use Rattle.std.specs.Prelude.{◌≡◌, ◌≤◌, ◌<◌, length, IfSome};
 
 use jt_outside::{
     Accepted, Clock, Dial, Link, LinkGot, Listen, Put, Sink, StdClock, TcpDial, TcpListen,
@@ -85,6 +85,52 @@ fn a_link_that_hung_up(rt: HostRuntime) -> Result<(), Fail> {
     assert_eq!(rt; end, LinkGot::End);
     assert_eq!(rt; read, LinkGot::Failed);
     assert_eq!(rt; put, Put::Failed);
+    Ok(())
+}
+
+// More octets than the system keeps for a peer that does not read.
+const MANY: usize = 16_777_216;
+
+// How often a link is read at most.
+const MOST_READS: u32 = 1_000_000;
+
+// How many octets a link gives until it is quiet, ends or fails.
+fn count_read(link: &mut impl Link, buf: &mut [u8]) -> usize
+    requires { 0 < length buf.old }
+    ensures { length buf.new ≡ length buf.old }
+{
+    let mut total = 0usize;
+    for _ in 0..MOST_READS {
+        match link.read(buf) {
+            LinkGot::Bytes(count) => total = total.saturating_add(count),
+            _ => return total,
+        }
+    }
+    total
+}
+
+// The other end reads only once the write is over: the count is that of the octets that come there.
+#[test]
+fn a_short_write_is_counted_short(rt: HostRuntime) -> Result<(), Fail> {
+    let mut octets = Vec::new(rt.alloc());
+    octets.resize(MANY, 7)?;
+    let mut listen = TcpListen::new(rt.clone()?);
+    let port = start(&mut listen).expect(&rt, "a port is free");
+    let mut dial = TcpDial::new(rt.clone()?);
+    let mut put = Put::Failed;
+    let mut come = 0;
+    if let Some(mut near) = dial.dial("127.0.0.1", port) {
+        put = near.write(&octets);
+        near.hang_up();
+        dial.back(near);
+    }
+    if let Accepted::Link(mut far) = listen.accept() {
+        come = count_read(&mut far, &mut octets);
+        listen.back(far);
+    }
+    assert!(rt; 0 < come);
+    assert!(rt; come < MANY);
+    assert_eq!(rt; put, Put::Count(come));
     Ok(())
 }
 

@@ -1,6 +1,7 @@
 //! Whole runs of `platform` and `report` by their words.
 
-ghost use Rattle.std.specs.Prelude.{None};
+ghost use Rattle.std.specs.Prelude.{None, IfOk};
+ghost use Rattle.jt_outside.specs.ScriptLink.{IsUntouched};
 
 use crate::waiting::Pair;
 use jt_cli::{Ended, Outside, Status, run};
@@ -87,12 +88,28 @@ where
     ran_over(rt, alloc, words, fleet, dial, listen)
 }
 
-// A listener to which one heartbeat comes.
-fn heartbeat(alloc: Global) -> Result<ScriptListen, Memory> {
+fn failing(alloc: Global, call: u64) -> Result<Seq<u64>, Memory> {
+    let mut calls = Seq::new(alloc);
+    calls.push(call)?;
+    Ok(calls)
+}
+
+// A link of one heartbeat, which fails the call of this number, where 0 is none.
+fn link(alloc: Global, fails: u64) -> Result<ScriptLink, Memory>
+    ensures { IfOk result (λ link. IsUntouched link) }
+{
     let octets = Octets::from_vec(Vec::from_slice(alloc, HEARTBEAT)?);
+    let calls = failing(alloc, fails)?;
+    ScriptLink::new(alloc, octets, 65_536, calls)
+}
+
+// A listener to which such a link comes, and which fails the call of this number.
+fn heartbeat(alloc: Global, link_fails: u64, listen_fails: u64) -> Result<ScriptListen, Memory> {
+    let link = link(alloc, link_fails)?;
+    let calls = failing(alloc, listen_fails)?;
     let mut links = Seq::new(alloc);
-    links.push(ScriptLink::new(alloc, octets, 65_536, Seq::new(alloc))?)?;
-    ScriptListen::new(alloc, links, Seq::new(alloc))
+    links.push(link)?;
+    ScriptListen::new(alloc, links, calls)
 }
 
 // Whether one link came back, to which this was written.
@@ -110,7 +127,7 @@ fn is_ran<D, L>(ran: &Ran<D, L>, status: Status, printed: &[u8]) -> bool {
 
 #[test]
 fn a_heartbeat_by_words(rt: HostRuntime) -> Result<(), Fail> {
-    let listen = heartbeat(rt.alloc())?;
+    let listen = heartbeat(rt.alloc(), 0, 0)?;
     let words = "platform --port 9000 --sessions 1";
     let ended = ran(&rt, rt.alloc(), words, "secret 3132", listen);
     assert!(rt;
@@ -123,6 +140,47 @@ fn a_heartbeat_by_words(rt: HostRuntime) -> Result<(), Fail> {
     assert!(rt; is_back(ended.outside.listen.links_back(), REFUSED));
     assert!(rt; ended.reports.len() == 1);
     assert!(rt; ended.history.len() == 2);
+    Ok(())
+}
+
+// The words, the call of the link and that of the listener that fails, where 0 is none, what is printed, and the status.
+#[test]
+fn faults_of_links_by_words(rt: HostRuntime) -> Result<(), Fail> {
+    let rows = [
+        (
+            "platform --port 9000 --sessions 1",
+            3,
+            0,
+            "session 1 link-fault read=15 written=20 frames=1 refused=0 dropped=0\nentries=2 stored=0 repeat=0 renumbered=0\n",
+            Status::Done,
+        ),
+        (
+            "platform --port 9000 --sessions 1",
+            2,
+            0,
+            "session 1 link-fault read=15 written=0 frames=1 refused=0 dropped=0\nentries=2 stored=0 repeat=0 renumbered=0\n",
+            Status::Done,
+        ),
+        (
+            "platform --port 9000 --sessions 2",
+            0,
+            3,
+            "session 1 ended read=15 written=20 frames=1 refused=0 dropped=0\nentries=2 stored=0 repeat=0 renumbered=0\nlisten fault\n",
+            Status::NetFault,
+        ),
+        (
+            "platform --port 9000 --sessions 1",
+            0,
+            1,
+            "listen fault\n",
+            Status::NetFault,
+        ),
+    ];
+    for (words, link_fails, listen_fails, printed, status) in rows {
+        let listen = heartbeat(rt.alloc(), link_fails, listen_fails)?;
+        let ended = ran(&rt, rt.alloc(), words, "secret 3132", listen);
+        assert!(rt; is_ran(&ended, status, printed.as_bytes()), "{printed}");
+    }
     Ok(())
 }
 
@@ -242,10 +300,10 @@ impl Dial for Address {
 #[test]
 fn the_dial_is_told_the_host_and_the_port_of_the_words(rt: HostRuntime) -> Result<(), Fail> {
     let words =
-        "report --port 65535 --host example.org --phone 013912345678 --plate 4a54383038 --terminal 31323334353637 --tries 2";
+        "report --port 9001 --host example.org --phone 013912345678 --plate 4a54383038 --terminal 31323334353637 --tries 2";
     let dial = Address {
         host: "example.org",
-        port: 65_535,
+        port: 9_001,
         is_told: true,
         calls: 0,
     };
