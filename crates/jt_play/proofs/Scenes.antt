@@ -28,11 +28,12 @@ use Rattle.jt_octets.specs.Steps.{Event, Does, Up, Down, Cut, RestartPlatform, M
 use Rattle.jt_octets.specs.Claim.{EachReachedIsOfThePhone}
 use Rattle.jt_octets.specs.Reaching.{Leads, Reached}
 use Rattle.jt_play.specs.declared.identity.Identity.{Identity}
-use Rattle.jt_play.specs.declared.event.WorldEvent.{WorldEvent}
-use Rattle.jt_play.specs.declared.event.WorldEvent.TheVariants as line
+use Rattle.jt_script.specs.declared.world_event.WorldEvent.{WorldEvent}
+use Rattle.jt_script.specs.declared.world_event.WorldEvent.TheVariants as line
 use Rattle.jt_play.specs.declared.error.WorldError.{WorldError}
 use Rattle.jt_play.specs.declared.error.WorldError.TheVariants as refused
-use Rattle.jt_play.specs.Holding.{IsScene, Names, is_no_line, settings_in}
+use Rattle.jt_play.specs.Holding.{is_no_line}
+use Rattle.jt_play.specs.Scripts.{IsScene, Names, settings_in}
 use Rattle.jt_play.specs.Laws.{first_play}
 use Rattle.jt_play.specs.Playing.{Play, behind, is_opened, names_no_line}
 use Rattle.jt_play.proofs.Downward.{leads_both}
@@ -91,7 +92,7 @@ step_key m step.Loses may = refl
 step_key m (step.Restarts phone) may = may.1
 step_key m (step.Codes code) may = refl
 
-event_key : (w : World) (event : Event) → MayCome w event → key_of (after w event).terminal.phone ≡ key_of w.terminal.phone
+pub event_key : (w : World) (event : Event) → MayCome w event → key_of (after w event).terminal.phone ≡ key_of w.terminal.phone
 event_key w (Does s) may = step_key w.terminal s may
 event_key w (Up place way) may = ap (λ (m : Machine). key_of m.phone) (taken_terminal w place (line_at w.lines place).session (completed_item (line_at w.lines place).up) way)
 event_key w (Down takes) may = ap key_of (heard_phone w.terminal (just_read w.partial (completed_item (octets.newest w).down)) takes)

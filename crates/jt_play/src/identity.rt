@@ -1,7 +1,7 @@
 //! One terminal in both editions.
 
 ghost use Rattle.std.specs.Prelude.{◌≡◌, IfOk};
-ghost use Rattle.jt_play.specs.Holding.{settings_in};
+ghost use Rattle.jt_play.specs.Scripts.{settings_in};
 
 use jt_register::Register;
 use jt_terminal_rule::Settings;

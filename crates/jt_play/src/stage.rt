@@ -2,33 +2,38 @@
 
 ghost use Rattle.std.specs.Prelude.{◌≡◌, ◌+◌, ◌-◌, ◌<◌, ◌≤◌, ◌^◌, ◌++◌, [], ◌∷◌, length, set, true, false, ℕ, Err, is_none, not, IfErr, IfOk, IfSome, IsSome, OnErr, OnOk, Some};
 ghost use Rattle.std.specs.List.{flat_map};
-ghost use Rattle.jt_play.specs.Holding.{FullWhere, IsPlayed, TakesNext, is_short, Names, ReadsNext, is_no_line, noted_at, settings_in, IsMoment, HasMoreRoom, IsNewHub, IsNewTerminal, IsNoOpening, first_line, shut_lines, wrote_last};
-ghost use Rattle.jt_play.specs.Laws.{first_play};
+ghost use Rattle.jt_play.specs.Holding.{FullWhere, TakesNext, is_short, ReadsNext, is_no_line, noted_at, tally_of, IsMoment, HasMoreRoom, IsNewHub, IsNewTerminal, IsNoOpening, first_line, shut_lines, wrote_last};
+ghost use Rattle.jt_play.specs.Laws.{HasFix, first_play};
+ghost use Rattle.jt_play.specs.Scripts.{IsPlayed, Names, at_most_u64, edition_by, settings_in};
 ghost use Rattle.jt_play.specs.Playing.{beats, behind, begins, closes, cuts, finds_full, goes_on, goes_up, is_opened, loses, meets, moves, names_no_line, opens, play_after, reads, reads_down, reads_more, reads_one, records, round, RunsTo, starts_again, takes, takes_octet, takes_up, ticks};
 ghost use Rattle.jt_platform.specs.Laws.{AreOf};
 ghost use Rattle.jt_terminal_rule.specs.Messages.{AreSettings};
 ghost use Rattle.jt_terminal_rule.specs.Rule.{first_params, response};
 ghost use Rattle.jt_terminal_rule.specs.Tables.{set_params};
 ghost use Rattle.jt_params.specs.Tables.{HasOctets};
+ghost use Rattle.jt_platform.specs.History.{rows_after};
+ghost use Rattle.jt_position.specs.Fixes.{IsFix};
+ghost use Rattle.jt_store.specs.Vaults.{accepted_count};
 ghost use Rattle.std.specs.FinMap.{empty};
 ghost use Rattle.jt_terminal_rule.specs.declared.state.Event.TheVariants.{Opened, Tick};
 ghost use Rattle.jt_value.specs.Sameness.{key_of};
 ghost use Rattle.jt_terminal_steps.specs.Running.{IsEvent, IsSound};
 ghost use Rattle.jt_value.specs.declared.limits.TheConstants.{FIX_LIMIT, ROW_LIMIT};
 ghost use Rattle.jt_play.specs.declared.error.WorldError.TheVariants as refused;
-ghost use Rattle.jt_play.specs.declared.event.WorldEvent.TheVariants as asked;
+ghost use Rattle.jt_script.specs.declared.world_event.WorldEvent.TheVariants as asked;
 ghost use Rattle.jt_octets.specs.Reaching.{Leads, Reached};
 ghost use Rattle.jt_octets.specs.Steps.{RestartPlatform, after};
 ghost use Rattle.jt_octets.specs.World.{line_at};
 
 use crate::error::WorldError;
-use crate::event::WorldEvent;
 use crate::identity::Identity;
 use crate::laws::law_asked;
 use crate::line::Line;
+use crate::tally::{Tally, tally_all, tally_entries};
 use jt_header::law_of_contents;
 use jt_platform::{Entry, Fleet, Hub, law_answers, law_histories};
 use jt_position::Fix;
+use jt_script::world_event::WorldEvent;
 use jt_session::{End, Fed};
 use jt_store::{MemKeeper, MemVault, StoreError};
 use jt_stream::{law_frames, law_front, law_one_octet};
@@ -36,7 +41,7 @@ use jt_terminal::{Terminal, TerminalLine};
 use jt_terminal_answers::first_params;
 use jt_terminal_rule::{Event, Settings, law_rule};
 use jt_value::limits::{FIX_LIMIT, ROW_LIMIT};
-use jt_value::{Edition, Memory, Octets, Seq};
+use jt_value::{Edition, Memory, Octets, Phone, Seq};
 use std::alloc::Global;
 use std::marker::Model;
 
@@ -314,6 +319,7 @@ impl Stage {
         ensures ok { OnOk result (self.new ≡ records self.old fix.now) }
         ensures err { OnErr result (self.new ≡ self.old) }
         ensures full { FullWhere self.old.held result }
+        ensures fix { IsFix fix.now }
     {
         law_rule();
         let _octets = fix.as_slice();
@@ -766,6 +772,24 @@ impl Stage {
         copies(alloc, &all[mark..])
     }
 
+    /// How many fixes were recorded, and how many of them are accepted.
+    pub(crate) fn counts(&self) -> (u64, u64)
+        ensures { (result.0 ≡ at_most_u64 (length self.now.held.recorded))
+            × (result.1 ≡ at_most_u64 (accepted_count self.now.held)) }
+    {
+        self.terminal.counts()
+    }
+
+    /// The rows that the entries of all hubs added for a phone, and the fixes in them. Each entry is looked at once, and nothing is
+    /// copied.
+    pub(crate) fn tally(&self, phone: &Phone) -> Tally
+        ensures { result ≡ tally_of (rows_after (key_of phone.now) []
+            (self.now.world.history ++ self.now.world.past)) }
+    {
+        let past = tally_all(self.past.as_slice(), phone);
+        past.plus(tally_entries(self.hub.history(), phone))
+    }
+
     // The place of a line that was opened.
     fn place_of(&self, line: u32) -> Option<usize>
         ensures opened { IfSome result (λ place. place < length self.now.world.lines) }
@@ -800,6 +824,8 @@ impl Stage {
         ensures ran { event ≡ asked.Run → result ≡ Ok true → RunsTo self.old self.new }
         ensures same { IfErr result (λ error. self.new ≡ self.old) }
         ensures edition { IfErr result (λ error. edition.new ≡ edition.old) }
+        ensures next { result ≡ Ok true → edition.new ≡ edition_by edition.old event }
+        ensures fix { result ≡ Ok true → HasFix event }
         ensures no_line { is_no_line result ≡ names_no_line self.old.world event }
         ensures number { (line : ℕ) → result ≡ Err (refused.NoLine line) → Names event line }
         ensures full { (limit : ℕ) → result ≡ Err (refused.Full limit) →

@@ -1,6 +1,6 @@
 use Rattle.std.proofs.Common.{ℕ, ◌≡◌, ap, sym, ◌∙◌, subst}
-use Rattle.jt_play.specs.Holding.{IsPlayed, settings_in}
-use Rattle.jt_play.specs.declared.event.WorldEvent.{WorldEvent}
+use Rattle.jt_play.specs.Scripts.{IsPlayed, settings_in}
+use Rattle.jt_script.specs.declared.world_event.WorldEvent.{WorldEvent}
 use Rattle.jt_play.proofs.Running.{ok_true, runs_is}
 use Rattle.jt_play.specs.Playing.{cuts, play_after}
 use Rattle.jt_play.proofs.stage.Stage.step.Goals as goal

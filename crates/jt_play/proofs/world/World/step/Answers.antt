@@ -3,8 +3,9 @@ use Rattle.std.specs.Prelude.{Err}
 use Rattle.jt_value.specs.declared.limits.TheConstants.{FIX_LIMIT}
 use Rattle.jt_value.specs.declared.phone.Edition.{Edition}
 use Rattle.jt_play.specs.declared.error.WorldError.TheVariants as refused
-use Rattle.jt_play.specs.Holding.{Names, Scene}
+use Rattle.jt_play.specs.Scripts.{Names, Scene}
 use Rattle.jt_play.specs.Playing.{Play, finds_full, is_opened}
+use Rattle.jt_play.proofs.Scripting.{step_ok, step_played, step_scripted}
 use Rattle.jt_play.proofs.Scenes.{no_line_is, own_history, same_refused, scene_on}
 use Rattle.jt_play.proofs.world.World.step.Goals as goal
 
@@ -13,6 +14,24 @@ step-done-requires-clause-own c = own_history c.law_world.ensures.phone c.self.i
 
 pub invariant_of-self : goal.invariant_of-self
 invariant_of-self c = scene_on c.self.inside.stage c.step-done.new.self c.self.inside.identity c.self.invariant c.step-done.ensures.leads
+
+pub returns-clause-ok : goal.returns-clause-ok
+returns-clause-ok c by =
+    let s = c.self.inside in
+    step_ok _ (record { play = s.stage; identity = s.identity; edition = s.edition }) _ c.self.view_is c.args.event c.step-done.new.self c.step-done.result c.answer.result c.law_rule.ensures.settings c.law_run.ensures c.self.invariant
+    c.step-done.ensures.ok c.answer.ensures.done by
+
+pub returns-clause-played : goal.returns-clause-played
+returns-clause-played c by =
+    let s = c.self.inside in
+    step_played _ (record { play = s.stage; identity = s.identity; edition = s.edition }) _ c.self.view_is c.args.event c.step-done.new.self c.step-done.result c.answer.result c.law_rule.ensures.settings c.law_run.ensures c.self.invariant
+    c.step-done.ensures.ok c.answer.ensures.done by
+
+pub returns-clause-scripted : goal.returns-clause-scripted
+returns-clause-scripted c by =
+    let s = c.self.inside in
+    step_scripted _ (record { play = s.stage; identity = s.identity; edition = s.edition }) _ c.self.view_is c.args.event c.step-done.new.self c.step-done.result c.answer.result c.law_rule.ensures.settings c.law_run.ensures c.self.invariant
+    c.step-done.ensures.ok c.answer.ensures.done c.step-done.new.edition c.step-done.ensures.fix c.step-done.ensures.next by
 
 pub returns-clause-no_line : goal.returns-clause-no_line
 returns-clause-no_line c line =
