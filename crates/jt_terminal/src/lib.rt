@@ -12,7 +12,7 @@ mod terminal;
 pub use actions::Actions;
 pub use jt_terminal_rule::{
     Acknowledgement, AnswerKind, Event, GiveUp, Phase, Queue, Settings, State, Timing, Wait,
-    law_examples, law_forming, law_rule, law_unsaid, law_waits,
+    Window, law_examples, law_forming, law_rule, law_unsaid, law_waits,
 };
 pub use jt_terminal_steps::TerminalError;
 pub use laws::law_steps;

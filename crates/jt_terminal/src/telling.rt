@@ -6,12 +6,12 @@ ghost use Rattle.jt_terminal_rule.specs.Rule as rule;
 
 use jt_codec::Message;
 use jt_store::Unit;
-use jt_terminal_rule::{Acknowledgement, Queue, State};
+use jt_terminal_rule::{Acknowledgement, State, Window};
 use jt_terminal_steps::{is_acceptance, names};
 use jt_value::{Memory, Seq};
 
 // How many units stand before the first of those sent on this line that the response names.
-fn first_named(ack: Acknowledgement, sent: usize, units: &Queue<Unit>) -> Option<u64>
+fn first_named(ack: Acknowledgement, sent: usize, units: &Window<Unit>) -> Option<u64>
     ensures { result ≡ rule.first_named ack sent units.now }
 {
     for place in 0..sent {

@@ -25,18 +25,26 @@ use crate::telling::told_by;
 use jt_params::ParamTable;
 use jt_position::Fix;
 use jt_regions::RegionTable;
-use jt_store::{Loaded, StoreError, Vault};
+use jt_store::{Loaded, StoreError, Unit, Vault};
 use jt_stream::Stream;
 use jt_subpacket::Assembler;
 use jt_terminal_answers::first_params;
-use jt_terminal_rule::{Event, GiveUp, Phase, Queue, Settings, State, Timing, Wait, lose, on_open};
+use jt_terminal_rule::{
+    Event, GiveUp, Phase, Queue, Settings, State, Timing, Wait, Window, lose, on_open,
+};
 use jt_terminal_steps::{TerminalError, on_beat, on_message, on_tick};
 use jt_value::{Memory, Octets, Seq};
 use std::alloc::Global;
 use std::marker::Model;
 
-// The state of a terminal that starts with what its vault loaded, and the parameters of its settings.
-fn started(alloc: Global, settings: Settings, loaded: Loaded, params: ParamTable) -> State
+// The state of a terminal that starts with what its vault loaded, the parameters of its settings, and a window for its units.
+fn started(
+    alloc: Global,
+    settings: Settings,
+    loaded: Loaded,
+    params: ParamTable,
+    mut window: Window<Unit>,
+) -> State
     requires { params ≡ set_params (rule.first_params settings) empty }
     ensures state { result ≡ rule.start_state settings loaded }
     ensures small { (result.mark < 65536) × (result.next < 65536) × (result.recorded < 2 ^ 64)
@@ -51,6 +59,7 @@ fn started(alloc: Global, settings: Settings, loaded: Loaded, params: ParamTable
         recorded,
         accepted,
     } = loaded;
+    window.fill(units);
     let timing = Timing {
         heartbeat: settings.heartbeat,
         answer: settings.answer,
@@ -72,7 +81,7 @@ fn started(alloc: Global, settings: Settings, loaded: Loaded, params: ParamTable
             repeats: 0,
         },
         said: 0,
-        units: Queue::from_seq(units),
+        units: window,
         sent: 0,
         waiting: Queue::from_seq(fixes),
         mark,
@@ -307,7 +316,8 @@ impl<V: Vault> Model for Terminal<V> {
 impl<V: Vault> Terminal<V> {
     /// A terminal without a line over what its vault loads. The settings are good: the phone has a digit in each half octet,
     /// the registration has octets in the phone's edition and a plate of at most 255 octets, and there is a tail in 2019
-    /// alone. An Err has the vault, as before, and why it did not load; Full never comes.
+    /// alone. The ring for the units in flight is made before the vault is read. An Err has the vault, as before, and why the
+    /// terminal does not start: Memory also where the ring cannot be made; Full never comes.
     pub fn start(
         alloc: Global,
         mut vault: V,
@@ -326,11 +336,15 @@ impl<V: Vault> Terminal<V> {
             Ok(params) => params,
             Err(Memory) => return Err((vault, StoreError::Memory)),
         };
+        let window = match Window::new(alloc) {
+            Ok(window) => window,
+            Err(Memory) => return Err((vault, StoreError::Memory)),
+        };
         match vault.load(alloc) {
             Ok(loaded) => {
                 look_at_fixes(loaded.fixes.as_slice());
                 look_at_serials(loaded.units.as_slice());
-                let state = started(alloc, settings, loaded, params);
+                let state = started(alloc, settings, loaded, params, window);
                 Ok(Terminal { vault, state })
             }
             Err(error) => Err((vault, error)),
@@ -348,10 +362,11 @@ impl<V: Vault> Terminal<V> {
         ensures limit { V.limit self.new.vault ≡ V.limit self.old.vault }
     {
         let params = first_params(alloc, &settings)?;
+        let window = Window::new(alloc)?;
         let loaded = self.vault.load(alloc)?;
         look_at_fixes(loaded.fixes.as_slice());
         look_at_serials(loaded.units.as_slice());
-        self.state = started(alloc, settings, loaded, params);
+        self.state = started(alloc, settings, loaded, params, window);
         Ok(())
     }
 

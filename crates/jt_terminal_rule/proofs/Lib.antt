@@ -39,3 +39,4 @@ pub mod Measuring
 pub mod Lasting
 mod Unsaying
 mod Keeping
+mod Windows

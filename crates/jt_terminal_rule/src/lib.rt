@@ -9,6 +9,7 @@ mod settings;
 mod state;
 mod units;
 mod waits;
+mod window;
 
 pub use laws::{law_examples, law_forming, law_rule, law_unsaid, law_waits};
 pub use queue::Queue;
@@ -20,3 +21,4 @@ pub use settings::Settings;
 pub use state::{Acknowledgement, AnswerKind, Event, GiveUp, Phase, State, Timing, Wait};
 pub use units::unit_of;
 pub use waits::{after_packets, first_wait, has_passed, has_serial};
+pub use window::{WINDOW, Window};

@@ -2,6 +2,7 @@
 
 use crate::queue::Queue;
 use crate::settings::Settings;
+use crate::window::Window;
 use jt_codec::Message;
 use jt_header::Header;
 use jt_params::ParamTable;
@@ -69,7 +70,7 @@ pub struct State {
     /// When anything was sent last, in milliseconds.
     pub said: u64,
     /// The units that are not accepted, oldest first.
-    pub units: Queue<Unit>,
+    pub units: Window<Unit>,
     /// How many of the units were sent on this line. They are the first ones.
     pub sent: usize,
     /// The fixes that are in no unit.

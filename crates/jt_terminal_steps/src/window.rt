@@ -9,12 +9,9 @@ ghost use Rattle.jt_terminal_steps.specs.Running.{CutShort, IsSame, IsSound, May
 
 use crate::error::{TerminalError, trouble};
 use jt_store::{Unit, Vault};
-use jt_terminal_rule::{Queue, State, Wait, first_wait, has_serial, say_unit, unit_of};
+use jt_terminal_rule::{State, WINDOW, Wait, Window, first_wait, has_serial, say_unit, unit_of};
 use jt_value::{Octets, Seq};
 use std::alloc::Global;
-
-/// How many units that are not accepted are sent on a line at most.
-const WINDOW: usize = 16;
 
 // The wait behind the sending of one unit more: it begins where none was sent before.
 fn wait_of(state: &State) -> Wait
@@ -41,9 +38,10 @@ fn one_sent(state: &mut State)
 fn commit<V: Vault>(
     alloc: Global,
     vault: &mut V,
-    units: &mut Queue<Unit>,
+    units: &mut Window<Unit>,
     unit: &Unit,
 ) -> Result<(), TerminalError>
+    requires room { length units.old < 16 }
     requires unit { IsUnit unit.now }
     requires may { WhereKnown (V.holds vault.old) (λ held. MayCommit held unit.now) }
     ensures ok { OnOk result ((V.holds vault.new ≡ changed (Forms unit.now) (V.holds vault.old))
@@ -53,13 +51,12 @@ fn commit<V: Vault>(
         (V.limit vault.new) (V.may_fail vault.old) (V.may_fail vault.new) result }
 {
     let copy = unit.clone()?;
-    units.push(copy)?;
     match vault.form(alloc, unit) {
-        Ok(()) => Ok(()),
-        Err(error) => {
-            let _unit = units.pop_back();
-            Err(trouble(error))
+        Ok(()) => {
+            units.put(copy);
+            Ok(())
         }
+        Err(error) => Err(trouble(error)),
     }
 }
 
@@ -71,6 +68,7 @@ fn form_unit<V: Vault>(
     out: &mut Seq<Octets>,
 ) -> Result<bool, TerminalError>
     requires few { state.old.sent < 16 }
+    requires room { length state.old.units < 16 }
     requires sound { IsSound (V.holds vault.old) state.old }
     ensures ok { IfOk result (λ more.
         Went state.old.settings (rule.form_unit state.old state.old.waiting) more

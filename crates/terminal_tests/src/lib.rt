@@ -6,6 +6,8 @@ mod counting;
 #[cfg(test)]
 mod faults;
 #[cfg(test)]
+mod in_flight;
+#[cfg(test)]
 mod rows_2013;
 #[cfg(test)]
 mod rows_2019;
