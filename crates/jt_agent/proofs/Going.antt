@@ -1,5 +1,5 @@
 -- How an attempt comes on, and how it ends.
-use Rattle.std.proofs.Common.{◌≡◌, inl, inr, ◌≤◌, ◌<◌, ◌+◌, ℕ, List, [], ◌∷◌, ◌++◌, Option, Some, None, length, Bool, refl, sym, ap, subst, ◌∙◌, length-append, append_assoc, arith}
+use Rattle.std.proofs.Common.{◌≡◌, inl, inr, ◌≤◌, ◌<◌, ◌+◌, ◌-◌, ℕ, List, [], ◌∷◌, ◌++◌, Option, Some, None, length, Bool, refl, sym, ap, subst, ◌∙◌, length-append, append_assoc, arith}
 use Rattle.std.proofs.KnownBytes.{Appends-nil, Appends-trans, Appends-kept, Consumes-nil, Consumes-trans, Consumes-kept}
 use Rattle.std.specs.Io.KnownBytes.{Appends, IsAtEnd}
 use Rattle.std.specs.List.{flat_map}
@@ -21,7 +21,7 @@ use Rattle.jt_terminal_steps.specs.AfterError.{AreSameTables, CutLists, lists_of
 use Rattle.jt_terminal_steps.specs.Running.{holds_after, CutShort, IsDown}
 use Rattle.jt_terminal.specs.Line.{LineValue, StandsForLine, rule_at_octets}
 use Rattle.jt_agent.specs.Course.{Move, Ticks, Opens, Reads, Waits, Course, course, made, goes_on, due, kind, Due, ATick, AnOpening, ARead, IsPiece, IsAtRead, IsTold, moments_of, waits_of, octets_of, said_octets, Stop, Finished, GaveUp}
-use Rattle.jt_agent.specs.Attempt.{AtLink, at_link, Given, LinkCounts, LeavesAt, WasCut, CutLast, Does, HasCause, Attempt, VaultStays}
+use Rattle.jt_agent.specs.Attempt.{AtLink, at_link, Given, LinkCounts, LeavesAt, WasCut, CutLast, Does, HasCause, Attempt, VaultStays, most_quiet}
 use Rattle.jt_agent.specs.Moving.{ended_by, IsTrouble, DidRule, LeavesEvent, CutRule, Comes, TicksOnce, Later, ReadsLink, TakesMove, Stands, GoesOn, Did, Exit, Ends, IsQuiet}
 use Rattle.jt_agent.specs.declared.ending.AttemptEnd.TheVariants as how
 use Rattle.jt_agent.specs.declared.ending.Attempted.{Attempted}
@@ -494,19 +494,43 @@ pub quiet_more : (quiet : ℕ) (old now next : Inbound) → quiet < 1000000 → 
 quiet_more quiet old now next few is run rose =
     let r = is.run in
     let q = is.rose in
-    record { run = omega (arith, r, run, few); rose = omega (arith, q, rose) }
+    let m = is.most in
+    record { run = omega (arith, r, run, few); most = omega (arith, m, run); rose = omega (arith, q, rose) }
+
+pub none_run : (run old : ℕ) → run ≡ 0 → run ≤ old + 0
+none_run run old is = omega (arith, is)
 
 weaker_rise : (times before now : ℕ) → RoseBy times before now → RoseBy 0 before now
 weaker_rise times before now rose = omega arith
 
-pub quiet_from : (next : Due) (old now : AtLink) (time time_now : Time) (line : LineValue) (taken : ℕ) → GoesOn next old now time time_now line taken → IsQuiet 0 old.link.inbound now.link.inbound
-quiet_from next old now time time_now line taken goes = record {
+pub quiet_from : (next : Due) (old now : AtLink) (time time_now : Time) (line : LineValue) (taken : ℕ) → GoesOn next old now time time_now line taken
+    → (mid : Inbound) → now.link.inbound ≡ mid → mid.run ≤ old.link.inbound.run + 0 → IsQuiet 0 old.link.inbound now.link.inbound
+quiet_from next old now time time_now line taken goes mid same le = record {
   run = omega arith;
+  most = subst (λ (x : Inbound). x.run ≤ old.link.inbound.run + 0) (sym same) (omega (arith, le));
   rose = weaker_rise (waits_of goes.moves) old.link.inbound.quiets now.link.inbound.quiets goes.given.waits;
 }
 
 pub quiet_kept : (quiet : ℕ) (old mid next : Inbound) → IsQuiet quiet old mid → next ≡ mid → IsQuiet quiet old next
 quiet_kept quiet old mid next is same = subst (IsQuiet quiet old) (sym same) is
+
+least_quiet : (quiets : ℕ) (ended : Attempted) → quiets - 1 ≤ most_quiet quiets ended
+least_quiet quiets Done = omega arith
+least_quiet quiets (Ended (how.Denied reply)) = omega arith
+least_quiet quiets (Ended (how.TimedOut since moment)) = omega arith
+least_quiet quiets (Ended how.End) = omega arith
+least_quiet quiets (Ended how.Link) = omega arith
+least_quiet quiets (Ended how.Idle) = omega arith
+least_quiet quiets (Ended how.Spent) = omega arith
+least_quiet quiets (Ended how.Dial) = omega arith
+least_quiet quiets StoreFault = omega arith
+least_quiet quiets Memory = omega arith
+
+-- it ended with fewer quiet reads in a row than may be
+pub few_quiet : (quiets quiet : ℕ) (old mid now : Inbound) (ended : Attempted) → mid.run ≤ old.run + quiet → quiet < quiets → now ≡ mid → now.run ≤ old.run + most_quiet quiets ended
+few_quiet quiets quiet old mid now ended le few same =
+    let least = least_quiet quiets ended in
+    subst (λ (x : Inbound). x.run ≤ old.run + most_quiet quiets ended) (sym same) (omega (arith, le, few, least))
 
 pub goes_count : (next : Due) (old now : AtLink) (time time_now : Time) (line : LineValue) (n m : ℕ) → GoesOn next old now time time_now line n → n ≡ m → GoesOn next old now time time_now line m
 goes_count next old now time time_now line n m goes same = subst (GoesOn next old now time time_now line) same goes

@@ -1,5 +1,5 @@
 -- One attempt of a terminal over a link (this project's own). To be believed.
-use Rattle.std.specs.Prelude.{◌≡◌, ℕ, ◌≤◌, ◌⊎◌, List, [], ◌∷◌, ◌++◌, length, Option, Some, Bool, false}
+use Rattle.std.specs.Prelude.{◌≡◌, ℕ, ◌-◌, ◌≤◌, ◌⊎◌, List, [], ◌∷◌, ◌++◌, length, Option, Some, Bool, false}
 use Rattle.std.specs.Io.KnownBytes.{Appends, IsAtEnd}
 use Rattle.jt_value.specs.Counts.{Rose, RoseBy, Counts}
 use Rattle.jt_outside.specs.Inbound.{Inbound}
@@ -124,6 +124,11 @@ HasCause (Ended how.Spent) octets quiets moves old now = IsAtRead old.state move
 HasCause (Ended how.Dial) octets quiets moves old now = ⊥
 HasCause StoreFault octets quiets moves old now = Rose old.faults now.faults
 HasCause Memory octets quiets moves old now = Unit {0}
+
+-- the most reads in a row that were quiet, where an attempt ends so: the last one that is allowed ends it as Idle
+abbrev pub most_quiet : ℕ → Attempted → ℕ
+most_quiet quiets (Ended how.Idle) = quiets
+most_quiet quiets _ = quiets - 1
 
 -- An attempt over a link, with at most so many octets taken and so many quiet reads in a row: there are moves, newest first, of which all of
 -- this holds.

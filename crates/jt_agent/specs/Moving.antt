@@ -1,5 +1,5 @@
 -- How an attempt comes on, move by move. For the proofs.
-use Rattle.std.specs.Prelude.{◌≡◌, ℕ, ◌≤◌, ◌⊎◌, List, ◌∷◌, length, Option, None, Some, Bool}
+use Rattle.std.specs.Prelude.{◌≡◌, ◌+◌, ℕ, ◌≤◌, ◌⊎◌, List, ◌∷◌, length, Option, None, Some, Bool}
 use Rattle.std.specs.Io.KnownBytes.{Appends}
 use Rattle.jt_value.specs.Counts.{Rose, RoseBy, Counts}
 use Rattle.jt_outside.specs.Inbound.{Inbound}
@@ -144,4 +144,5 @@ pub record Ends (octets quiets : ℕ) (old now : AtLink) (time time_now : Time) 
 -- how many reads in a row were quiet
 pub record IsQuiet (quiet : ℕ) (old now : Inbound) : Type 0 where
   pub run : quiet ≤ now.run
+  pub most : now.run ≤ old.run + quiet
   pub rose : RoseBy quiet old.quiets now.quiets

@@ -1,12 +1,12 @@
 //! One attempt over a link.
 
-ghost use Rattle.std.specs.Prelude.{◌≡◌, ◌≤◌, ◌^◌};
+ghost use Rattle.std.specs.Prelude.{◌≡◌, ◌≤◌, ◌+◌, ◌^◌};
 ghost use Rattle.jt_outside.specs.Link.{wire_of};
 ghost use Rattle.jt_terminal_rule.specs.declared.state.Event.TheVariants.{Lost};
 ghost use Rattle.jt_terminal_rule.specs.declared.state.Phase.TheVariants.{Down};
 ghost use Rattle.jt_terminal_rule.specs.Rule.{rule};
 ghost use Rattle.jt_terminal_steps.specs.Running.{IsDown};
-ghost use Rattle.jt_agent.specs.Attempt.{Attempt, VaultStays, at_link};
+ghost use Rattle.jt_agent.specs.Attempt.{Attempt, VaultStays, at_link, most_quiet};
 ghost use Rattle.jt_agent.specs.Moving.{Ends, DidRule};
 ghost use Rattle.jt_agent.specs.declared.ending.Attempted.TheVariants.{StoreFault};
 
@@ -39,6 +39,7 @@ fn converse<K: Link, C: Clock, V: Vault>(
         (at_link terminal.new.state (V.holds terminal.new.vault) (V.faults terminal.new.vault)
         (wire_of K.inbound K.written K.faults link.new))
         (C.time clock.old) (C.time clock.new) result }
+    ensures quiet { (K.inbound link.new).run ≤ (K.inbound link.old).run + most_quiet quiets result }
     ensures late { terminal.new.state.time ≤ (C.time clock.new).last }
     ensures settings { terminal.new.state.settings ≡ terminal.old.state.settings }
     ensures vault { VaultStays (V.faults terminal.old.vault) (V.faults terminal.new.vault)
@@ -132,6 +133,8 @@ pub fn attempt_within<K: Link, C: Clock, V: Vault>(
         (at_link terminal.new.state (V.holds terminal.new.vault) (V.faults terminal.new.vault)
         (wire_of K.inbound K.written K.faults link.new))
         (C.time clock.old) (C.time clock.new) result }
+    // As many quiet reads in a row as may be end it as Idle.
+    ensures quiet { (K.inbound link.new).run ≤ (K.inbound link.old).run + most_quiet quiets result }
     // So another attempt may follow.
     ensures down { IsDown terminal.new.state }
     ensures late { terminal.new.state.time ≤ (C.time clock.new).last }
@@ -160,6 +163,7 @@ pub fn attempt<K: Link, C: Clock, V: Vault>(
         (at_link terminal.new.state (V.holds terminal.new.vault) (V.faults terminal.new.vault)
         (wire_of K.inbound K.written K.faults link.new))
         (C.time clock.old) (C.time clock.new) result }
+    ensures quiet { (K.inbound link.new).run ≤ (K.inbound link.old).run + most_quiet MOST_QUIETS result }
     ensures down { IsDown terminal.new.state }
     ensures late { terminal.new.state.time ≤ (C.time clock.new).last }
     ensures settings { terminal.new.state.settings ≡ terminal.old.state.settings }

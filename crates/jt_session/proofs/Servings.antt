@@ -130,6 +130,10 @@ hears_behind o s now octets pass pass_now said more fed did = record {
   full = did.full;
 }
 
+-- behind octets nothing was quiet
+pub none_quiet : (old : ℕ) (mid now : Inbound) (most : ℕ) → now ≡ mid → mid.run ≡ 0 → now.run ≤ old + most
+none_quiet old mid now most same zero_run = subst (λ (x : Inbound). x.run ≤ old + most) (sym same) (omega (arith, zero_run))
+
 module _ {O : Type 0} (o : Option Opening) (s : Seen) (pass : PassState Request Reply O) (link : Wire) where
   pub course_begun : IsNew s → s.stream.place ≡ 0 → Course o s s pass pass link link 0 0 0
   course_begun new place = record {
@@ -150,6 +154,7 @@ module _ {O : Type 0} (o : Option Opening) (s : Seen) (pass : PassState Request 
     counts = counts_same link.inbound.quiets;
     rose = omega arith;
     run = omega arith;
+    most = omega arith;
   }
 
   -- it ended without a further read
@@ -195,6 +200,7 @@ module _ {O : Type 0} (o : Option Opening) (s : Seen) (pass : PassState Request 
           counts = counts_both link.inbound.quiets w.inbound.quiets mid.inbound.quiets c.counts cause.quiets;
           rose = omega (arith, rose, c.rose);
           run = omega (arith, run, c.run, few);
+          most = omega (arith, run, c.most);
         }
 
     -- octets were read and heard
@@ -217,8 +223,8 @@ module _ {O : Type 0} (o : Option Opening) (s : Seen) (pass : PassState Request 
       faults_now : Counts link.faults w_next.faults
       faults_now = counts_both link.faults w.faults w_next.faults c.faults (counts_both w.faults mid.faults w_next.faults cause.faults did.faults)
 
-      pub course_reads : end ≡ None → next.waiting ≡ None → next.over ≡ false → next.stream.place ≤ now.stream.place + length piece → done ≤ 4184 * length piece → count ≡ length piece → Course o s next pass pass_next link w_next (so_far + count) (answered + done) 0
-      course_reads none waits on place short is =
+      pub course_reads : end ≡ None → next.waiting ≡ None → next.over ≡ false → next.stream.place ≤ now.stream.place + length piece → done ≤ 4184 * length piece → count ≡ length piece → mid.inbound.run ≡ 0 → Course o s next pass pass_next link w_next (so_far + count) (answered + done) 0
+      course_reads none waits on place short is zero_run =
           let on_all = subst (λ e. AnswersEnd done did.said did.fed mid.faults w_next.faults e) none did.ended in
           let all : take done did.said ≡ did.said = take_all done did.said (omega (arith, on_all.1)) in record {
             taken = taken_now;
@@ -238,6 +244,7 @@ module _ {O : Type 0} (o : Option Opening) (s : Seen) (pass : PassState Request 
             counts = subst (λ (x : Inbound). Counts link.inbound.quiets x.quiets) (sym did.inbound) (counts_both link.inbound.quiets w.inbound.quiets mid.inbound.quiets c.counts cause.quiets);
             rose = let later = (counts_both link.inbound.quiets w.inbound.quiets mid.inbound.quiets c.counts cause.quiets).later in subst (λ (x : Inbound). RoseBy 0 link.inbound.quiets x.quiets) (sym did.inbound) (omega (arith, later));
             run = omega arith;
+            most = subst (λ (x : Inbound). x.run ≤ link.inbound.run + 0) (sym did.inbound) (omega (arith, zero_run));
           }
 
       ended_by : (found : Ending) (octets : ℕ) → so_far + count ≤ octets → count ≡ length piece → AnswersEnd done did.said did.fed mid.faults w_next.faults (Some found) → Converses o octets s next pass pass_next link w_next (so_far + count) (answered + done) found

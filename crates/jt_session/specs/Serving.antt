@@ -1,5 +1,5 @@
 -- What serving a link is: what was read, asked, answered and written, and why it ended (this project's own). To be believed.
-use Rattle.std.specs.Prelude.{◌≡◌, ◌≢◌, ◌≤◌, ◌*◌, ◌⊎◌, ℕ, List, [], ◌∷◌, ◌++◌, length, take, false, Option, None, Some, IfSome}
+use Rattle.std.specs.Prelude.{◌≡◌, ◌≢◌, ◌≤◌, ◌+◌, ◌*◌, ◌⊎◌, ℕ, List, [], ◌∷◌, ◌++◌, length, take, false, Option, None, Some, IfSome}
 use Rattle.jt_value.specs.Octets.{AreOctets}
 use Rattle.std.specs.Io.KnownBytes.{Appends, IsAtEnd}
 use mathlib.Core.List.{IsPrefix}
@@ -48,6 +48,11 @@ HasCause ends.StoreFault octets read link link_now pass pass_now = FailedMore pa
 HasCause (ends.ListFull l) octets read link link_now pass pass_now = Unit {0}
 HasCause ends.Memory octets read link link_now pass pass_now = Unit {0}
 
+-- how many reads in a row may have been quiet, where a session ends so: the third one ends it as Idle
+abbrev pub most_quiet : End → ℕ
+most_quiet ends.Idle = 3
+most_quiet _ = 2
+
 -- why the answers to octets that were read ended a session, if they did: all were written and it goes on; the link failed; or an answer
 -- ended it, and all were written
 abbrev pub AnswersEnd : ℕ → List ℕ → Fed → ℕ → ℕ → Option End → Type 0
@@ -84,6 +89,7 @@ pub record Course {O : Type 0} (o : Option Opening) (s now : Seen) (pass pass_no
   pub counts : Counts link.inbound.quiets link_now.inbound.quiets
   pub rose : RoseBy quiets link.inbound.quiets link_now.inbound.quiets
   pub run : quiets ≤ link_now.inbound.run
+  pub most : link_now.inbound.run ≤ link.inbound.run + quiets
 
 -- the session served the link up to its Close
 pub record Converses {O : Type 0} (o : Option Opening) (octets : ℕ) (s now : Seen) (pass pass_now : PassState Request Reply O) (link link_now : Wire) (read written : ℕ) (end : End) : Type 0 where

@@ -7,7 +7,7 @@ ghost use Rattle.jt_outside.specs.Link.{wire_of};
 ghost use Rattle.jt_platform.specs.Hub.{opening_of};
 ghost use Rattle.jt_session.specs.TurnLaw.{IsNew};
 ghost use Rattle.jt_session.specs.Hearing.{IsSamePass};
-ghost use Rattle.jt_session.specs.Serving.{AnswersRead, Converses, Serves, ServesUpTo};
+ghost use Rattle.jt_session.specs.Serving.{AnswersRead, Converses, Serves, ServesUpTo, most_quiet};
 
 use crate::counts::Counts;
 use crate::end::{End, Fed};
@@ -96,6 +96,7 @@ fn converse<R: Wait, K: Link, P: Keeper>(
         opening_of (P.tables o.start) (P.limit o.start) o.fleet o.secret) pass.old.opening) octets
         session.old session.new pass.old pass.new (wire_of K.inbound K.written K.faults link.old)
         (wire_of K.inbound K.written K.faults link.new) result.read result.written result.end }
+    ensures quiet { (K.inbound link.new).run ≤ (K.inbound link.old).run + most_quiet result.end }
     ensures same { IsSamePass pass.old pass.new }
     ensures waiting { session.new.waiting ≡ None }
 {
@@ -154,6 +155,7 @@ fn serve_open<R: Wait, K: Link, P: Keeper>(
         opening_of (P.tables o.start) (P.limit o.start) o.fleet o.secret) pass.old.opening) octets
         pass.old pass.new (wire_of K.inbound K.written K.faults link.old)
         (wire_of K.inbound K.written K.faults link.new) result }
+    ensures quiet { (K.inbound link.new).run ≤ (K.inbound link.old).run + most_quiet result.end }
     ensures same { IsSamePass pass.old pass.new }
 {
     law_frames();
@@ -207,6 +209,8 @@ pub fn serve_link_within<R: Wait, K: Link, P: Keeper>(
         opening_of (P.tables o.start) (P.limit o.start) o.fleet o.secret) pass.opening) octets pass
         result.1 (wire_of K.inbound K.written K.faults link.old)
         (wire_of K.inbound K.written K.faults link.new) result.0 }
+    // The third quiet read in a row ends it as Idle.
+    ensures quiet { (K.inbound link.new).run ≤ (K.inbound link.old).run + most_quiet result.0.end }
     ensures same { IsSamePass pass result.1 }
 {
     let report = serve_open(rt, alloc, link, turn, &mut pass, octets);
@@ -229,6 +233,8 @@ pub fn serve_link<R: Wait, K: Link, P: Keeper>(
         opening_of (P.tables o.start) (P.limit o.start) o.fleet o.secret) pass.opening) INPUT_LIMIT
         pass result.1 (wire_of K.inbound K.written K.faults link.old)
         (wire_of K.inbound K.written K.faults link.new) result.0 }
+    // The third quiet read in a row ends it as Idle.
+    ensures quiet { (K.inbound link.new).run ≤ (K.inbound link.old).run + most_quiet result.0.end }
     ensures same { IsSamePass pass result.1 }
 {
     serve_link_within(rt, alloc, link, turn, pass, INPUT_LIMIT)

@@ -1,6 +1,6 @@
-use Rattle.std.proofs.Common.{refl, arith, ◌∙◌}
+use Rattle.std.proofs.Common.{◌+◌, refl, arith, ◌∙◌}
 use Rattle.std.proofs.lemmas.Grind.{common_steps}
-use Rattle.jt_agent.proofs.Going.{StepLaws, goes_begin, goes_open, goes_read, goes_wait, goes_tick, ends_begin, ends_open, ends_read, ends_tick, ends_end, ends_link, ends_spent, quiet_more, quiet_from, quiet_kept, goes_count, late_still, vault_then}
+use Rattle.jt_agent.proofs.Going.{StepLaws, goes_begin, goes_open, goes_read, goes_wait, goes_tick, ends_begin, ends_open, ends_read, ends_tick, ends_end, ends_link, ends_spent, quiet_more, quiet_from, few_quiet, none_run, quiet_kept, goes_count, late_still, vault_then}
 use Rattle.jt_agent.proofs.running.converse.Goals as goal
 
 pub returns-in-Some-clause-ends : goal.returns-in-Some-clause-ends
@@ -43,7 +43,7 @@ loop-taken-init g c =
     record { inbound = c.in_default-tell.ensures.inbound; faults = c.in_default-tell.ensures.count; vault = c.in_default-tell.ensures.vault.later; settings = c.in_default-tell.ensures.settings }
     (late_still _ _ _ c.in_default-tell.ensures.time c.in_default.ensures.late) in (
       goes,
-      quiet_from _ _ _ _ _ _ _ goes,
+      quiet_from _ _ _ _ _ _ _ goes (g.K.Sink.inbound c.args.link.now) (c.in_default-tell.ensures.inbound ∙ c.in_default.ensures.inbound) (omega arith),
       omega arith,
       c.requires.quiets.0,
       vault_then _ _ _ _ _ _ _ _ _ _ _ _ c.in_default.ensures.vault c.in_default-tell.ensures.vault (λ z. absurd z),
@@ -87,7 +87,7 @@ loop-taken-preserved-in_default-tick g c =
     record { inbound = c.in_default-tick.ensures.inbound; faults = c.in_default-tick.ensures.count; vault = c.in_default-tick.ensures.vault.later; settings = c.in_default-tick.ensures.settings }
     c.in_default-tick.ensures.late in (
       goes_count _ _ _ _ _ _ _ _ ticked (grind (arith, common_steps)),
-      quiet_from _ _ _ _ _ _ _ ticked,
+      quiet_from _ _ _ _ _ _ _ ticked (g.K.Sink.inbound c.read.new.self) (c.in_default-tick.ensures.inbound ∙ c.in_default-hear.ensures.inbound) (none_run _ _ c.in-Bytes.ensures.octets.3),
       grind (arith, common_steps),
       c.requires.quiets.0,
       vault_then _ _ _ _ _ _ _ _ _ _ _ _ (vault_then _ _ _ _ _ _ _ _ _ _ _ ⊥ c.loop-taken.invariant.4 c.in_default-hear.ensures.vault (λ z. absurd z)) c.in_default-tick.ensures.vault (λ z. absurd z),
@@ -121,3 +121,35 @@ loop-taken-preserved g c =
       vault_then _ _ _ _ _ _ _ _ _ _ _ _ c.loop-taken.invariant.4 c.in_default-tick-2.ensures.vault (λ z. absurd z),
       c.in_default-tick-2.ensures.settings ∙ c.loop-taken.invariant.5,
     )
+
+pub returns-in-Some-clause-quiet : goal.returns-in-Some-clause-quiet
+returns-in-Some-clause-quiet g c = few_quiet c.args.quiets 0 (g.K.Sink.inbound c.args.link.now) (g.K.Sink.inbound c.args.link.now) _ _ (omega arith) (omega (arith, c.requires.quiets.0)) c.in-Some.ensures.inbound
+
+pub returns-in-Some-tell-clause-quiet : goal.returns-in-Some-tell-clause-quiet
+returns-in-Some-tell-clause-quiet g c = few_quiet c.args.quiets 0 (g.K.Sink.inbound c.args.link.now) (g.K.Sink.inbound c.args.link.now) _ _ (omega arith) (omega (arith, c.requires.quiets.0)) (c.in-Some-tell.ensures.inbound ∙ c.in_default.ensures.inbound)
+
+pub returns-in-Some-hear-clause-quiet : goal.returns-in-Some-hear-clause-quiet
+returns-in-Some-hear-clause-quiet g c = few_quiet c.args.quiets 0 (g.K.Sink.inbound c.args.link.now) (g.K.Sink.inbound c.read.new.self) _ _ (none_run _ _ c.in-Bytes.ensures.octets.3) (omega (arith, c.requires.quiets.0)) c.in-Some-hear.ensures.inbound
+
+pub returns-in-Some-tick-clause-quiet : goal.returns-in-Some-tick-clause-quiet
+returns-in-Some-tick-clause-quiet g c = few_quiet c.args.quiets 0 (g.K.Sink.inbound c.args.link.now) (g.K.Sink.inbound c.read.new.self) _ _ (none_run _ _ c.in-Bytes.ensures.octets.3) (omega (arith, c.requires.quiets.0)) (c.in-Some-tick.ensures.inbound ∙ c.in_default-hear.ensures.inbound)
+
+pub returns-in-Some-tick-2-clause-quiet : goal.returns-in-Some-tick-2-clause-quiet
+returns-in-Some-tick-2-clause-quiet g c =
+    let quiet = quiet_more c.loop-taken.quiet (g.K.Sink.inbound c.args.link.now) (g.K.Sink.inbound c.loop-taken.link) (g.K.Sink.inbound c.read.new.self) (omega (arith, c.loop-taken.invariant.3, c.requires.quiets.1)) c.loop-taken.invariant.1 c.in-Quiet.ensures.octets.1 (c.in-Quiet.ensures.cause.quiet refl) in
+    few_quiet c.args.quiets (c.loop-taken.quiet + 1) (g.K.Sink.inbound c.args.link.now) (g.K.Sink.inbound c.read.new.self) _ _ quiet.most (omega (arith, c.loop-taken.invariant.3, c.if-quiet-quiets.false)) c.in-Some-tick-2.ensures.inbound
+
+pub returns-in-End-clause-quiet : goal.returns-in-End-clause-quiet
+returns-in-End-clause-quiet g c =
+    let most = c.loop-taken.invariant.1.most in
+    omega (arith, most, c.loop-taken.invariant.3, c.in-End.ensures.octets.2)
+
+pub returns-in-Failed-clause-quiet : goal.returns-in-Failed-clause-quiet
+returns-in-Failed-clause-quiet g c =
+    let most = c.loop-taken.invariant.1.most in
+    omega (arith, most, c.loop-taken.invariant.3, c.in-Failed.ensures.octets.1)
+
+pub returns-clause-quiet : goal.returns-clause-quiet
+returns-clause-quiet g c =
+    let most = c.loop-taken.invariant.1.most in
+    omega (arith, most, c.loop-taken.invariant.3)
