@@ -1,11 +1,12 @@
 #!/usr/bin/env python3
-"""Makes the samples that are not written by hand: samples/day.fixes and samples/mixed.bin.
+"""Makes the samples that are not written by hand: samples/day.fixes, samples/day.script and samples/mixed.bin.
 
     tools/make_samples.py [FOLDER]
 
 `day.fixes` is a day of one lorry, 2,880 fixes half a minute apart, as `jt808 report` reads them: round the Pearl River, with
-three stays. `mixed.bin` is a stream of frames of both editions with octets between them that are refused. Both are the same at
-each run. FOLDER is samples/ of this repository where it is missing.
+three stays. `day.script` is a day as `jt808 rehearse` plays it: 2,880 fixes half a minute apart, with a beat behind each tenth,
+and ten minutes without a line. `mixed.bin` is a stream of frames of both editions with octets between them that are refused. All
+are the same at each run. FOLDER is samples/ of this repository where it is missing.
 """
 import datetime
 import functools
@@ -92,6 +93,33 @@ def day_lines():
         yield fix.fix(row).hex() + "\n"
 
 
+# ---- a day as a script
+
+# The fixes of the break, in which there is no line.
+BREAK = range(1000, 1020)
+
+
+def half_minute(at):
+    """The lines of a fix of 40 octets, with an odometer, a signal and satellites, on 5 March 2024."""
+    time = datetime.datetime(2024, 3, 5) + at * STEP
+    fixed = struct.pack(">5I2H", 0, 3, 20_000_000 + at, 113_000_000, 10 << 16 | 600, 90, 0)[:22]
+    items = struct.pack(">2BI", 1, 4, at) + bytes([0x30, 1, 25, 0x31, 1, 9])
+    yield f"raw {fixed.hex()}{time:%y%m%d%H%M%S}{items.hex()}\n"
+    yield from ("tick 30000\n", "run\n")
+
+
+def script_lines():
+    yield from ("open\n", "run\n")
+    for at in range(COUNT):
+        if at == BREAK.start:
+            yield from ("lost\n", "cut 1\n")
+        if at == BREAK.stop:
+            yield from ("open\n", "run\n")
+        yield from half_minute(at)
+        if at not in BREAK and at % 10 == 9:
+            yield from ("beat 1\n", "run\n")
+
+
 # ---- frames
 
 
@@ -167,6 +195,8 @@ def main():
     folder = sys.argv[1] if len(sys.argv) > 1 else f"{os.path.dirname(HERE)}/samples"
     with open(f"{folder}/day.fixes", "w", encoding="ascii") as to:
         to.writelines(day_lines())
+    with open(f"{folder}/day.script", "w", encoding="ascii") as to:
+        to.writelines(script_lines())
     with open(f"{folder}/mixed.bin", "wb") as to:
         to.writelines(mixed())
 

@@ -1,5 +1,4 @@
 pub mod Asking
-pub mod EqualWords
 pub mod OldWords
 pub mod Runs
 pub mod ScriptRuns

@@ -1,27 +1,31 @@
 -- The words of tasks, of `platform`, of `relay` and of `report`.
-use Rattle.std.proofs.Common.{◌≡◌, ℕ, Bool, true, false, if◌then◌else◌, List, [], ◌∷◌, map, codes, length, Option, None, refl, sym, ap, subst, ◌∙◌, arith}
-use Rattle.std.specs.Bool.{Decides}
+use Rattle.std.proofs.Common.{◌≡◌, ℕ, eqb, Bool, true, false, if◌then◌else◌, List, [], ◌∷◌, map, codes, length, Option, None, refl, sym, ap, subst, ◌∙◌, arith}
+use Rattle.std.proofs.lemmas.Bool.{ne_eqb}
 use Rattle.std.specs.Str.{bytes_eq}
-use Rattle.std.proofs.lemmas.Slice.Eq.{bytes_eq-Decides}
-use Rattle.jt_view.specs.declared.command.Encoding.TheVariants.{Hex}
 use Rattle.jt_words.specs.Platform.{PlatformWords as AreWords}
 use Rattle.jt_relay_command.specs.RelayWords.{AreWords as AreRelayWords}
 use Rattle.jt_report_command.specs.ReportWords.{ReportValues, AreWords as AreReportWords}
 use Rattle.jt_value.specs.declared.phone.Phone.{Phone}
-use Rattle.jt_cli.specs.Words.{task_named, task_of, telling}
+use Rattle.jt_cli.specs.Words.{task_named, task_of, task_valued, telling}
 use Rattle.jt_cli.specs.declared.task.Task.{Task}
 
 -- ---- what the code finds
 
-not_hex : (b : Bool) (found : Option Task) (flag : List ℕ) → Decides b (flag ≡ codes "--hex") → (flag ∷ [] ≡ codes "--hex" ∷ [] → ⊥)
-    → None ≡ (if b then found else None)
-not_hex true found flag d other = absurd (other (ap (λ (w : List ℕ). w ∷ []) (d.0 refl)))
-not_hex false found flag d other = refl
+pub of_one : {X : Type 0} (f : X → List ℕ) (word : List ℕ) (others : List X) (found : Option Task) → length others ≡ 0
+    → found ≡ task_named word → found ≡ task_of (word ∷ map f others)
+of_one f word [] found none told = told
+of_one f word (value ∷ more) found none told = absurd (omega (arith, none))
 
-pub no_hex : (word : List ℕ) (others : List (List ℕ)) → (others ≡ [] → ⊥) → (others ≡ codes "--hex" ∷ [] → ⊥) → None ≡ task_of (word ∷ others)
-no_hex word [] some other = absurd (some refl)
-no_hex word (flag ∷ []) some other = not_hex (bytes_eq flag (codes "--hex")) (telling Hex word) flag (bytes_eq-Decides flag (codes "--hex")) other
-no_hex word (flag ∷ more ∷ words) some other = refl
+pub of_two : {X : Type 0} (f : X → List ℕ) (word value : List ℕ) (others : List X) (first : X) (more : List X) (found : Option Task)
+    → others ≡ first ∷ more → eqb (length more) 0 ≡ true → value ≡ f first → found ≡ task_valued word value → found ≡ task_of (word ∷ map f others)
+of_two f word value others first [] found is none same told = rw is (subst (λ (v : List ℕ). found ≡ task_valued word v) same told)
+of_two f word value others first (second ∷ more) found is none same told =
+    let some : eqb (length (second ∷ more)) 0 ≡ false = ne_eqb (length (second ∷ more)) 0 (λ e. omega (arith, e)) in absurd cc
+
+pub of_more : {X : Type 0} (f : X → List ℕ) (word : List ℕ) (others : List X) (first : X) (more : List X)
+    → others ≡ first ∷ more → eqb (length more) 0 ≡ false → None ≡ task_of (word ∷ map f others)
+of_more f word others first [] is some = absurd cc
+of_more f word others first (second ∷ more) is some = rw is refl
 
 pub of_first : {X : Type 0} (f : X → List ℕ) (words : List X) (first : X) (others : List X) (word : List ℕ) (found : Option Task)
     → words ≡ first ∷ others → word ≡ f first → found ≡ task_of (word ∷ map f others) → found ≡ task_of (map f words)
@@ -37,28 +41,31 @@ chosen : (b : Bool) (found : Option Task) → found ≡ None → (if b then foun
 chosen true found is = is
 chosen false found is = refl
 
-no_task : (word : List ℕ) (options : List (List ℕ)) → task_named word ≡ None → telling Hex word ≡ None → task_of (word ∷ options) ≡ None
-no_task word [] alone hex = alone
-no_task word (flag ∷ []) alone hex = chosen (bytes_eq flag (codes "--hex")) (telling Hex word) hex
-no_task word (flag ∷ more ∷ words) alone hex = refl
+no_task : (word : List ℕ) (options : List (List ℕ)) → task_named word ≡ None → ((value : List ℕ) → task_valued word value ≡ None)
+    → task_of (word ∷ options) ≡ None
+no_task word [] alone valued = alone
+no_task word (value ∷ []) alone valued = valued value
+no_task word (value ∷ more ∷ words) alone valued = refl
 
-by_first : (words options : List (List ℕ)) (word : List ℕ) → words ≡ word ∷ options → task_named word ≡ None → telling Hex word ≡ None → task_of words ≡ None
-by_first words options word is alone hex = rw is (no_task word options alone hex)
+by_first : (words options : List (List ℕ)) (word : List ℕ) → words ≡ word ∷ options → task_named word ≡ None
+    → ((value : List ℕ) → task_valued word value ≡ None) → task_of words ≡ None
+by_first words options word is alone valued = rw is (no_task word options alone valued)
 
 -- the words of `platform` are those of no task
 pub platform_alone : (port sessions : ℕ) (words : List (List ℕ)) → AreWords port sessions words → task_of words ≡ None
-unfolding task_named telling
-platform_alone port sessions words are = by_first words are.options (codes "platform") are.command refl refl
+unfolding task_named task_valued telling
+platform_alone port sessions words are = by_first words are.options (codes "platform") are.command refl (λ value. chosen (bytes_eq value (codes "--hex")) None refl)
 
 -- the words of `report` are those of no task
 pub report_alone : (told : ReportValues) (words : List (List ℕ)) → AreReportWords told words → task_of words ≡ None
-unfolding task_named telling
-report_alone told words are = by_first words are.words_are.options (codes "report") are.words_are.command refl refl
+unfolding task_named task_valued telling
+report_alone told words are =
+    by_first words are.words_are.options (codes "report") are.words_are.command refl (λ value. chosen (bytes_eq value (codes "--hex")) None refl)
 
 -- the words of `relay` are those of no task
 pub relay_alone : (phone : Phone) (words : List (List ℕ)) → AreRelayWords phone words → task_of words ≡ None
-unfolding task_named telling
-relay_alone phone words are = by_first words are.option (codes "relay") are.command refl refl
+unfolding task_named task_valued telling
+relay_alone phone words are = by_first words are.option (codes "relay") are.command refl (λ value. chosen (bytes_eq value (codes "--hex")) None refl)
 
 -- ---- the first words of the others differ in their lengths
 

@@ -14,17 +14,17 @@ use Rattle.jt_words.specs.Platform.{PlatformWords as AreWords}
 use Rattle.jt_input.specs.Answer.{IsFault}
 use Rattle.jt_input.specs.declared.status.Status.{Status}
 use Rattle.jt_input.specs.declared.status.Status.TheVariants as status
-use Rattle.jt_cli.specs.Acting.{Acts, TellsOf, Plays}
+use Rattle.jt_cli.specs.Acting.{Acts, MakesScript, TellsOf, Plays}
 use Rattle.jt_cli.specs.Ask.{Ask, Act, ReportFixes, ServeLinks, PassRowsOn, Asks, AskNothing}
 use Rattle.jt_cli.specs.Running.{Eyes, Does, PassesOn, Ran, Refuses, Reports, Serves, Streams}
-use Rattle.jt_cli.specs.Statuses.{IsAlone}
+use Rattle.jt_cli.specs.Statuses.{IsAlone, IsWithoutLinks}
 use Rattle.jt_cli.specs.Usage.{usage}
 use Rattle.jt_cli.specs.Words.{task_of, AreNoPlatform, AreNoRelay, AreNoReport}
-use Rattle.jt_cli.proofs.OldWords.{AreNoTask, words_of, words_of_task, asks_of, words_are}
+use Rattle.jt_cli.proofs.OldWords.{AreNoTask, IsInRange, words_of, words_of_task, asks_of, words_are}
 use Rattle.jt_cli.specs.declared.outside.Outside.{Outside}
 use Rattle.jt_cli.specs.declared.outside.Ended.{Ended}
 use Rattle.jt_cli.specs.declared.task.Task.{Task}
-use Rattle.jt_cli.specs.declared.task.Task.TheVariants.{Tell, Rehearse, Fence}
+use Rattle.jt_cli.specs.declared.task.Task.TheVariants.{Tell, Rehearse, Make, Fence}
 use Rattle.jt_cli.proofs.StatusesOfRuns.{of_answers, of_fault}
 
 alone_watch : (s : Status) → (s ≡ status.Done) ⊎ (s ≡ status.Refused) ⊎ IsFault s → IsAlone s
@@ -32,22 +32,61 @@ alone_watch s (inl done) = subst IsAlone (sym done) tt
 alone_watch s (inr (inl refused)) = subst IsAlone (sym refused) tt
 alone_watch s (inr (inr fault)) = of_fault s fault
 
--- no task has a status of a store or a listener, and on Done it read its source to the end
-alone_of : (task : Task) (left left_now old now : Option (List ℕ)) (s : Status) → Acts task left left_now old now s → IsAlone s
-alone_of (Tell command) left left_now old now s acts = acts.alone
-alone_of Rehearse left left_now old now s acts = acts.alone
-alone_of Fence left left_now old now s acts = alone_watch s acts.ends
+-- no task has a status of a listener, and of a store only those have one that rehearse a script
+without_links : (s : Status) → IsAlone s → IsWithoutLinks s
+without_links status.Done alone = tt
+without_links status.Refused alone = tt
+without_links status.Usage alone = tt
+without_links status.ReadFault alone = tt
+without_links status.WriteFault alone = tt
+without_links status.StoreFault alone = tt
+without_links status.NetFault alone = alone
+without_links status.Unsent alone = alone
+without_links status.Memory alone = tt
 
-end_of : (task : Task) (left left_now old now : Option (List ℕ)) (s : Status) → Acts task left left_now old now s → s ≡ status.Done → IsAtEnd left_now
-end_of (Tell command) left left_now old now s acts = acts.to_the_end
-end_of Rehearse left left_now old now s acts = acts.to_the_end
-end_of Fence left left_now old now s acts = acts.to_the_end
+without_links_of : (task : Task) (left left_now old now : Option (List ℕ)) (s : Status) → Acts task left left_now old now s → IsWithoutLinks s
+without_links_of (Tell command) left left_now old now s acts = without_links s acts.alone
+without_links_of Rehearse left left_now old now s acts = acts.without_links
+without_links_of (Make count) left left_now old now s acts = acts.without_links
+without_links_of Fence left left_now old now s acts = without_links s (alone_watch s acts.ends)
+
+abbrev pub IsRehearsal : Task → Type 0
+IsRehearsal (Tell command) = ⊥
+IsRehearsal Rehearse = Unit {0}
+IsRehearsal (Make count) = Unit {0}
+IsRehearsal Fence = ⊥
+
+alone_of : (task : Task) (left left_now old now : Option (List ℕ)) (s : Status) → (IsRehearsal task → ⊥) → Acts task left left_now old now s → IsAlone s
+alone_of (Tell command) left left_now old now s other acts = acts.alone
+alone_of Rehearse left left_now old now s other acts = absurd (other tt)
+alone_of (Make count) left left_now old now s other acts = absurd (other tt)
+alone_of Fence left left_now old now s other acts = alone_watch s acts.ends
+
+-- on Done a task read its source to the end, but for the one that reads none
+abbrev pub IsMake : Task → Type 0
+IsMake (Tell command) = ⊥
+IsMake Rehearse = ⊥
+IsMake (Make count) = Unit {0}
+IsMake Fence = ⊥
+
+end_of : (task : Task) (left left_now old now : Option (List ℕ)) (s : Status) → (IsMake task → ⊥) → Acts task left left_now old now s → s ≡ status.Done → IsAtEnd left_now
+end_of (Tell command) left left_now old now s other acts = acts.to_the_end
+end_of Rehearse left left_now old now s other acts = acts.to_the_end
+end_of (Make count) left left_now old now s other acts = absurd (other tt)
+end_of Fence left left_now old now s other acts = acts.to_the_end
 
 alone_store : (s : Status) → IsAlone s → s ≡ status.StoreFault → ⊥
 alone_store s alone e = subst IsAlone e alone
 
-alone_net : (s : Status) → IsAlone s → s ≡ status.NetFault → ⊥
-alone_net s alone e = subst IsAlone e alone
+alone_net : (s : Status) → IsWithoutLinks s → s ≡ status.NetFault → ⊥
+alone_net s alone e = subst IsWithoutLinks e alone
+
+-- the words ask no script to be made, or none to be rehearsed
+abbrev pub AreNoMake : List (List ℕ) → Type 0
+AreNoMake words = (task : Task) → task_of words ≡ Some task → IsMake task → ⊥
+
+abbrev pub AreNoRehearsal : List (List ℕ) → Type 0
+AreNoRehearsal words = (task : Task) → task_of words ≡ Some task → IsRehearsal task → ⊥
 
 -- a history without entries leaves the tables
 tables_stay : (tables : Option Tables) → tables ≡ tables_after tables []
@@ -60,12 +99,17 @@ module _ {S K D L C P V : Type 0} (eyes : Eyes S K D C P V) (O : Type 0) (pool :
   -- ---- runs, whole, no_further, prints_taken, stops_at_write
   pub tells : (command : Command) → words ≡ words_of command
       → TellsOf command (eyes.left old.source) (eyes.left ended.outside.source) (eyes.written old.sink) (eyes.written ended.outside.sink) ended.status
-  tells command are = (ran.asked (Act (Tell command)) (asks_of (Tell command) words are)).acts
+  tells command are = (ran.asked (Act (Tell command)) (asks_of (Tell command) words tt are)).acts
 
   -- ---- rehearses, rehearses_whole, rehearses_no_further, rehearses_prints_taken, rehearses_stops_at_write
   pub plays : words ≡ words_of_task Rehearse
       → Plays (eyes.left old.source) (eyes.left ended.outside.source) (eyes.written old.sink) (eyes.written ended.outside.sink) ended.status
-  plays are = (ran.asked (Act Rehearse) (asks_of Rehearse words are)).acts
+  plays are = (ran.asked (Act Rehearse) (asks_of Rehearse words tt are)).acts
+
+  -- ---- `make`
+  pub makes : (count : ℕ) → IsInRange (Make count) → words ≡ words_of_task (Make count)
+      → MakesScript count (eyes.left old.source) (eyes.left ended.outside.source) (eyes.written old.sink) (eyes.written ended.outside.sink) ended.status
+  makes count within are = (ran.asked (Act (Make count)) (asks_of (Make count) words within are)).acts
 
   -- ---- report, reported, unsent, vault_fault
   pub reports : (told : ReportValues) → AreReportWords told words → Reports eyes told old ended
@@ -103,7 +147,7 @@ module _ {S K D L C P V : Type 0} (eyes : Eyes S K D C P V) (O : Type 0) (pool :
 
   -- ---- usage, usage_reads_nothing, usage_no_read_fault
   pub refuses : AreNoTask words → AreNoReport words → AreNoPlatform words → AreNoRelay words → Refuses eyes old ended
-  refuses task report platform relay = by_row (λ t asks _. absurd (task t (words_are words t asks))) (λ told asks _. absurd (report told asks))
+  refuses task report platform relay = by_row (λ t asks _. let are = words_are words t asks in absurd (task t are.1 are.0)) (λ told asks _. absurd (report told asks))
       (λ port sessions asks _. absurd (platform port sessions asks)) (λ phone asks _. absurd (relay phone asks)) (λ refuses. refuses)
 
   pub usage_reads_nothing : AreNoTask words → AreNoReport words → AreNoPlatform words → AreNoRelay words → ended.outside.source ≡ old.source
@@ -112,7 +156,7 @@ module _ {S K D L C P V : Type 0} (eyes : Eyes S K D C P V) (O : Type 0) (pool :
   -- ---- usage_only, from the clause `usage`
   pub usage_only : AskNothing words → AreNoTask words × AreNoReport words × AreNoPlatform words × AreNoRelay words
   usage_only nothing = (
-    λ task are. nothing (Act task) (asks_of task words are),
+    λ task within are. nothing (Act task) (asks_of task words within are),
     λ told. nothing (ReportFixes told),
     λ port sessions. nothing (ServeLinks port sessions),
     λ phone. nothing (PassRowsOn phone),
@@ -154,10 +198,10 @@ module _ {S K D L C P V : Type 0} (eyes : Eyes S K D C P V) (O : Type 0) (pool :
       (λ phone asks passes. (tables_are passes.runs.tables passes.no_link.1, passes.runs.limits.0))
       (λ refuses. keeper_stays (ap (λ (o : Outside S K D L C P V). o.keeper) refuses.rest) refuses.no_link.1)
 
-  -- ---- to_the_end; `relay` reads no source
-  pub to_the_end : AreNoRelay words → ended.status ≡ status.Done → IsAtEnd (eyes.left ended.outside.source)
+  -- ---- to_the_end; `relay` and `make` read no source
+  pub to_the_end : AreNoRelay words → AreNoMake words → ended.status ≡ status.Done → IsAtEnd (eyes.left ended.outside.source)
   unfolding usage
-  to_the_end relay done = by_row (λ task asks streams. end_of task _ _ _ _ _ streams.acts done) (λ told asks reports. (reports.done done).1)
+  to_the_end relay make done = by_row (λ task asks streams. end_of task _ _ _ _ _ (make task asks) streams.acts done) (λ told asks reports. (reports.done done).1)
       (λ port sessions asks serves. serves.to_the_end done)
       (λ phone asks _. absurd (relay phone asks))
       (λ refuses. elim refuses.answers [
@@ -168,16 +212,16 @@ module _ {S K D L C P V : Type 0} (eyes : Eyes S K D C P V) (O : Type 0) (pool :
   -- ---- net_fault
   pub net_fault : ended.status ≡ status.NetFault → Rose (net_faults old.listen) (net_faults ended.outside.listen)
   unfolding usage
-  net_fault fault = by_row (λ task asks streams. absurd (alone_net _ (alone_of task _ _ _ _ _ streams.acts) fault))
+  net_fault fault = by_row (λ task asks streams. absurd (alone_net _ (without_links_of task _ _ _ _ _ streams.acts) fault))
       (λ told asks reports. absurd (reports.no_net_fault fault)) (λ port sessions asks serves. serves.net_fault fault)
       (λ phone asks passes. absurd (passes.no_net_fault fault))
-      (λ refuses. absurd (alone_net _ (of_answers _ _ _ _ tt refuses.answers) fault))
+      (λ refuses. absurd (alone_net _ (without_links _ (of_answers _ _ _ _ tt refuses.answers)) fault))
 
-  -- ---- store_fault
-  pub store_fault : AreNoReport words → AreNoRelay words → ended.status ≡ status.StoreFault
+  -- ---- store_fault; a rehearsal has it where its own vault was full
+  pub store_fault : AreNoReport words → AreNoRelay words → AreNoRehearsal words → ended.status ≡ status.StoreFault
       → Rose (eyes.keeper_faults old.keeper) (eyes.keeper_faults ended.outside.keeper) ⊎ (first_limit ended.reports ≢ None)
   unfolding usage
-  store_fault report relay fault = by_row (λ task asks streams. absurd (alone_store _ (alone_of task _ _ _ _ _ streams.acts) fault))
+  store_fault report relay rehearsal fault = by_row (λ task asks streams. absurd (alone_store _ (alone_of task _ _ _ _ _ (rehearsal task asks) streams.acts) fault))
       (λ told asks reports. absurd (report told asks)) (λ port sessions asks serves. serves.store_fault fault)
       (λ phone asks _. absurd (relay phone asks))
       (λ refuses. absurd (alone_store _ (of_answers _ _ _ _ tt refuses.answers) fault))
@@ -223,19 +267,19 @@ module _ {S K D L C P V : Type 0} (eyes : Eyes S K D C P V)
   ]
 
   pub refuses_alone : AreNoTask words → AreNoReport words → AreNoRelay words → Refuses eyes old ended
-  refuses_alone task report relay = by_row_alone (λ t asks _. absurd (task t (words_are words t asks))) (λ told asks _. absurd (report told asks))
+  refuses_alone task report relay = by_row_alone (λ t asks _. let are = words_are words t asks in absurd (task t are.1 are.0)) (λ told asks _. absurd (report told asks))
       (λ phone asks _. absurd (relay phone asks)) (λ refuses. refuses)
 
-  pub alone : AreNoReport words → AreNoRelay words → IsAlone ended.status
+  pub alone : AreNoReport words → AreNoRelay words → AreNoRehearsal words → IsAlone ended.status
   unfolding usage
-  alone report relay = by_row_alone (λ task asks streams. alone_of task _ _ _ _ _ streams.acts) (λ told asks reports. absurd (report told asks))
+  alone report relay rehearsal = by_row_alone (λ task asks streams. alone_of task _ _ _ _ _ (rehearsal task asks) streams.acts) (λ told asks reports. absurd (report told asks))
       (λ phone asks _. absurd (relay phone asks))
       (λ refuses. of_answers _ _ _ _ tt refuses.answers)
 
   pub no_net_fault : ended.status ≢ status.NetFault
   unfolding usage
-  no_net_fault fault = by_row_alone (λ task asks streams. alone_net _ (alone_of task _ _ _ _ _ streams.acts) fault)
-      (λ told asks reports. reports.no_net_fault fault) (λ phone asks passes. passes.no_net_fault fault) (λ refuses. alone_net _ (of_answers _ _ _ _ tt refuses.answers) fault)
+  no_net_fault fault = by_row_alone (λ task asks streams. alone_net _ (without_links_of task _ _ _ _ _ streams.acts) fault)
+      (λ told asks reports. reports.no_net_fault fault) (λ phone asks passes. passes.no_net_fault fault) (λ refuses. alone_net _ (without_links _ (of_answers _ _ _ _ tt refuses.answers)) fault)
 
   pub no_link_alone : AreNoRelay words → (ended.reports ≡ []) × (ended.history ≡ []) × (ended.outside.listen ≡ old.listen) × (ended.outside.keeper ≡ old.keeper)
   no_link_alone relay = by_row_alone

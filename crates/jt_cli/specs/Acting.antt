@@ -1,21 +1,22 @@
 -- What a task does to the octets of its source and its sink. To be believed.
-use Rattle.std.specs.Prelude.{◌≡◌, ◌⊎◌, ℕ, ◌^◌, List, Option, IfSome}
+use Rattle.std.specs.Prelude.{◌≡◌, ◌≢◌, ◌⊎◌, ℕ, ◌^◌, List, Option, IfSome}
 use Rattle.std.specs.Io.KnownBytes.{Appends, IsAtEnd}
-use Rattle.jt_value.specs.declared.limits.TheConstants.{INPUT_LIMIT}
+use Rattle.jt_value.specs.declared.limits.TheConstants.{FIX_LIMIT, INPUT_LIMIT}
 use Rattle.jt_fence_command.specs.Running.{Watches}
-use Rattle.jt_world.specs.Claim.{Kept}
-use Rattle.jt_world.specs.Rehearsal.{script_reply, world_of}
+use Rattle.jt_world.specs.Claim.{KeptWhole}
+use Rattle.jt_world.specs.Made.{made, made_reply}
+use Rattle.jt_world.specs.Rehearsal.{FullAt, rehearsal, script_reply, world_of}
 use Rattle.jt_world.specs.Rehearsing.{IsHeard}
-use Rattle.jt_input.specs.Answer.{IsFault, Runs, ReadsNoFurther, PrintsTaken, StopsAtWrite}
+use Rattle.jt_input.specs.Answer.{AnswersReply, IsFault, Runs, ReadsNoFurther, PrintsTaken, StopsAtWrite}
 use Rattle.jt_view.specs.Answer.{IsOpen}
 use Rattle.jt_view.specs.Report.{answer_of}
 use Rattle.jt_cli.specs.Script.{RunsScript}
-use Rattle.jt_cli.specs.Statuses.{IsAlone}
+use Rattle.jt_cli.specs.Statuses.{IsAlone, IsWithoutLinks}
 use Rattle.jt_view.specs.declared.command.Command.{Command}
 use Rattle.jt_cli.specs.declared.task.Task.{Task}
-use Rattle.jt_cli.specs.declared.task.Task.TheVariants.{Tell, Rehearse, Fence}
+use Rattle.jt_cli.specs.declared.task.Task.TheVariants.{Tell, Rehearse, Make, Fence}
 use Rattle.jt_input.specs.declared.status.Status.{Status}
-use Rattle.jt_input.specs.declared.status.Status.TheVariants.{Done, ReadFault, WriteFault}
+use Rattle.jt_input.specs.declared.status.Status.TheVariants.{Done, ReadFault, WriteFault, StoreFault}
 
 -- `view` and `check`: the octets that were taken, what was written of the answer to them, and that
 -- it is the answer to the whole source, whatever else the source has
@@ -44,18 +45,33 @@ pub record Plays (left left_now old now : Option (List ℕ)) (status : Status) :
   pub runs : RunsScript left left_now old now status
   pub whole : IfSome left (λ script. IsFault status
       ⊎ ((status ≡ (script_reply script).status)
-      × Appends old now (script_reply script).text × Kept (world_of script)))
-  -- the script is read no further than the piece of at most 2^14 octets that has its first bad line
+      × Appends old now (script_reply script).text × KeptWhole (world_of script)))
+  -- the script is read no further than the piece of at most 2^14 octets that has the line which
+  -- ends it
   pub no_further : ReadsNoFurther IsHeard (2 ^ 14) left left_now
   pub prints_taken : status ≡ ReadFault → PrintsTaken IsHeard left left_now old now
   pub stops_at_write : status ≡ WriteFault
       → StopsAtWrite script_reply IsHeard (2 ^ 14) left left_now old now
   pub to_the_end : status ≡ Done → IsAtEnd left_now
-  pub alone : IsAlone status
+  -- the vault was full
+  pub store_fault : status ≡ StoreFault → (rehearsal runs.runs.taken).end ≡ FullAt FIX_LIMIT
+  pub without_links : IsWithoutLinks status
+
+-- `make`: nothing is read, the last line alone of what is printed of the script of so many fixes is
+-- written, and the claim of delivery holds of its world
+pub record MakesScript (count : ℕ) (left left_now old now : Option (List ℕ)) (status : Status)
+    : Type 0 where
+  pub reads_nothing : left_now ≡ left
+  pub answers : AnswersReply status (made_reply count) old now
+  pub kept : IsFault status ⊎ KeptWhole (made count).play.world
+  pub store_fault : status ≡ StoreFault → (made count).end ≡ FullAt FIX_LIMIT
+  pub not_read_fault : status ≢ ReadFault
+  pub without_links : IsWithoutLinks status
 
 -- what each task does
 abbrev pub Acts : Task → Option (List ℕ) → Option (List ℕ) → Option (List ℕ) → Option (List ℕ)
     → Status → Type 0
 Acts (Tell command) left left_now old now status = TellsOf command left left_now old now status
 Acts Rehearse left left_now old now status = Plays left left_now old now status
+Acts (Make count) left left_now old now status = MakesScript count left left_now old now status
 Acts Fence left left_now old now status = Watches left left_now old now status

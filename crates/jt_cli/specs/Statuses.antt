@@ -1,4 +1,4 @@
--- The statuses of a run that needs no links and no stores. To be believed.
+-- The statuses of runs that need no links. To be believed.
 use Rattle.jt_input.specs.declared.status.Status.{Status}
 use Rattle.jt_input.specs.declared.status.Status.TheVariants.{Done, Refused, Usage, ReadFault, WriteFault, StoreFault, NetFault, Unsent, Memory}
 
@@ -13,3 +13,15 @@ IsAlone StoreFault = ⊥
 IsAlone NetFault = ⊥
 IsAlone Unsent = ⊥
 IsAlone Memory = Unit {0}
+
+-- it is none of a listener or of fixes that are not accepted
+abbrev pub IsWithoutLinks : Status → Type 0
+IsWithoutLinks Done = Unit {0}
+IsWithoutLinks Refused = Unit {0}
+IsWithoutLinks Usage = Unit {0}
+IsWithoutLinks ReadFault = Unit {0}
+IsWithoutLinks WriteFault = Unit {0}
+IsWithoutLinks StoreFault = Unit {0}
+IsWithoutLinks NetFault = ⊥
+IsWithoutLinks Unsent = ⊥
+IsWithoutLinks Memory = Unit {0}

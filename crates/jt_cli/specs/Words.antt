@@ -1,9 +1,12 @@
 -- The words of each command, which stand after the program's name. To be believed.
-use Rattle.std.specs.Prelude.{◌≡◌, ℕ, List, [], ◌∷◌, codes, Option, Some, None, if◌then◌else◌}
+use Rattle.std.specs.Prelude.{◌≡◌, ℕ, ◌==◌, List, [], ◌∷◌, codes, Option, Some, None, if◌then◌else◌}
+use Rattle.std.specs.Option.{option_map, option_and_then}
 use Rattle.std.specs.Str.{bytes_eq}
 use Rattle.jt_view.specs.declared.command.Encoding.{Encoding}
 use Rattle.jt_view.specs.declared.command.Encoding.TheVariants.{Octets, Hex}
 use Rattle.jt_view.specs.declared.command.Report.TheVariants.{View, Check}
+use Rattle.jt_script.specs.EventLines.{number_in}
+use Rattle.jt_cli.specs.declared.task.TheConstants.{MAKE_MOST}
 use Rattle.jt_cli.specs.declared.task.Task.{Task}
 use Rattle.jt_cli.specs.declared.task.Task.TheVariants as tasks
 use Rattle.jt_value.specs.declared.phone.Phone.{Phone}
@@ -27,12 +30,23 @@ task_named word =
     else if bytes_eq word (codes "fence") then Some tasks.Fence
     else telling Octets word
 
+-- the number from 1 to 20,000 that a word writes in decimal digits
+unfoldable pub count_in : List ℕ → Option ℕ
+count_in word = option_and_then (λ count. if count == 0 then None else Some count) (number_in MAKE_MOST word)
+
+-- a word and its value
+unfoldable pub task_valued : List ℕ → List ℕ → Option Task
+task_valued word value =
+    if bytes_eq word (codes "make") then option_map tasks.Make (count_in value)
+    else if bytes_eq value (codes "--hex") then telling Hex word
+    else None
+
 -- the task that words ask
 abbrev pub task_of : List (List ℕ) → Option Task
 task_of [] = None
 task_of (word ∷ []) = task_named word
-task_of (word ∷ flag ∷ []) = if bytes_eq flag (codes "--hex") then telling Hex word else None
-task_of (word ∷ flag ∷ other ∷ words) = None
+task_of (word ∷ value ∷ []) = task_valued word value
+task_of (word ∷ value ∷ other ∷ words) = None
 
 -- ---- words that are those of none
 

@@ -8,7 +8,7 @@ ghost use Rattle.jt_cli.specs.Running.{Refuses, Streams, eyes_of};
 ghost use Rattle.jt_cli.specs.Usage.{usage};
 
 use crate::outside::{Ended, Outside};
-use crate::playing::play;
+use crate::playing::{play, play_made};
 use crate::task::Task;
 use crate::usage::push_usage_line;
 use jt_fence_command::fence;
@@ -54,6 +54,7 @@ fn act<S: Source, K: Sink>(alloc: Global, source: &mut S, sink: &mut K, task: Ta
     match task {
         Task::Tell(command) => report(alloc, source, sink, command, INPUT_LIMIT),
         Task::Rehearse => play(alloc, source, sink),
+        Task::Make(count) => play_made(alloc, sink, count),
         Task::Fence => fence(alloc, source, sink),
     }
 }

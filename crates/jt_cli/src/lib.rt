@@ -20,6 +20,6 @@ pub use jt_view::{
     Closing, Command, Encoding, Report, law_octets_of_front, law_wrong_stays, report,
 };
 pub use outside::{Ended, Outside};
-pub use playing::play;
+pub use playing::{play, play_made};
 pub use task::Task;
 pub use top::run;

@@ -3,17 +3,32 @@
 ghost use Rattle.std.specs.Prelude.{◌≡◌, ◌≢◌, ◌⊎◌, ◌^◌, IfSome};
 ghost use Rattle.std.specs.Io.KnownBytes.{IsAtEnd, Appends};
 ghost use Rattle.jt_value.specs.Counts.{Rose};
-ghost use Rattle.jt_world.specs.Claim.{Kept};
+ghost use Rattle.jt_world.specs.Claim.{KeptWhole};
+ghost use Rattle.jt_world.specs.Made.{made, made_reply};
 ghost use Rattle.jt_world.specs.Rehearsal.{script_reply, world_of};
 ghost use Rattle.jt_world.specs.Rehearsing.{IsHeard};
-ghost use Rattle.jt_input.specs.Answer.{IsFault, PrintsTaken, ReadsNoFurther, StopsAtWrite};
-ghost use Rattle.jt_cli.specs.Script.{RunsScript};
-ghost use Rattle.jt_cli.specs.Statuses.{IsAlone};
+ghost use Rattle.jt_input.specs.Answer.{AnswersReply, IsFault, PrintsTaken, ReadsNoFurther, StopsAtWrite};
+ghost use Rattle.jt_cli.specs.Script.{RunsScript, status_of as status_when};
+ghost use Rattle.jt_cli.specs.Statuses.{IsWithoutLinks};
 
 use jt_input::Status;
 use jt_outside::{Sink, Source};
-use jt_world::{Rehearsed, rehearse};
+use jt_world::{Rehearsed, make, rehearse};
 use std::alloc::Global;
+
+// The status of a run whose rehearsal ended so.
+fn status_of(rehearsed: Rehearsed) -> Status
+    ensures { result ≡ status_when rehearsed }
+{
+    match rehearsed {
+        Rehearsed::Done => Status::Done,
+        Rehearsed::BadLine(_number) => Status::Refused,
+        Rehearsed::ReadFault => Status::ReadFault,
+        Rehearsed::WriteFault => Status::WriteFault,
+        Rehearsed::Full(_limit) => Status::StoreFault,
+        Rehearsed::Memory => Status::Memory,
+    }
+}
 
 /// Rehearses the script of the source, and writes what is printed of it.
 pub fn play<S: Source, K: Sink>(alloc: Global, source: &mut S, sink: &mut K) -> Status
@@ -22,7 +37,7 @@ pub fn play<S: Source, K: Sink>(alloc: Global, source: &mut S, sink: &mut K) -> 
     ensures whole { IfSome (S.left source.old) (λ script.
         IsFault result ⊎ ((result ≡ (script_reply script).status)
         × Appends (K.written sink.old) (K.written sink.new) (script_reply script).text
-        × Kept (world_of script))) }
+        × KeptWhole (world_of script))) }
     ensures no_further { ReadsNoFurther IsHeard (2 ^ 14) (S.left source.old) (S.left source.new) }
     ensures prints_taken { result ≡ Status.ReadFault → PrintsTaken IsHeard
         (S.left source.old) (S.left source.new) (K.written sink.old) (K.written sink.new) }
@@ -34,14 +49,21 @@ pub fn play<S: Source, K: Sink>(alloc: Global, source: &mut S, sink: &mut K) -> 
     ensures write_fault { result ≡ Status.WriteFault →
         Rose (K.faults sink.old) (K.faults sink.new) }
     ensures not_usage { result ≢ Status.Usage }
-    ensures alone { IsAlone result }
+    ensures without_links { IsWithoutLinks result }
 {
-    match rehearse(alloc, source, sink) {
-        Rehearsed::Done => Status::Done,
-        Rehearsed::BadLine(_number) => Status::Refused,
-        Rehearsed::ReadFault => Status::ReadFault,
-        Rehearsed::WriteFault => Status::WriteFault,
-        Rehearsed::Memory => Status::Memory,
-        Rehearsed::Full(_limit) => unreachable!(),
-    }
+    status_of(rehearse(alloc, source, sink))
+}
+
+/// Makes the script of so many fixes, rehearses it, and writes the last line of what is printed of it.
+pub fn play_made<K: Sink>(alloc: Global, sink: &mut K, count: u32) -> Status
+    ensures answers { AnswersReply result (made_reply count)
+        (K.written sink.old) (K.written sink.new) }
+    ensures kept { IsFault result ⊎ KeptWhole (made count).play.world }
+    ensures not_read_fault { result ≢ Status.ReadFault }
+    ensures write_fault { result ≡ Status.WriteFault →
+        Rose (K.faults sink.old) (K.faults sink.new) }
+    ensures not_usage { result ≢ Status.Usage }
+    ensures without_links { IsWithoutLinks result }
+{
+    status_of(make(alloc, sink, count))
 }

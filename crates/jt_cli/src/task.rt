@@ -1,8 +1,9 @@
 //! The words of a task.
 
-ghost use Rattle.std.specs.Prelude.{◌≡◌, ◌↔◌, ◌∷◌, map, string_bytes, IsTrue};
-ghost use Rattle.jt_cli.specs.Words.{task_named, task_of, telling as task_telling};
+ghost use Rattle.std.specs.Prelude.{◌≡◌, ◌∷◌, map, string_bytes};
+ghost use Rattle.jt_cli.specs.Words.{count_in, task_named, task_of, task_valued, telling as task_telling};
 
+use jt_script::number_up_to;
 use jt_view::{Command, Encoding, Report};
 
 /// What the program is told to do.
@@ -12,18 +13,24 @@ pub enum Task {
     Tell(Command),
     /// Rehearses a script: the word is `rehearse`.
     Rehearse,
+    /// Makes a script of so many fixes, from 1 to 20,000, and rehearses it: the word is `make`.
+    Make(u32),
     /// Says which alarms a track raises: the word is `fence`.
     Fence,
 }
 
-fn are_words(words: &[String], expected: &[&str]) -> bool
-    ensures { IsTrue result ↔ (map string_bytes words.now ≡ map (λ word. word.now) expected.now) }
+// The most fixes of a script that is made.
+const MAKE_MOST: u32 = 20_000;
+
+// The number of fixes that a word writes.
+#[tactic(auto, unfolding(crate::specs::Words::count_in))]
+fn count_of(word: &str) -> Option<u32>
+    ensures { result ≡ count_in word.now }
 {
-    words.len() == expected.len()
-        && words
-            .iter()
-            .zip(expected)
-            .all(|(word, expected)| word.as_str() == *expected)
+    match number_up_to(MAKE_MOST, word.as_bytes()) {
+        Some(count) => if count == 0 { None } else { Some(count) },
+        None => None,
+    }
 }
 
 // The task that a word asks of octets or of digits.
@@ -56,16 +63,34 @@ fn named(word: &str) -> Option<Task>
     telling(Encoding::Octets, word)
 }
 
+// The task that a word and its value ask.
+#[tactic(auto, unfolding(crate::specs::Words::task_valued))]
+fn valued(word: &str, value: &str) -> Option<Task>
+    ensures { result ≡ task_valued word.now value.now }
+{
+    if word == "make" {
+        return match count_of(value) {
+            Some(count) => Some(Task::Make(count)),
+            None => None,
+        };
+    }
+    if value == "--hex" {
+        return telling(Encoding::Hex, word);
+    }
+    None
+}
+
 // The task that a word asks, before others.
 fn task_in(word: &str, others: &[String]) -> Option<Task>
     ensures { result ≡ task_of (word.now ∷ map string_bytes others.now) }
 {
-    if are_words(others, &[]) {
-        named(word)
-    } else if are_words(others, &["--hex"]) {
-        telling(Encoding::Hex, word)
-    } else {
-        None
+    match others.split_first() {
+        Some((value, more)) => if more.is_empty() {
+            valued(word, value.as_str())
+        } else {
+            None
+        },
+        None => named(word),
     }
 }
 

@@ -2,10 +2,10 @@
 use Rattle.std.proofs.Common.{◌≡◌, ◌+◌, ◌-◌, ◌==◌, ℕ, List, length, take, drop, Option, Some, None, Result, Ok, Err, ap, ◌∙◌}
 use Rattle.std.specs.Prelude.{IfOk, position}
 use Rattle.jt_value.specs.declared.memory.Memory.{Memory}
-use Rattle.jt_script.specs.declared.event.WorldEvent.{WorldEvent}
-use Rattle.jt_script.specs.declared.script.ScriptLine.TheVariants as script
-use Rattle.jt_script.specs.Said.{said}
-use Rattle.jt_script.proofs.Events.{rest_is}
+use Rattle.jt_script.specs.declared.world_event.WorldEvent.{WorldEvent}
+use Rattle.jt_script.specs.declared.reading.EventLine.TheVariants as script
+use Rattle.jt_script.specs.EventLines as script_lines
+use Rattle.jt_script.proofs.WordsOfLines.{rest_is}
 use Rattle.jt_fence_command.specs.declared.line.FenceLine.{FenceLine}
 use Rattle.jt_fence_command.specs.declared.line.FenceLine.TheVariants.{Passed, Bad}
 use Rattle.jt_fence_command.specs.declared.line.FenceWord.{FenceWord}
@@ -34,15 +34,15 @@ with_word line space word result at named said =
 
 -- ---- a line
 
-pub says_passed : (line : List ℕ) → script.Passed ≡ said line → Passed ≡ says line
+pub says_passed : (line : List ℕ) → script.Passed ≡ script_lines.says line → Passed ≡ says line
 unfolding says
 says_passed line is = ap (script_says line) is
 
-pub says_event : (line : List ℕ) (event : WorldEvent) (result : Result FenceLine Memory) → script.Event event ≡ said line → IfOk result (λ one. one ≡ event_says event)
+pub says_event : (line : List ℕ) (event : WorldEvent) (result : Result FenceLine Memory) → script.Event event ≡ script_lines.says line → IfOk result (λ one. one ≡ event_says event)
     → IfOk result (λ one. one ≡ says line)
 unfolding says
 says_event line event result is one = follows result _ _ (ap (script_says line) is) one
 
-pub says_words : (line : List ℕ) (result : Result FenceLine Memory) → script.Bad ≡ said line → IfOk result (λ one. one ≡ words_say line) → IfOk result (λ one. one ≡ says line)
+pub says_words : (line : List ℕ) (result : Result FenceLine Memory) → script.Bad ≡ script_lines.says line → IfOk result (λ one. one ≡ words_say line) → IfOk result (λ one. one ≡ says line)
 unfolding says
 says_words line result is one = follows result _ _ (ap (script_says line) is) one

@@ -16,11 +16,11 @@ use Rattle.jt_region_bodies.specs.declared.kind.RegionKind.TheVariants as kind
 use Rattle.jt_region_bodies.specs.Regions.{rectangles, polygon, deletion}
 use Rattle.jt_regions.specs.declared.change.RegionChange.TheVariants as change
 use Rattle.jt_regions.specs.Tables.{AtMost}
-use Rattle.jt_script.specs.declared.event.WorldEvent.{WorldEvent}
-use Rattle.jt_script.specs.declared.event.WorldEvent.TheVariants as event
-use Rattle.jt_script.specs.declared.script.ScriptLine.{ScriptLine}
-use Rattle.jt_script.specs.declared.script.ScriptLine.TheVariants as script
-use Rattle.jt_script.specs.Said.{said}
+use Rattle.jt_script.specs.declared.world_event.WorldEvent.{WorldEvent}
+use Rattle.jt_script.specs.declared.world_event.WorldEvent.TheVariants as event
+use Rattle.jt_script.specs.declared.reading.EventLine.{EventLine}
+use Rattle.jt_script.specs.declared.reading.EventLine.TheVariants as script
+use Rattle.jt_script.specs.EventLines as script_lines
 use Rattle.jt_input.specs.Text.{is_within}
 use Rattle.jt_fence_command.specs.declared.line.FenceLine.{FenceLine}
 use Rattle.jt_fence_command.specs.declared.line.FenceLine.TheVariants.{Passed, Fix, Change, Bad}
@@ -65,8 +65,7 @@ deletion_say kind octets = deletion_says kind (deletion.read octets 0)
 
 unfoldable pub word_named : List ℕ → Option FenceWord
 word_named name =
-    if bytes_eq name (codes "raw") then Some word.Raw
-    else if bytes_eq name (codes "rectangles") then Some word.Rectangles
+    if bytes_eq name (codes "rectangles") then Some word.Rectangles
     else if bytes_eq name (codes "polygon") then Some word.Polygon
     else if bytes_eq name (codes "delete-rectangles") then Some word.DeleteRectangles
     else if bytes_eq name (codes "delete-polygons") then Some word.DeletePolygons
@@ -74,7 +73,6 @@ word_named name =
 
 -- octets behind a word
 abbrev pub octets_say : FenceWord → List ℕ → FenceLine
-octets_say word.Raw octets = fix_say octets
 octets_say word.Rectangles octets = rectangles_say octets
 octets_say word.Polygon octets = polygon_say octets
 octets_say word.DeleteRectangles octets = deletion_say kind.Rectangle octets
@@ -102,22 +100,31 @@ words_say line = parted_say line (position (λ octet. octet == 32) line)
 
 -- ---- lines
 
--- `fix K` is the one of a rehearsal's script, whose other events are none here
+-- `fix K` and `raw X` are those of a rehearsal's script, whose other events are none here
 abbrev pub event_says : WorldEvent → FenceLine
 event_says (event.Fix lat) = fix_say (position_body.spell (position_at lat))
+event_says (event.Raw octets) = fix_say octets
+event_says event.Open = Bad
 event_says (event.Up number count) = Bad
 event_says (event.Down count) = Bad
 event_says (event.Tick milliseconds) = Bad
+event_says (event.Beat times) = Bad
+event_says event.Run = Bad
+event_says (event.Cut number) = Bad
+event_says event.Lost = Bad
+event_says event.RestartTerminal = Bad
+event_says event.RestartPlatform = Bad
+event_says (event.RestartAs edition) = Bad
 
 -- empty lines and comments are those of such a script too
-abbrev pub script_says : List ℕ → ScriptLine → FenceLine
+abbrev pub script_says : List ℕ → EventLine → FenceLine
 script_says line script.Passed = Passed
 script_says line (script.Event event) = event_says event
 script_says line script.Bad = words_say line
 
 -- what a line says
 unfoldable pub says : List ℕ → FenceLine
-says line = script_says line (said line)
+says line = script_says line (script_lines.says line)
 
 -- what the line of this number says, and one beyond the limits is bad whatever it says
 unfoldable pub meaning : ℕ → List ℕ → FenceLine

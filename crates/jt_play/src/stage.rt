@@ -33,7 +33,7 @@ use crate::tally::{Tally, tally_all, tally_entries};
 use jt_header::law_of_contents;
 use jt_platform::{Entry, Fleet, Hub, law_answers, law_histories};
 use jt_position::Fix;
-use jt_script::world_event::WorldEvent;
+use jt_script::WorldEvent;
 use jt_session::{End, Fed};
 use jt_store::{MemKeeper, MemVault, StoreError};
 use jt_stream::{law_frames, law_front, law_one_octet};

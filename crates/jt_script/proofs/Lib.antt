@@ -1,4 +1,1 @@
-pub mod Amounts
 pub mod WordsOfLines
-pub mod Events
-pub mod Saying

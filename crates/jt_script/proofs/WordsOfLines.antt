@@ -1,6 +1,7 @@
 -- How a line is cut into words, and what words write.
-use Rattle.std.proofs.Common.{◌≡◌, ◌<◌, ◌≤◌, ◌+◌, ◌^◌, ℕ, true, false, Bool, ◌&&◌, eqb, leb, Option, Some, None, Err, List, [], ◌∷◌, ◌++◌, length, take, drop, refl, sym, ap, subst, ◌∙◌, inl, inr, arith}
+use Rattle.std.proofs.Common.{◌≡◌, ◌<◌, ◌≤◌, ◌+◌, ◌-◌, length-drop, ◌^◌, ℕ, true, false, Bool, ◌&&◌, eqb, leb, Option, Some, None, Err, List, [], ◌∷◌, ◌++◌, length, take, drop, refl, sym, ap, subst, ◌∙◌, inl, inr, arith, append_assoc}
 use Rattle.std.proofs.lemmas.Bool.{cases_Bool, ne_eqb, and_parts, leb-true, le-leb}
+use Rattle.std.proofs.lemmas.List.{take-append-drop, take_all}
 use Rattle.std.proofs.lemmas.List.Splits.{slice_split-cons_yes, slice_split-cons_no}
 use Rattle.std.proofs.lemmas.Fmt.{decimal_is_IsNumeral}
 use Rattle.std.proofs.lemmas.Slice.Eq.{bytes_eq-Decides}
@@ -18,9 +19,18 @@ use Rattle.jt_position.specs.declared.fix.FixError.TheVariants as errors
 use Rattle.jt_input.specs.Spelling.{Reads}
 use Rattle.jt_input.specs.Text.{Lacks}
 use Rattle.jt_input.proofs.Lacking.{front_before, lacks_all}
-use Rattle.jt_script.proofs.Events.{parted}
 use Rattle.jt_script.specs.declared.world_event.WorldEvent.{WorldEvent}
 use Rattle.jt_script.specs.EventLines.{words, written, number_in, fix_if, event_of}
+
+-- a line is what stands before its first space, the space, and the rest
+parted : (line : List ℕ) (space : ℕ) → position (λ x. eqb x 32) line ≡ Some space → line ≡ take space line ++ 32 ∷ drop (space + 1) line
+parted line space found =
+    sym (take-append-drop (space + 1) line) ∙ ap (λ (front : List ℕ). front ++ drop (space + 1) line) (front_before 32 line space found).2
+    ∙ append_assoc (take space line) (32 ∷ []) (drop (space + 1) line)
+
+-- what a slice to the end holds
+pub rest_is : (line : List ℕ) (at : ℕ) → take (length line - at) (drop at line) ≡ drop at line
+rest_is line at = take_all (length line - at) (drop at line) (omega (arith, length-drop at line))
 
 -- a line without a space is one word
 pub one_word : (line : List ℕ) → Lacks 32 line → words line ≡ line ∷ []

@@ -1,3 +1,1 @@
-pub mod ScriptLine
-pub mod Said
 pub mod EventLines

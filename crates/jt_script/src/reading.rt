@@ -1,4 +1,4 @@
-//! The lines of a script of the whole world.
+//! The lines of a script.
 
 ghost use Rattle.std.specs.Prelude.{◌≡◌, ◌∷◌, IfOk};
 ghost use Rattle.std.specs.Option.{option_map};

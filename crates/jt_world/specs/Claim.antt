@@ -1,19 +1,18 @@
--- What is claimed of every world that is reached. To be believed.
-use Rattle.std.specs.Prelude.{◌≡◌, ℕ, ◌<◌, ◌≤◌, length, take, All}
-use Rattle.jt_world.specs.World.{World, fixes_in}
-use mathlib.Core.List.{IsPrefix}
-use Rattle.jt_world.specs.Reaching.{Reached}
+-- What holds of the world after a script (this project's own). To be believed.
+use Rattle.std.specs.Prelude.{◌≡◌, ℕ, ◌<◌, [], length}
+use Rattle.jt_stream.specs.Unplaced.{items}
+use Rattle.jt_octets.specs.Claim.{Kept, heard_along, heard_of, heard_on}
+use Rattle.jt_octets.specs.Reaching.{Reached}
+use Rattle.jt_octets.specs.World.{World, empty, line_at, taken_of}
 
-pub record Kept (w : World) : Type 0 where
-  -- the rows are the first units that were formed, each once, in order, with their numbers, ids and bodies
-  pub stored : length w.rows ≤ length w.units
-  pub first_units : w.rows ≡ take (length w.rows) w.units
-  -- the fixes stored are the first of those recorded
-  pub recorded : IsPrefix (fixes_in w.rows) w.recorded
-  -- each unit whose acceptance the terminal received is stored
-  pub told : All (λ (place : ℕ). place < length w.rows) w.told
-  -- and so is each that it holds as accepted
-  pub accepted : w.accepted ≤ length w.rows
+-- Steps lead to the world, and the claim of delivery holds of it. On each line, also one that was lost long ago, the terminal heard
+-- on the way what the items, bodies and packets of the octets are that it took there.
+pub record KeptWhole (w : World) : Type 0 where
+  pub reached : Reached w
+  pub kept : Kept w
+  pub hears : (place : ℕ) → place < length w.lines
+      → heard_on (heard_along (empty reached.phone reached.setting) reached.leads.events) place
+      ≡ heard_of [] (items (taken_of (line_at w.lines place).down))
 
-abbrev pub EachReachedIsKept : Type 0
-EachReachedIsKept = (w : World) → Reached w → Kept w
+abbrev pub EachReachedIsKeptWhole : Type 0
+EachReachedIsKeptWhole = (w : World) → Reached w → KeptWhole w

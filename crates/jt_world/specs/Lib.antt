@@ -1,10 +1,6 @@
 pub mod Claim
-pub mod Events
-pub mod Holding
-pub mod Messages
-pub mod Reaching
-pub mod Script
-pub mod World
 pub mod Rehearsal
+pub mod Made
 pub mod Rehearsing
-pub mod Beyond
+pub mod Making
+pub mod Hearing

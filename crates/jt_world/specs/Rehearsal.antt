@@ -1,98 +1,132 @@
 -- What a script leads to, and what is printed of it: this project's own. To be believed.
-use Rattle.std.specs.Prelude.{ℕ, ◌+◌, ◌==◌, nat_lt, if◌then◌else◌, Bool, true, List, [], ◌∷◌, ◌++◌, length, take, codes, Option, Some, None}
-use Rattle.std.specs.Fmt.{decimal}
+use Rattle.std.specs.Prelude.{ℕ, ◌+◌, if◌then◌else◌, List, [], ◌∷◌, ◌++◌, codes}
 use Rattle.std.specs.List.{flat_map}
-use Rattle.jt_script.specs.declared.event.WorldEvent.{WorldEvent}
-use Rattle.jt_script.specs.declared.event.WorldEvent.TheVariants as event
-use Rattle.jt_script.specs.declared.script.ScriptLine.{ScriptLine}
-use Rattle.jt_script.specs.declared.script.ScriptLine.TheVariants.{Passed, Event, Bad}
-use Rattle.jt_script.specs.Said.{said}
-use Rattle.jt_input.specs.Text.{lines_of, is_within}
-use Rattle.jt_input.specs.Lines.{Outcome, bad_line}
+use Rattle.jt_value.specs.declared.limits.TheConstants.{FIX_LIMIT, ROW_LIMIT}
+use Rattle.jt_value.specs.declared.phone.Edition.{Edition}
+use Rattle.jt_value.specs.declared.phone.Edition.TheVariants.{E2013, E2019}
+use Rattle.jt_value.specs.declared.phone.Phone.{Phone}
+use Rattle.jt_delivery.specs.World.{Setting}
+use Rattle.jt_octets.specs.World.{World}
+use Rattle.jt_play.specs.declared.identity.Identity.{Identity}
+use Rattle.jt_play.specs.Laws.{first_play}
+use Rattle.jt_play.specs.Playing.{Play, entries_between, finds_full, names_no_line, play_after}
+use Rattle.jt_play.specs.Scripts.{settings_in, totals_of}
+use Rattle.jt_terminal_rule.specs.declared.settings.Settings.{Settings}
+use Rattle.jt_report_command.specs.Settings.{settings_of}
+use Rattle.jt_script.specs.declared.reading.EventLine.{EventLine}
+use Rattle.jt_script.specs.declared.reading.EventLine.TheVariants.{Passed, Event, Bad}
+use Rattle.jt_script.specs.EventLines.{meaning}
+use Rattle.jt_input.specs.Text.{lines_of}
+use Rattle.jt_input.specs.Lines.{bad_line}
+use Rattle.jt_input.specs.EarlyEnds.{full_line}
 use Rattle.jt_input.specs.Reply.{Reply}
 use Rattle.jt_input.specs.declared.status.Status.{Status}
-use Rattle.jt_input.specs.declared.status.Status.TheVariants.{Done, Refused}
-use Rattle.jt_world.specs.declared.world.SmallEntry.{SmallEntry}
-use Rattle.jt_world.specs.Script.{fix_limit, world_after, entries_between}
-use Rattle.jt_world.specs.World.{World, empty, fixes_in}
+use Rattle.jt_input.specs.declared.status.Status.TheVariants.{Done, Refused, StoreFault}
+use Rattle.jt_event_lines.specs.EntryLines.{entry_line, totals_line}
+
+-- ---- where nothing has happened
+
+-- the phone 013912345678
+abbrev pub the_phone : Edition → Phone
+the_phone edition = record { edition = edition; digits = 0 ∷ 0 ∷ 0 ∷ 0 ∷ 0x01 ∷ 0x39 ∷ 0x12 ∷ 0x34 ∷ 0x56 ∷ 0x78 ∷ [] }
+
+abbrev pub the_plate : List ℕ
+the_plate = codes "JT808"
+
+abbrev pub the_terminal : List ℕ
+the_terminal = codes "1234567"
+
+abbrev pub the_secret : List ℕ
+the_secret = codes "12"
+
+-- the terminal has, in each edition, the settings that `report` has for this phone, plate and terminal id
+abbrev pub the_settings : Edition → Settings
+the_settings edition = settings_of (the_phone edition) the_plate the_terminal
+
+abbrev pub the_identity : Identity
+the_identity = record { e2013 = the_settings E2013; e2019 = the_settings E2019 }
+
+-- every hub has a fleet of this plate and this terminal id, and the keeper takes 1,000,000,000 rows
+abbrev pub the_setting : Setting
+the_setting = record { fleet = record { plates = the_plate ∷ []; terminals = the_terminal ∷ [] }; secret = the_secret; limit = ROW_LIMIT }
+
+-- the terminal is one of 2013, without a line, over an empty vault; the hub has no entry, and its keeper nothing; the clock stands at 0
+abbrev pub first : Play
+first = first_play (the_settings E2013) the_setting
 
 -- ---- what is printed
 
--- a unit was stored from line 1: its serial, and the number of its row
-unfoldable pub entry_line : SmallEntry → List ℕ
-entry_line entry = codes "1 unit " ++ decimal entry.serial ++ codes " stored " ++ decimal entry.number ++ codes "\n"
-
--- the fixes recorded, the fixes accepted, the rows, and the fixes in them
-unfoldable pub totals_line : World → List ℕ
-totals_line w =
-    codes "recorded=" ++ decimal (length w.recorded) ++ codes " accepted=" ++ decimal (length (fixes_in (take w.accepted w.units)))
-    ++ codes " rows=" ++ decimal (length w.rows) ++ codes " stored=" ++ decimal (length (fixes_in w.rows)) ++ codes "\n"
+-- what is printed of a step: a line for each entry that it made, in order
+abbrev pub entry_lines : World → World → List ℕ
+entry_lines old new = flat_map entry_line (entries_between old new)
 
 -- ---- what a script leads to
 
--- a world, what was printed on the way, and the number of the bad line, if one came
+-- the script was read whole, or its line of this number is bad, or a fix found this many that are not accepted, as many as there may be
+pub data End : Type 0 where
+  Whole : End
+  BadAt : ℕ → End
+  FullAt : ℕ → End
+
+-- a world with what its terminal keeps, what was printed on the way, and why the script ended
 pub record Rehearsal : Type 0 where
-  pub world : World
+  pub play : Play
   pub text : List ℕ
-  pub bad : Option ℕ
+  pub end : End
 
 -- this is printed before
 abbrev pub printing : List ℕ → Rehearsal → Rehearsal
 printing text rehearsal = record rehearsal { text = text ++ rehearsal.text }
 
--- whether the world allows the event, as `IsAllowed` says
-abbrev pub is_allowed : World → WorldEvent → Bool
-is_allowed w (event.Fix latitude) = nat_lt (length w.recorded) fix_limit
-is_allowed w (event.Up line count) = line == 1
-is_allowed w (event.Down count) = true
-is_allowed w (event.Tick milliseconds) = milliseconds == 0
+-- the line of this number is bad
+abbrev pub bad_at : ℕ → Play → Rehearsal
+bad_at number p = record { play = p; text = bad_line number; end = BadAt number }
 
--- an event that the world does not allow is bad
-abbrev pub allowed : World → ScriptLine → ScriptLine
-allowed w Passed = Passed
-allowed w (Event event) = if is_allowed w event then Event event else Bad
-allowed w Bad = Bad
+-- the vault is full
+abbrev pub full_at : Play → Rehearsal
+full_at p = record { play = p; text = full_line FIX_LIMIT; end = FullAt FIX_LIMIT }
 
--- what the line of this number says, and one beyond the limits is bad whatever it says
-unfoldable pub meaning : World → ℕ → List ℕ → ScriptLine
-meaning w number line = if is_within number line then allowed w (said line) else Bad
+-- the script was read whole
+abbrev pub whole_at : Play → Rehearsal
+whole_at p = record { play = p; text = totals_line (totals_of p); end = Whole }
 
--- one world leads to another: what was stored is printed, and the script goes on
-abbrev pub with_new_entries : World → World → (World → Rehearsal) → Rehearsal
-with_new_entries old new next = printing (flat_map entry_line (entries_between old new)) (next new)
+-- one play leads to another: what the hub entered is printed, and the script goes on
+abbrev pub goes_to : Play → Play → (Play → Rehearsal) → Rehearsal
+goes_to old new next = printing (entry_lines old.world new.world) (next new)
 
--- a line is passed over, leads to the next world, or ends the script as the bad line of this number
-abbrev pub after_line : World → ℕ → (World → Rehearsal) → ScriptLine → Rehearsal
-after_line w number next Passed = next w
-after_line w number next (Event event) = with_new_entries w (world_after w event) next
-after_line w number next Bad = record { world = w; text = bad_line number; bad = Some number }
+-- a line is passed over, leads to the next play, or ends the script: as the bad line of this number, also where it names a line of
+-- communication that was not opened, or where the vault is full
+abbrev pub after_line : Play → ℕ → (Play → Rehearsal) → EventLine → Rehearsal
+after_line p number next Passed = next p
+after_line p number next (Event event) =
+    if names_no_line p.world event then bad_at number p
+    else if finds_full FIX_LIMIT p event then full_at p
+    else goes_to p (play_after (settings_in the_identity) p event) next
+after_line p number next Bad = bad_at number p
 
 -- these lines of a script, the first of which has this number
-abbrev pub rehearsal_from : World → ℕ → List (List ℕ) → Rehearsal
-rehearsal_from w number [] = record { world = w; text = totals_line w; bad = None }
-rehearsal_from w number (line ∷ more) = after_line w number (λ next. rehearsal_from next (number + 1) more) (meaning w number line)
+abbrev pub rehearsal_from : Play → ℕ → List (List ℕ) → Rehearsal
+rehearsal_from p number [] = whole_at p
+rehearsal_from p number (line ∷ more) = after_line p number (λ next. rehearsal_from next (number + 1) more) (meaning number line)
 
--- the rehearsal of a script, from the world in which nothing has happened
+-- the rehearsal of a script
 unfoldable pub rehearsal : List ℕ → Rehearsal
-rehearsal script = rehearsal_from empty 1 (lines_of script)
+rehearsal script = rehearsal_from first 1 (lines_of script)
 
 -- the world of a script
 abbrev pub world_of : List ℕ → World
-world_of script = (rehearsal script).world
+world_of script = (rehearsal script).play.world
 
 -- the text that is printed of a script
 abbrev pub rehearsal_text : List ℕ → List ℕ
 rehearsal_text script = (rehearsal script).text
 
--- a script with a bad line is refused
-abbrev pub script_status : Option ℕ → Status
-script_status None = Done
-script_status (Some number) = Refused
+-- a script with a bad line is refused, and one that fills the vault ends as a store does that is full
+abbrev pub script_status : End → Status
+script_status Whole = Done
+script_status (BadAt number) = Refused
+script_status (FullAt limit) = StoreFault
 
 -- what is printed of a script, and the status
 unfoldable pub script_reply : List ℕ → Reply
-script_reply script = record { text = rehearsal_text script; status = script_status (rehearsal script).bad }
-
--- a rehearsal as what came of lines
-abbrev pub outcome_of : Rehearsal → Outcome World
-outcome_of r = record { left = r.world; text = r.text; bad = r.bad; status = script_status r.bad }
+script_reply script = record { text = rehearsal_text script; status = script_status (rehearsal script).end }

@@ -1,20 +1,15 @@
-//! A terminal and a platform over one line of octets, and the claim of delivery.
+//! The rehearsal: one terminal and one platform in memory, played by a script, octet by octet.
 #![tactic(auto)]
 
-mod acknowledgement;
 mod hearing;
 mod laws;
-mod platform;
+mod making;
 mod rehearsing;
-mod row;
-mod script_text;
-mod terminal;
-mod wire;
+mod settings;
 mod world;
 
-pub use acknowledgement::Acknowledgement;
-pub use jt_script::WorldEvent;
-pub use laws::law_world;
+pub use jt_play::{WorldError, WorldEvent};
+pub use laws::{law_make, law_world};
+pub use making::make;
 pub use rehearsing::{Rehearsed, rehearse};
-pub use row::Row;
-pub use world::{Counts, SmallEntry, World, WorldError};
+pub use world::World;

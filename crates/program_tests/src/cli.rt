@@ -570,69 +570,6 @@ fn lines_of_their_own(rt: HostRuntime) {
 }
 
 #[test]
-fn scripts(rt: HostRuntime) {
-    let alloc = rt.alloc();
-    let rows: &[(&str, Status, &str)] = &[
-        (
-            "fix 0\ntick 0\nup 1 30\nfix 1\ntick 0\nup 1 all\ndown all\n",
-            Status::Done,
-            "1 unit 0 stored 0\n1 unit 1 stored 1\nrecorded=2 accepted=2 rows=2 stored=2\n",
-        ),
-        (
-            "fix 0\ntick 0\nup 1 30\n",
-            Status::Done,
-            "recorded=1 accepted=0 rows=0 stored=0\n",
-        ),
-        (
-            "fix 0\ntick 0\nup 1 all\n",
-            Status::Done,
-            "1 unit 0 stored 0\nrecorded=1 accepted=0 rows=1 stored=1\n",
-        ),
-        ("fix 0\nopen\n", Status::Refused, "line 2 refused\n"),
-        (
-            "fix 0\ntick 0\nup 1 all\nrun\nfix 1\n",
-            Status::Refused,
-            "1 unit 0 stored 0\nline 4 refused\n",
-        ),
-        (
-            "fix 0",
-            Status::Done,
-            "recorded=1 accepted=0 rows=0 stored=0\n",
-        ),
-        ("fix 0\nfix", Status::Refused, "line 2 refused\n"),
-        ("", Status::Done, "recorded=0 accepted=0 rows=0 stored=0\n"),
-        (
-            "\n# a comment\nfix 89999999\n\n",
-            Status::Done,
-            "recorded=1 accepted=0 rows=0 stored=0\n",
-        ),
-        (
-            "\n# a comment\nfix 01\n",
-            Status::Refused,
-            "line 3 refused\n",
-        ),
-        ("fix 0\r\n", Status::Refused, "line 1 refused\n"),
-        ("fix  0\n", Status::Refused, "line 1 refused\n"),
-        ("fix\t0\n", Status::Refused, "line 1 refused\n"),
-        ("fix 90000000\n", Status::Refused, "line 1 refused\n"),
-        ("up 1 1000000001\n", Status::Refused, "line 1 refused\n"),
-        ("up 2 all\n", Status::Refused, "line 1 refused\n"),
-        ("tick 0\ntick 1\n", Status::Refused, "line 2 refused\n"),
-    ];
-    for &(script, status, written) in rows {
-        expect(
-            &rt,
-            alloc,
-            &["rehearse"],
-            script.as_bytes(),
-            (0, 0),
-            status,
-            written,
-        );
-    }
-}
-
-#[test]
 fn long_lines_of_scripts(rt: HostRuntime) {
     let alloc = rt.alloc();
     let none = "recorded=0 accepted=0 rows=0 stored=0\n";
@@ -656,37 +593,16 @@ fn long_lines_of_scripts(rt: HostRuntime) {
     );
 }
 
-// Runs a script of so many fixes.
-fn expect_of_fixes(rt: &impl Abort, alloc: Global, count: u32, status: Status, written: &str) {
-    let script = repeated(alloc, b"", b"fix 0\n", count, b"").expect(rt, "a script");
-    expect(
-        rt,
-        alloc,
-        &["rehearse"],
-        script.as_slice(),
-        (0, 0),
-        status,
-        written,
-    );
-}
-
-#[test]
-fn many_fixes(rt: HostRuntime) {
-    let counts = "recorded=32766 accepted=0 rows=0 stored=0\n";
-    expect_of_fixes(&rt, rt.alloc(), 32_766, Status::Done, counts);
-    let refused = "line 32767 refused\n";
-    expect_of_fixes(&rt, rt.alloc(), 32_767, Status::Refused, refused);
-}
-
 #[test]
 fn faults_of_scripts(rt: HostRuntime) {
     let alloc = rt.alloc();
-    let script = b"fix 0\ntick 0\nup 1 all\n";
+    let script = b"open\nup 1 all\n";
+    let registered = "1 register registered\n";
     let rows: &[((u64, u64), Status, &str)] = &[
         ((1, 0), Status::ReadFault, ""),
-        ((2, 0), Status::ReadFault, "1 unit 0 stored 0\n"),
+        ((2, 0), Status::ReadFault, registered),
         ((0, 1), Status::WriteFault, ""),
-        ((0, 2), Status::WriteFault, "1 unit 0 stored 0\n"),
+        ((0, 2), Status::WriteFault, registered),
     ];
     for &(failing, status, written) in rows {
         expect(&rt, alloc, &["rehearse"], script, failing, status, written);
@@ -746,6 +662,8 @@ fn words_of_tasks(rt: HostRuntime) {
         (&["check"], CHECK),
         (&["check", "--hex"], CHECK_HEX),
         (&["rehearse"], Some(Task::Rehearse)),
+        (&["make", "1"], Some(Task::Make(1))),
+        (&["make", "20000"], Some(Task::Make(20_000))),
         (&["fence"], Some(Task::Fence)),
         (&[], None),
         (&[""], None),
@@ -765,6 +683,25 @@ fn words_of_tasks(rt: HostRuntime) {
         (&["rehearsal"], None),
         (&["platform"], None),
         (&["make"], None),
+        (&["make", "0"], None),
+        (&["make", "20001"], None),
+        (&["make", "4294967297"], None),
+        (&["make", "01"], None),
+        (&["make", "+1"], None),
+        (&["make", "-1"], None),
+        (&["make", "1.0"], None),
+        (&["make", ""], None),
+        (&["make", " 1"], None),
+        (&["make", "1 "], None),
+        (&["make", "1", "1"], None),
+        (&["make", "1", "--hex"], None),
+        (&["make", "--hex"], None),
+        (&["make", "--"], None),
+        (&["make1"], None),
+        (&["makes", "1"], None),
+        (&["MAKE", "1"], None),
+        (&["1", "make"], None),
+        (&["rehearse", "1"], None),
     ];
     for &(words, wanted) in rows {
         assert!(rt; are_words_of(&rt, rt.alloc(), words, wanted));

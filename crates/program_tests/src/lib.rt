@@ -7,5 +7,3 @@ mod cli;
 mod order;
 #[cfg(test)]
 mod view;
-#[cfg(test)]
-mod world;

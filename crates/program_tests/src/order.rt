@@ -13,7 +13,7 @@ use std::process::Abort;
 
 // A script whose first piece prints a line, and which has 24,022 octets.
 fn long_script(alloc: Global) -> Result<Vec<u8>, AllocError> {
-    repeated(alloc, b"fix 0\ntick 0\nup 1 all\n", b"#234567\n", 3000, b"")
+    repeated(alloc, b"open\nup 1 all\n# lines\n", b"#234567\n", 3000, b"")
 }
 
 // How many octets a read of up to 16,384 takes.
@@ -110,7 +110,7 @@ const HEARTBEAT: &[u8] = b"\x7e\x00\x02\x00\x00\x01\x39\x12\x34\x56\x78\x00\x00\
 #[test]
 fn lines_go_out_before_the_next_read(rt: HostRuntime) {
     let alloc = rt.alloc();
-    assert!(rt; is_written_first(&rt, alloc, "rehearse", b"fix 0\ntick 0\nup 1 all\n"));
+    assert!(rt; is_written_first(&rt, alloc, "rehearse", b"open\nup 1 all\n"));
     assert!(rt; is_written_first(&rt, alloc, "view", HEARTBEAT));
     assert!(rt; !is_written_first(&rt, alloc, "rehearse", b"# fix 0\n"));
 }

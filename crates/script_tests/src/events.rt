@@ -1,5 +1,4 @@
-use jt_script::world_event::WorldEvent;
-use jt_script::{EventLine, event_line};
+use jt_script::{EventLine, WorldEvent, event_line};
 use jt_value::Edition;
 use std::alloc::Global;
 use std::process::Abort;
@@ -58,6 +57,7 @@ const EVENTS: &[(&str, Said)] = &[
     ("up 1 30", Said::Up(1, Some(30))),
     ("up 2 all", Said::Up(2, None)),
     ("up 1 0", Said::Up(1, Some(0))),
+    ("up 0 0", Said::Up(0, Some(0))),
     ("up 0 all", Said::Up(0, None)),
     (
         "up 4294967295 1000000000",
@@ -67,6 +67,7 @@ const EVENTS: &[(&str, Said)] = &[
     ("down 1000000000", Said::Down(Some(1_000_000_000))),
     ("down all", Said::Down(None)),
     ("tick 0", Said::Tick(0)),
+    ("tick 1", Said::Tick(1)),
     ("tick 1000", Said::Tick(1000)),
     ("tick 4294967295", Said::Tick(4_294_967_295)),
     ("beat 0", Said::Beat(0)),
@@ -121,6 +122,7 @@ const BAD_VALUES: &[&str] = &[
     "tick 4294967296",
     "tick 00",
     "tick all",
+    "tick 0x0",
     "beat",
     "beat ",
     "beat 100001",

@@ -1,6 +1,5 @@
 use crate::events::{Said, says};
-use jt_script::world_event::WorldEvent;
-use jt_script::{EventLine, event_line, first_word, number_up_to, octets_of};
+use jt_script::{EventLine, WorldEvent, event_line, first_word, number_up_to, octets_of};
 use std::alloc::Global;
 use std::process::Abort;
 

@@ -2,8 +2,8 @@
 #![tactic(auto)]
 
 #[cfg(test)]
-mod lists;
+mod cutter;
 #[cfg(test)]
-mod script;
+mod lists;
 #[cfg(test)]
 mod text;

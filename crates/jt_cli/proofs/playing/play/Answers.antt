@@ -1,23 +1,29 @@
-use Rattle.jt_cli.proofs.ScriptRuns.{runs_script, runs_whole, done, bad_line, read_fault, write_fault, memory}
+use Rattle.jt_cli.proofs.ScriptRuns.{is_done, is_read_fault, is_write_fault, not_usage, runs_script, runs_whole, without_links}
 use Rattle.jt_cli.proofs.playing.play.Goals as goal
 
-pub returns-in-Done-clause-runs : goal.returns-in-Done-clause-runs
-returns-in-Done-clause-runs g c = runs_script _ _ _ _ _ _ done c.in-Done.ensures.rehearses
+pub returns-clause-runs : goal.returns-clause-runs
+returns-clause-runs g c = runs_script _ _ _ _ _ _ c.status_of.ensures c.rehearse.ensures.rehearses
 
-pub returns-in-Done-clause-whole : goal.returns-in-Done-clause-whole
-returns-in-Done-clause-whole g c = runs_whole _ _ _ _ _ done c.in-Done.ensures.whole
+pub returns-clause-whole : goal.returns-clause-whole
+returns-clause-whole g c = runs_whole _ _ _ _ _ c.status_of.ensures c.rehearse.ensures.whole
 
-pub returns-in-BadLine-clause-runs : goal.returns-in-BadLine-clause-runs
-returns-in-BadLine-clause-runs g c = runs_script _ _ _ _ _ _ (bad_line _) c.in-BadLine.ensures.rehearses
+pub returns-clause-prints_taken : goal.returns-clause-prints_taken
+returns-clause-prints_taken g c = λ e. c.rehearse.ensures.prints_taken (is_read_fault _ _ c.status_of.ensures e)
 
-pub returns-in-BadLine-clause-whole : goal.returns-in-BadLine-clause-whole
-returns-in-BadLine-clause-whole g c = runs_whole _ _ _ _ _ (bad_line _) c.in-BadLine.ensures.whole
+pub returns-clause-stops_at_write : goal.returns-clause-stops_at_write
+returns-clause-stops_at_write g c = λ e. c.rehearse.ensures.stops_at_write (is_write_fault _ _ c.status_of.ensures e)
 
-pub returns-in-ReadFault-clause-runs : goal.returns-in-ReadFault-clause-runs
-returns-in-ReadFault-clause-runs g c = runs_script _ _ _ _ _ _ read_fault c.in-ReadFault.ensures.rehearses
+pub returns-clause-to_the_end : goal.returns-clause-to_the_end
+returns-clause-to_the_end g c = λ e. c.rehearse.ensures.to_the_end (is_done _ _ c.status_of.ensures e)
 
-pub returns-in-WriteFault-clause-runs : goal.returns-in-WriteFault-clause-runs
-returns-in-WriteFault-clause-runs g c = runs_script _ _ _ _ _ _ write_fault c.in-WriteFault.ensures.rehearses
+pub returns-clause-read_fault : goal.returns-clause-read_fault
+returns-clause-read_fault g c = λ e. c.rehearse.ensures.read_fault (is_read_fault _ _ c.status_of.ensures e)
 
-pub returns-in-Memory-clause-runs : goal.returns-in-Memory-clause-runs
-returns-in-Memory-clause-runs g c = runs_script _ _ _ _ _ _ memory c.in-Memory.ensures.rehearses
+pub returns-clause-write_fault : goal.returns-clause-write_fault
+returns-clause-write_fault g c = λ e. c.rehearse.ensures.write_fault (is_write_fault _ _ c.status_of.ensures e)
+
+pub returns-clause-not_usage : goal.returns-clause-not_usage
+returns-clause-not_usage g c = not_usage _ _ c.status_of.ensures
+
+pub returns-clause-without_links : goal.returns-clause-without_links
+returns-clause-without_links g c = without_links _ _ c.status_of.ensures

@@ -1,6 +1,5 @@
 use Rattle.std.proofs.Common.{◌+◌, sym}
-use Rattle.jt_script.proofs.Events.{rest_is}
-use Rattle.jt_script.proofs.WordsOfLines.{at_space, no_space}
+use Rattle.jt_script.proofs.WordsOfLines.{at_space, no_space, rest_is}
 use Rattle.jt_script.proofs.cutting.first_word.Goals as goal
 
 pub returns-in-Some : goal.returns-in-Some
