@@ -16,6 +16,8 @@ mod stop_tests;
 #[cfg(test)]
 mod stopped_files;
 #[cfg(test)]
+mod table_tests;
+#[cfg(test)]
 mod vault_calls;
 #[cfg(test)]
 mod vault_tests;

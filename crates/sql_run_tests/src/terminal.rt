@@ -1,0 +1,312 @@
+//! A terminal's life over any vault, moment by moment, and what the vault holds then.
+
+ghost use Rattle.std.specs.Prelude.{◌≡◌, IfSome};
+ghost use Rattle.jt_terminal_rule.specs.Messages.{AreSettings};
+
+use crate::frames::frames;
+use crate::platform::push_octets;
+use jt_position::Fix;
+use jt_register::{AuthTail, Register};
+use jt_store::{Loaded, StoreError, Unit, Vault};
+use jt_terminal::{Actions, Event, Settings, Terminal, TerminalError, TerminalLine};
+use jt_value::{Edition, Memory, Octets, Phone};
+use std::alloc::{AllocError, Global};
+use std::fmt::Write;
+
+/// What happens: a connection begins (O) or is lost (L), a fix at this latitude is recorded (F), the clock is looked at, which
+/// stands (T), or frames of these letters come from the platform (D). Then the letters of the frames that the terminal writes.
+pub type Moment = (u8, u32, &'static [u8], &'static [u8]);
+
+/// The edition of a terminal, its moments from its start on, and what its vault holds then.
+pub type Life = (Edition, &'static [Moment], &'static str);
+
+/// The most octets that come at once.
+const MOST: usize = 100_000;
+
+fn zeros(alloc: Global, front: &[u8], count: usize) -> Result<Octets, Memory> {
+    let mut octets = Vec::from_slice(alloc, front)?;
+    for _ in 0..count {
+        octets.push(0)?;
+    }
+    Ok(Octets::from_vec(octets))
+}
+
+// How many octets the maker, the model, and the terminal id behind its own seven have.
+fn lengths(edition: Edition) -> (usize, usize, usize) {
+    match edition {
+        Edition::E2013 => (5, 20, 0),
+        Edition::E2019 => (11, 30, 23),
+    }
+}
+
+fn register(alloc: Global, edition: Edition) -> Result<Register, Memory> {
+    let (maker, model, rest) = lengths(edition);
+    Ok(Register {
+        province: 0,
+        city: 0,
+        maker: zeros(alloc, b"", maker)?,
+        model: zeros(alloc, b"", model)?,
+        terminal: zeros(alloc, b"1234567", rest)?,
+        colour: 1,
+        plate: zeros(alloc, b"JT808", 0)?,
+    })
+}
+
+fn tail(edition: Edition) -> Option<AuthTail> {
+    match edition {
+        Edition::E2013 => None,
+        Edition::E2019 => Some(AuthTail {
+            imei: [0; 15],
+            software: [0; 20],
+        }),
+    }
+}
+
+// Good settings of phone 013912345678: heartbeats of 60 seconds, waits of 10 and three repeats.
+fn settings(alloc: Global, edition: Edition) -> Option<Settings>
+    ensures { IfSome result AreSettings }
+{
+    let Ok(register) = register(alloc, edition) else {
+        return None;
+    };
+    let settings = Settings {
+        phone: Phone {
+            edition,
+            digits: [0, 0, 0, 0, 0x01, 0x39, 0x12, 0x34, 0x56, 0x78],
+        },
+        register,
+        tail: tail(edition),
+        heartbeat: 60,
+        answer: 10,
+        repeats: 3,
+    };
+    if settings.fits() {
+        Some(settings)
+    } else {
+        None
+    }
+}
+
+// A terminal over what a vault has.
+fn started<V: Vault + Drop>(alloc: Global, edition: Edition, vault: V) -> Option<Terminal<V>>
+    ensures { IfSome result (λ terminal. terminal.state.time ≡ 0) }
+{
+    let settings = settings(alloc, edition)?;
+    match Terminal::start(alloc, vault, settings) {
+        Ok(terminal) => Some(terminal),
+        Err(_) => None,
+    }
+}
+
+// The frames that are to be sent, or a word for an error.
+fn sent(alloc: Global, answer: &Result<Actions, TerminalError>) -> Result<Vec<u8>, Memory> {
+    let mut said = Vec::new(alloc);
+    match answer {
+        Ok(actions) => {
+            for frame in actions.frames.as_slice() {
+                said.extend_from_slice(frame.as_slice())?;
+            }
+        }
+        Err(_) => said.extend_from_slice(b"error")?,
+    }
+    Ok(said)
+}
+
+fn note<V: Vault>(alloc: Global, terminal: &mut Terminal<V>, lat: u32) -> Result<Vec<u8>, Memory>
+    ensures { terminal.new.state.time ≡ terminal.old.state.time }
+{
+    let fix = Fix::at(alloc, lat)?;
+    let noted = terminal.note_fix(alloc, &fix);
+    let word = if noted.is_ok() {
+        b"".as_slice()
+    } else {
+        b"error".as_slice()
+    };
+    Ok(Vec::from_slice(alloc, word)?)
+}
+
+fn open<V: Vault>(alloc: Global, terminal: &mut Terminal<V>) -> Result<Vec<u8>, Memory>
+    ensures { terminal.new.state.time ≡ terminal.old.state.time }
+{
+    let answer = terminal.event(alloc, Event::Opened);
+    sent(alloc, &answer)
+}
+
+fn lose<V: Vault>(alloc: Global, terminal: &mut Terminal<V>) -> Result<Vec<u8>, Memory>
+    ensures { terminal.new.state.time ≡ terminal.old.state.time }
+{
+    let answer = terminal.event(alloc, Event::Lost);
+    sent(alloc, &answer)
+}
+
+fn tick<V: Vault>(alloc: Global, terminal: &mut Terminal<V>) -> Result<Vec<u8>, Memory>
+    requires { terminal.old.state.time ≡ 0 }
+    ensures { terminal.new.state.time ≡ 0 }
+{
+    let answer = terminal.event(alloc, Event::Tick(0));
+    sent(alloc, &answer)
+}
+
+// The terminal hears whole frames of the platform.
+fn hear<V: Vault>(
+    alloc: Global,
+    terminal: &mut Terminal<V>,
+    letters: &[u8],
+) -> Result<Vec<u8>, Memory>
+    ensures { terminal.new.state.time ≡ terminal.old.state.time }
+{
+    let given = frames(alloc, letters)?;
+    if given.len() > MOST {
+        return Ok(given);
+    }
+    let mut line = TerminalLine::new(alloc);
+    let answer = line.feed(alloc, terminal, given.as_slice());
+    sent(alloc, &answer)
+}
+
+fn happens<V: Vault>(
+    alloc: Global,
+    terminal: &mut Terminal<V>,
+    what: u8,
+    lat: u32,
+    given: &[u8],
+) -> Result<Vec<u8>, Memory>
+    requires { terminal.old.state.time ≡ 0 }
+    ensures { terminal.new.state.time ≡ 0 }
+{
+    match what {
+        b'O' => open(alloc, terminal),
+        b'L' => lose(alloc, terminal),
+        b'F' => note(alloc, terminal, lat),
+        b'T' => tick(alloc, terminal),
+        _ => hear(alloc, terminal, given),
+    }
+}
+
+fn goes<V: Vault>(
+    alloc: Global,
+    terminal: &mut Terminal<V>,
+    moment: &Moment,
+) -> Result<bool, Memory>
+    requires { terminal.old.state.time ≡ 0 }
+    ensures { terminal.new.state.time ≡ 0 }
+{
+    let (what, lat, given, wanted) = *moment;
+    let said = happens(alloc, terminal, what, lat, given)?;
+    let wanted = frames(alloc, wanted)?;
+    Ok(said.as_slice() == wanted.as_slice())
+}
+
+// The place of the first moment at which something else is sent.
+fn first_wrong<V: Vault>(
+    alloc: Global,
+    terminal: &mut Terminal<V>,
+    moments: &[Moment],
+) -> Option<usize>
+    requires { terminal.old.state.time ≡ 0 }
+    ensures { terminal.new.state.time ≡ 0 }
+{
+    for (place, moment) in moments.iter().enumerate() {
+        match goes(alloc, terminal, moment) {
+            Ok(true) => {}
+            _ => return Some(place),
+        }
+    }
+    None
+}
+
+/// The vault that a terminal of this edition has once it has lived through these moments, or the place of the first at which it
+/// sends something else.
+pub fn live<V: Vault + Drop>(
+    alloc: Global,
+    edition: Edition,
+    vault: V,
+    moments: &[Moment],
+) -> Result<V, usize> {
+    let Some(mut terminal) = started(alloc, edition, vault) else {
+        return Err(moments.len());
+    };
+    if let Some(place) = first_wrong(alloc, &mut terminal, moments) {
+        return Err(place);
+    }
+    Ok(terminal.into_vault())
+}
+
+fn push_counts(text: &mut String, loaded: &Loaded) -> Result<(), AllocError> {
+    let Loaded {
+        mark,
+        next,
+        recorded,
+        accepted,
+        ..
+    } = loaded;
+    write!(
+        text,
+        "recorded={recorded} accepted={accepted} mark={mark} next={next}"
+    )
+}
+
+fn push_code(text: &mut String, code: &Option<Octets>) -> Result<(), AllocError> {
+    match code {
+        Some(octets) => {
+            text.push_str(" code=")?;
+            push_octets(text, octets.as_slice())?;
+            text.push_str("\n")
+        }
+        None => text.push_str("\n"),
+    }
+}
+
+fn push_unit(text: &mut String, unit: &Unit) -> Result<(), AllocError> {
+    let Unit {
+        serial,
+        id,
+        body,
+        count,
+    } = unit;
+    write!(text, "unit {serial} {id:04x} {count} ")?;
+    push_octets(text, body.as_slice())?;
+    text.push_str("\n")
+}
+
+fn push_fix(text: &mut String, fix: &Fix) -> Result<(), AllocError> {
+    text.push_str("fix ")?;
+    push_octets(text, fix.as_slice())?;
+    text.push_str("\n")
+}
+
+fn push_units(text: &mut String, units: &[Unit]) -> Result<(), AllocError> {
+    for unit in units {
+        push_unit(text, unit)?;
+    }
+    Ok(())
+}
+
+fn push_fixes(text: &mut String, fixes: &[Fix]) -> Result<(), AllocError> {
+    for fix in fixes {
+        push_fix(text, fix)?;
+    }
+    Ok(())
+}
+
+fn push_held(text: &mut String, loaded: &Loaded) -> Result<(), AllocError> {
+    push_counts(text, loaded)?;
+    push_code(text, &loaded.code)?;
+    push_units(text, loaded.units.as_slice())?;
+    push_fixes(text, loaded.fixes.as_slice())
+}
+
+fn held<V: Vault>(alloc: Global, vault: &mut V) -> Result<String, StoreError> {
+    let loaded = vault.load(alloc)?;
+    let mut text = String::new(alloc);
+    push_held(&mut text, &loaded)?;
+    Ok(text)
+}
+
+/// Whether a vault holds this: counts and serials, the code, and the units and fixes that are not accepted.
+pub fn holds<V: Vault>(alloc: Global, vault: &mut V, text: &str) -> bool {
+    match held(alloc, vault) {
+        Ok(held) => held.as_str() == text,
+        Err(_) => false,
+    }
+}
