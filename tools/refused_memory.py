@@ -3,9 +3,9 @@
 
     tools/refused_memory.py [--program jt808] [--most 400]
 
-For each case (a heartbeat that is viewed, the script of samples/, a platform with one session, a report without a link) the program
-first runs as it is, and its allocations are counted. Then it runs once for each of them, the first 400 at most, and that one is
-refused. Each run has to end as the whole one did, or with status 8 and a front of the whole one's text, the totals of no session, or
+For each case (a heartbeat that is viewed, a script in which a platform starts anew, a platform with one session, a report without
+a link) the program first runs as it is, and its allocations are counted. Then it runs once for each of them, the first 400 at
+most, and that one is refused. Each run has to end as the whole one did, or with status 8 and a front of the whole one's text, the totals of no session, or
 a session's line that tells of it (`session 1 memory ..`); a store that is refused its memory may say `store fault`. A run that is
 killed by a signal, hangs, or prints anything else is wrong, and so is a case whose whole run does not end as it should. It prints a
 row for each case. Wants a C compiler.
@@ -22,6 +22,9 @@ import time
 
 import kill_loop
 import link_trials
+
+# A unit is stored, the platform starts anew, and the unit comes again.
+SCRIPT = b"open\nrun\nfix 0\ntick 0\nup 1 all\nrestart platform\nopen\nrun\n"
 
 SHIM = r"""
 #define _GNU_SOURCE
@@ -138,12 +141,10 @@ def speak(ran, port):
 
 
 def cases():
-    with open(f"{ROOT}/samples/one_line.script", "rb") as file:
-        script = file.read()
     report = ["report", "--host", "127.0.0.1", "--port", "PORT", *link_trials.REPORT.split(), "--tries", "1"]
     return [
         Case("a heartbeat, `view`", ["view"], link_trials.heartbeat()),
-        Case("the script of samples/, `rehearse`", ["rehearse"], script),
+        Case("a platform that starts anew, `rehearse`", ["rehearse"], SCRIPT),
         Case("one session, `platform`", ["platform", "--port", "PORT", "--sessions", "1"], link_trials.FLEET, speak),
         Case("no link, `report`", report, link_trials.FIX, status=7),
     ]
