@@ -1,6 +1,7 @@
 //! The table of all recorded fixes, at places from 0 on. Each call is a part of a transaction.
 
 use crate::opening::found;
+use crate::places::{count_places, place_behind};
 use crate::refused::Refused;
 use jt_position::{Fix, FixError};
 use jt_value::Seq;
@@ -9,26 +10,21 @@ use std::alloc::Global;
 
 const LAST: &str = "SELECT place FROM fix ORDER BY place DESC LIMIT 1";
 
+const PLACES: &str = "SELECT place FROM fix ORDER BY place";
+
 const FROM: &str = "SELECT body FROM fix WHERE place >= ?1 ORDER BY place";
 
 const ADD: &str = "INSERT INTO fix (place, body) VALUES (?1, ?2)";
-
-/// The place behind the last one, which is 0 where there is none.
-pub(crate) fn place_behind(last: Option<Row>) -> Result<i64, Refused> {
-    let Some(row) = last else {
-        return Ok(0);
-    };
-    let place: i64 = row.get(0)?;
-    match place.checked_add(1) {
-        Some(behind) if behind > 0 => Ok(behind),
-        _ => Err(Refused::Failed),
-    }
-}
 
 /// How many fixes are recorded.
 pub(crate) fn count<S: Alter>(work: &mut Transaction<'_, S>) -> Result<i64, Refused> {
     let last = found(work.query_row(LAST, &[]))?;
     place_behind(last)
+}
+
+/// How many fixes are recorded, where each stands at its place. Others are refused.
+pub(crate) fn count_all<S: Alter>(work: &mut Transaction<'_, S>) -> Result<i64, Refused> {
+    count_places(work, PLACES)
 }
 
 // The fix in the only column. Octets that are no fix are refused.

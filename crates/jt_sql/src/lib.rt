@@ -11,6 +11,7 @@ mod migration;
 mod opening;
 mod order;
 mod phones;
+mod places;
 mod refused;
 mod registrations;
 mod rows;

@@ -17,10 +17,10 @@ use std::marker::Model;
 /// Keeps registrations and rows in a SQLite file, and does not tell them. A phone may have 1,000,000,000 rows.
 ///
 /// Each call is at most one transaction. Want of memory in it is Memory; whatever else the database refuses raises the count of
-/// faults and is Failed. A file of another version, one that is no database, and one with anything that no keeper would have
-/// written make each call Failed. A file of version 1, in which phones had their edition before their digits, is moved to
-/// version 2 in the transaction of the first call. A file that a fault of the disk has shut is opened anew by the call after the
-/// next one. Dropped, it copies its log into the file, which then has all rows alone.
+/// faults and is Failed. A file of another version and one that is no database make each call Failed, and so does what no keeper
+/// would have written, where the call reads it: rows that are missing are not seen. A file of version 1, in which phones had their
+/// edition before their digits, is moved to version 2 in the transaction of the first call. A file that a fault of the disk has
+/// shut is opened anew by the call after the next one. Dropped, it copies its log into the file, which then has all rows alone.
 pub struct SqlKeeper<R> {
     rt: R,
     path: String,

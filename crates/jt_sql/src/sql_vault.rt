@@ -18,9 +18,10 @@ use std::marker::Model;
 /// Keeps fixes and units in a SQLite file, and does not tell them. At most 100,000 fixes may be recorded and not accepted.
 ///
 /// Each call is at most one transaction. Want of memory in it is Memory; whatever else the database refuses raises the count of
-/// faults and is Failed. A file of another version, one that is no database, and one with anything that no vault would have
-/// written make each call Failed. A file that a fault of the disk has shut is opened anew by the call after the next one.
-/// Dropped, it copies its log into the file, which then has all alone.
+/// faults and is Failed. A file of another version and one that is no database make each call Failed, and so does what no vault
+/// would have written, where the call reads it. `load` reads what is not accepted, and that all fixes and all units stand at the
+/// places 0, 1, 2 and so on. A file that a fault of the disk has shut is opened anew by the call after the next one. Dropped, it
+/// copies its log into the file, which then has all alone.
 pub struct SqlVault<R> {
     rt: R,
     path: String,

@@ -1,7 +1,7 @@
 //! The table of all units, at places from 0 on. Each call is a part of a transaction.
 
-use crate::fixes::place_behind;
 use crate::opening::found;
+use crate::places::{count_places, place_behind};
 use crate::refused::Refused;
 use crate::state::serial_in;
 use jt_store::Unit;
@@ -10,6 +10,8 @@ use sqlite::{Alter, Row, Transaction, params};
 use std::alloc::Global;
 
 const LAST: &str = "SELECT place FROM unit ORDER BY place DESC LIMIT 1";
+
+const PLACES: &str = "SELECT place FROM unit ORDER BY place";
 
 const AT: &str = "SELECT serial, id, body, fixes FROM unit WHERE place = ?1";
 
@@ -35,6 +37,11 @@ fn unit_in(row: &Row) -> Result<Unit, Refused> {
 pub(crate) fn count<S: Alter>(work: &mut Transaction<'_, S>) -> Result<i64, Refused> {
     let last = found(work.query_row(LAST, &[]))?;
     place_behind(last)
+}
+
+/// How many units were formed, where each stands at its place. Others are refused.
+pub(crate) fn count_all<S: Alter>(work: &mut Transaction<'_, S>) -> Result<i64, Refused> {
+    count_places(work, PLACES)
 }
 
 /// The unit at a place.

@@ -62,13 +62,13 @@ fn are_all(from: i64, found: usize, count: i64) -> bool {
     }
 }
 
-// The units that are not accepted. Where some of them are missing they are refused.
+// The units that are not accepted. Where any unit is missing, also one that is accepted, they are refused.
 fn pending<S: Alter>(
     alloc: Global,
     work: &mut Transaction<'_, S>,
     accepted: i64,
 ) -> Result<Seq<Unit>, Refused> {
-    let count = units::count(work)?;
+    let count = units::count_all(work)?;
     let units = units::from(alloc, work, accepted)?;
     if are_all(accepted, units.len(), count) {
         Ok(units)
@@ -101,12 +101,12 @@ fn loaded(state: State, recorded: i64, units: Seq<Unit>, fixes: Seq<Fix>) -> Res
     })
 }
 
-// What the tables hold that is not accepted.
+// What the tables hold that is not accepted. Where any fix or unit is missing they are refused.
 fn load_within<S: Alter>(alloc: Global, work: &mut Transaction<'_, S>) -> Result<Loaded, Refused>
     ensures { IfOk result (λ loaded. AreInOrder loaded.mark loaded.next loaded.units loaded.code) }
 {
     let state = state::read(work)?;
-    let recorded = fixes::count(work)?;
+    let recorded = fixes::count_all(work)?;
     let units = pending(alloc, work, state.units_accepted)?;
     let formed = formed(state.fixes_accepted, units.as_slice());
     let fixes = fixes::from(alloc, work, formed)?;
