@@ -18,7 +18,7 @@ import tempfile
 
 ROOT = os.path.dirname(os.path.dirname(os.path.realpath(__file__)))
 CRATES = ("jt_value", "jt_layout", "jt_position", "jt_store", "jt_sql", "sql_tests")
-MODULES = ("files", "keeper_calls", "keeper_tests", "vault_calls", "vault_tests")
+MODULES = ("files", "keeper_calls", "keeper_tests", "table_tests", "vault_calls", "vault_tests")
 # The file of jt_sql, what stands there once, and what is put in its place.
 WRONG = {
     "two rows in place of one": (
@@ -40,6 +40,16 @@ WRONG = {
         "vaulting.rt",
         "    state::set_accepted(work, units, fixes, unit.serial)",
         "    state::set_accepted(work, units, fixes, state.mark)",
+    ),
+    "a load that counts units by the last place": (
+        "vaulting.rt",
+        "    let count = units::count_all(work)?;",
+        "    let count = units::count(work)?;",
+    ),
+    "a load that counts fixes by the last place": (
+        "vaulting.rt",
+        "    let recorded = fixes::count_all(work)?;",
+        "    let recorded = fixes::count(work)?;",
     ),
 }
 
