@@ -1,6 +1,7 @@
 -- One link more was accepted.
-use Rattle.std.proofs.Common.{◌≡◌, ◌≤◌, ◌<◌, ◌+◌, ◌-◌, ◌^◌, ◌⊎◌, ℕ, zero, suc, List, [], ◌∷◌, ◌++◌, length, drop, inl, inr, Option, Some, None, IsSomeAnd, Ok, Err, refl, sym, ap, ◌∙◌, subst, arith}
+use Rattle.std.proofs.Common.{◌≡◌, ◌≤◌, ◌+◌, ◌-◌, ◌^◌, ◌⊎◌, ℕ, zero, suc, List, [], ◌∷◌, ◌++◌, length, drop, reverse, inl, inr, Option, Some, None, IsSomeAnd, Ok, Err, refl, sym, ap, ◌∙◌, subst, arith}
 use Rattle.std.specs.Prelude.{option_map, IfSome, MatchResult, Result}
+use Rattle.std.proofs.lemmas.List.{length-reverse}
 use lib.ListN.{get_elem?}
 use mathlib.Core.Option.{some}
 use Rattle.jt_value.specs.Counts.{Counts, Rose}
@@ -13,8 +14,8 @@ use Rattle.jt_platform.specs.declared.request.Reply.{Reply}
 use Rattle.jt_session.specs.declared.report.Report.{Report}
 use Rattle.jt_session.specs.Hearing.{IsSamePass}
 use Rattle.jt_session.specs.Serving.{Serves}
-use Rattle.jt_server.specs.Jobs.{AreUpTo, IsGiven, IsRoot, IsWorked, lent_to}
-use Rattle.jt_server.proofs.Places.{at_end}
+use Rattle.jt_server.specs.Jobs.{AreNew, AreUnused, AreUpTo, IsGiven, IsRoot, IsUnused, IsWorked, lent_to}
+use Rattle.jt_server.proofs.Places.{at_back, at_end}
 use Rattle.jt_server.proofs.Joins.{not_there}
 
 -- ---- the listener's links
@@ -121,15 +122,35 @@ module _ {O : Type 0} (root one : PassState Request Reply O) (number : ℕ) (is 
   pub one_failed : one.failed ≡ 0
   one_failed = ap (λ (p : PassState Request Reply O). p.failed) is
 
-  pub is_given : (opening : O) (turn : TurnId) (base : ℕ) (pool now : Pool) (m : ℕ) (came : Wire) → number ≡ m + 1 → IsRoot opening turn base root → now ≡ lent_to m pool → IsNew now.coming came → IsGiven opening turn pool.coming m one came
-  is_given opening turn base pool now m came place first lent new = record {
+  pub one_unused : (opening : O) (turn : TurnId) (base : ℕ) → IsRoot opening turn base root → IsUnused opening turn one
+  one_unused opening turn base first = record {
     of_turn = one_turn ∙ first.of_turn;
-    number = one_number ∙ place;
     over = one_opening ∙ first.over;
     mine = one_mine;
     failed = one_failed;
-    new = subst (λ (p : Pool). IsNew p.coming came) lent new;
   }
+
+pub unused_given : {O : Type 0} (opening : O) (turn : TurnId) (pool now : Pool) (m : ℕ) (one : PassState Request Reply O) (came : Wire) → IsUnused opening turn one → one.number ≡ m + 1 → now ≡ lent_to m pool → IsNew now.coming came → IsGiven opening turn pool.coming m one came
+unused_given opening turn pool now m one came unused place lent new = record {
+  of_turn = unused.of_turn;
+  number = place;
+  over = unused.over;
+  mine = unused.mine;
+  failed = unused.failed;
+  new = subst (λ (p : Pool). IsNew p.coming came) lent new;
+}
+
+-- they are turned round
+pub new_turned : {O : Type 0} (opening : O) (turn : TurnId) (count : ℕ) (passes turned : List (PassState Request Reply O)) → turned ≡ reverse passes → length passes ≡ count → AreUnused opening turn passes
+    → ((m : ℕ) (one : PassState Request Reply O) → get_elem? passes m ≡ some one → one.number ≡ m + 1) → AreNew opening turn count turned
+new_turned opening turn count passes turned is many unused numbers = record {
+  as_many = ap length is ∙ (length-reverse passes ∙ many);
+  unused = λ m one at. let found = at_back passes m one (subst (λ l. get_elem? l m ≡ some one) is at) in unused found.0 one found.1;
+  numbers = λ m one at.
+      let found = at_back passes m one (subst (λ l. get_elem? l m ≡ some one) is at) in
+      let number = numbers found.0 one found.1 in
+      omega (arith, number, found.2, many);
+}
 
 pub reserved_for : {X : Type 0} (opening opening_of_one : Option X) (reserved_of : X → ℕ) (n sessions : ℕ) → opening_of_one ≡ opening → n ≤ sessions → IsSomeAnd opening (λ o. sessions ≤ reserved_of o) → IsSomeAnd opening_of_one (λ o. n ≤ reserved_of o)
 reserved_for opening opening_of_one reserved_of n sessions is few all = subst (λ o. IsSomeAnd o (λ o. n ≤ reserved_of o)) (sym is) (fewer opening all) where

@@ -1,6 +1,7 @@
 -- How the proofs lie, for who changes them.
 --
--- The loop that accepts and the loop that joins are functions of their own, and each knows only records of plain
+-- The passes of all sessions are split off before the loop that accepts (src/passes); it takes them from the end of
+-- a list, whose rest is joined behind it. The loop that accepts and the loop that joins are functions of their own, and each knows only records of plain
 -- values: what the m-th thread was given (IsGiven), what it brought back (IsWorked), that its pass was joined
 -- (IsJoined). A job is a Result of a handle and of the work itself, so 'no thread could be started' is the arm
 -- Err, and one lemma by its two cases (started) says what both give. serve is three functions: serve takes the

@@ -1,6 +1,5 @@
 -- No link was accepted, since memory was wanted.
-use Rattle.std.proofs.Common.{◌≡◌, ◌≤◌, ◌<◌, ◌+◌, ◌^◌, ℕ, List, [], length, map, Option, Some, refl, sym, ap, ◌∙◌, subst, arith}
-use Rattle.jt_value.specs.Counts.{Counts, RoseBy}
+use Rattle.std.proofs.Common.{◌≡◌, ◌≤◌, ℕ, List, [], length, Option, Some, refl, ap, subst, arith}
 use Rattle.jt_outside.specs.Pool.{Pool}
 use Rattle.jt_store.specs.Tables.{Tables}
 use Rattle.jt_platform.specs.Allowed.{Legal, Opening}
@@ -9,7 +8,6 @@ use Rattle.jt_platform.specs.declared.desk.HubOpening.{HubOpening}
 use Rattle.jt_platform.specs.declared.request.Entry.{Entry}
 use Rattle.jt_platform.specs.Hub.{HubValue, opening_of}
 use Rattle.jt_session.specs.declared.report.Report.{Report}
-use Rattle.jt_server.specs.declared.served.ServeEnd.{ServeEnd}
 use Rattle.jt_server.specs.declared.served.ServeEnd.TheVariants.{Memory}
 use Rattle.jt_server.specs.Jobs.{ServesLinks}
 use Rattle.jt_server.specs.Served.{store_faults}
@@ -23,7 +21,7 @@ none_served O o hub sessions pool faults kept reports is none some = record {
   opening = (refl, refl, refl);
   served = nothing_served o hub.history pool reports is;
   no_other = λ n _. no_entries hub.history n none;
-  ended = let no : length reports ≡ 0 = ap length is in omega (arith, no, some);
+  ended = (ap length is, refl);
   count = counts_none faults;
   faults = let no : store_faults reports ≡ 0 = ap store_faults is in omega (arith, no);
 }

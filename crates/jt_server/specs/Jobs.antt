@@ -1,12 +1,12 @@
 -- What threads are given and bring back. For the proofs.
-use Rattle.std.specs.Prelude.{◌≡◌, ◌≤◌, ◌<◌, ◌+◌, ◌-◌, ◌^◌, ◌⊎◌, ℕ, List, [], ◌∷◌, ◌++◌, length, map, drop, Option, None, Some, IfSome}
+use Rattle.std.specs.Prelude.{◌≡◌, ◌≤◌, ◌<◌, ◌+◌, ◌-◌, ◌^◌, ◌⊎◌, ℕ, List, [], length, map, drop, Option}
 use Rattle.std.specs.Prelude.{option_map}
 use lib.ListN.{get_elem?}
 use mathlib.Core.List.{IsPrefix}
 use mathlib.Core.Option.{some}
 use Rattle.jt_value.specs.declared.limits.TheConstants.{INPUT_LIMIT}
 use Rattle.jt_outside.specs.Link.{Wire}
-use Rattle.jt_outside.specs.Pool.{Pool, Script, Used, used_of, IsNew}
+use Rattle.jt_outside.specs.Pool.{Pool, Script, IsNew}
 use Rattle.jt_turn.specs.declared.entry.Ended.{Ended}
 use Rattle.jt_turn.specs.Passes.{PassState, TurnId}
 use Rattle.jt_platform.specs.Allowed.{Opening}
@@ -49,6 +49,22 @@ pub record IsJoined {O : Type 0} (o : Option Opening) (opening : O) (turn : Turn
   pub seen : IsPrefix pass_now.seen root.seen
   pub place : ℕ
   pub ended : get_elem? root.ended place ≡ some (record { number = m + 1; mine = pass_now.mine })
+
+-- a new pass under which nothing was done so far
+pub record IsUnused {O : Type 0} (opening : O) (turn : TurnId) (pass : PassState Request Reply O) : Type 0 where
+  pub of_turn : pass.turn ≡ turn
+  pub over : pass.opening ≡ opening
+  pub mine : pass.mine ≡ []
+  pub failed : pass.failed ≡ 0
+
+abbrev pub AreUnused : {O : Type 0} → O → TurnId → List (PassState Request Reply O) → Type 0
+AreUnused opening turn passes = (m : ℕ) (pass : PassState Request Reply _) → get_elem? passes m ≡ some pass → IsUnused opening turn pass
+
+-- so many new passes, of the numbers from 1 on, the first one last
+pub record AreNew {O : Type 0} (opening : O) (turn : TurnId) (count : ℕ) (passes : List (PassState Request Reply O)) : Type 0 where
+  pub as_many : length passes ≡ count
+  pub unused : AreUnused opening turn passes
+  pub numbers : (m : ℕ) (pass : PassState Request Reply O) → get_elem? passes m ≡ some pass → pass.number + m ≡ count
 
 -- the first pass, as far as it does not change
 pub record IsRoot {O : Type 0} (opening : O) (turn : TurnId) (base : ℕ) (root : PassState Request Reply O) : Type 0 where

@@ -2,6 +2,7 @@
 #![tactic(auto)]
 
 mod held;
+mod passes;
 mod served;
 mod threads;
 mod work;

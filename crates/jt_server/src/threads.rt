@@ -15,12 +15,13 @@ ghost use Rattle.jt_platform.specs.declared.desk.HubOpening.{HubOpening};
 ghost use Rattle.jt_session.specs.Hearing.{IsSamePass};
 ghost use Rattle.jt_session.specs.Serving.{Serves};
 ghost use Rattle.jt_server.specs.Served.{AreServed, EndsAs, store_faults};
-ghost use Rattle.jt_server.specs.Jobs.{AreUpTo, HasFailed, IsGiven, IsJoined, IsRoot, IsWorked, ServesLinks, AreRooms, lent_to};
+ghost use Rattle.jt_server.specs.Jobs.{AreNew, AreUnused, AreUpTo, HasFailed, IsGiven, IsJoined, IsRoot, IsWorked, ServesLinks, AreRooms, lent_to};
 ghost use lib.ListN.{get_elem?};
 ghost use mathlib.Core.Option.{some};
 ghost use Rattle.jt_value.specs.declared.limits.TheConstants.{INPUT_LIMIT};
 
 use crate::held::{Door, Held};
+use crate::passes::{join_unused, split_all};
 use crate::served::{ServeEnd, Served};
 use crate::work::{Given, Job, Work, serve_one};
 use jt_outside::{Accepted, Link, Listen};
@@ -56,7 +57,8 @@ struct Back<K> {
 /// place, from 1 on. Where a thread cannot be started the caller serves that link itself. All threads are joined, and the links
 /// are given back to the listener in order. The hub's history is empty.
 ///
-/// Memory for the Closes and the reports is taken before the first link is accepted: where it is wanted there, no link is.
+/// Memory for the Closes, the passes and the reports is taken before the first link is accepted, and Memory comes only there: no
+/// link was accepted, and the listener was not asked.
 pub fn serve<R: Threads + Wait + Sync, L: Listen, P: Keeper + Send + Drop>(
     rt: &R,
     alloc: Global,
@@ -277,8 +279,8 @@ where
     Lent { pass, links, end }
 }
 
-// An empty list with room for so many.
-fn room<T: Drop>(alloc: Global, count: u32) -> Result<Buffer<T>, Memory>
+/// An empty list with room for so many.
+pub(crate) fn room<T: Drop>(alloc: Global, count: u32) -> Result<Buffer<T>, Memory>
     ensures { IfOk result (λ list. (list.items ≡ []) × (count ≤ list.spare)) }
 {
     let mut list = Buffer::new(alloc);
@@ -396,7 +398,7 @@ where
     )
 }
 
-// Accepts links and starts a thread for each. A pass is split before a link is accepted.
+// Accepts links and starts a thread for each. All passes are given before a link is accepted.
 fn accept_all<'s, E, R: Threads + Wait + Sync + 's, D: Door, P: Keeper + Send + Drop + 's>(
     scope: &'s Scope<'s, E>,
     rt: &'s R,
@@ -432,28 +434,72 @@ where
     ensures end { EndsAs result (length jobs.new.items) sessions (D.pool door.new)
         (D.faults door.old) (D.faults door.new) }
 {
+    let Ok(mut passes) = split_all(alloc, turn, pass, sessions) else {
+        return ServeEnd::Memory;
+    };
+    let end = accept_each(
+        scope,
+        rt,
+        alloc,
+        door,
+        turn,
+        pass,
+        &mut passes,
+        jobs,
+        sessions,
+    );
+    join_unused(turn, pass, passes);
+    end
+}
+
+// Accepts links and starts a thread for each, with a pass from the end of the list.
+fn accept_each<'s, E, R: Threads + Wait + Sync + 's, D: Door, P: Keeper + Send + Drop + 's>(
+    scope: &'s Scope<'s, E>,
+    rt: &'s R,
+    alloc: Global,
+    door: &mut D,
+    turn: &'s Turn<Hub<P>>,
+    root: &Pass<Hub<P>>,
+    passes: &mut Vec<Pass<Hub<P>>>,
+    jobs: &mut Buffer<Job<D::Link, P>>,
+    sessions: u32,
+) -> ServeEnd
+where
+    D::Link: Send + 's,
+    requires new { AreNew root.now.opening turn.now sessions passes.old.items }
+    requires reserved { IsSomeAnd root.now.opening (λ o. sessions ≤ o.reserved) }
+    requires room { (jobs.old.items ≡ []) × (sessions ≤ jobs.old.spare) }
+    ensures unused { AreUnused root.now.opening turn.now passes.new.items }
+    ensures all { length passes.new.items + length jobs.new.items ≡ sessions }
+    ensures jobs { (m : ℕ) (job : _) → get_elem? jobs.new.items m ≡ some job → MatchResult job
+        (λ h. IsGiven root.now.opening turn.now (D.pool door.old).coming m h.promise.pass.value
+        (wire_of D.Link.inbound D.Link.written D.Link.faults h.promise.link.value))
+        (λ w.
+        IsWorked (option_map (λ o. opening_of (P.tables o.start) (P.limit o.start) o.fleet o.secret)
+        root.now.opening) root.now.opening turn.now (D.pool door.old).coming m w.pass
+        (wire_of D.Link.inbound D.Link.written D.Link.faults w.link) w.report) }
+    ensures pool { D.pool door.new ≡ lent_to (length jobs.new.items) (D.pool door.old) }
+    ensures name { D.name door.new ≡ D.name door.old }
+    ensures count { Counts (D.faults door.old) (D.faults door.new) }
+    ensures end { EndsAs result (length jobs.new.items) sessions (D.pool door.new)
+        (D.faults door.old) (D.faults door.new) }
+{
+    let _root = root;
     let mut accepted = 0;
     while accepted < sessions {
-        let number = accepted + 1;
-        let Ok(one) = turn.split(pass, number) else {
-            return ServeEnd::Memory;
-        };
         match door.accept() {
             Accepted::Link(link) => {
+                let Some(one) = passes.pop() else {
+                    unreachable!();
+                };
                 let job = start(scope, rt, alloc, turn, one, link);
                 let Ok(()) = jobs.push(job) else {
                     unreachable!();
                 };
-                accepted = number;
+                accepted += 1;
             }
-            Accepted::Over => {
-                turn.join(pass, one);
-                return ServeEnd::Over;
-            }
-            Accepted::Failed => {
-                turn.join(pass, one);
-                return ServeEnd::ListenFault;
-            }
+            Accepted::Over => return ServeEnd::Over,
+            Accepted::Failed => return ServeEnd::ListenFault,
         }
     }
     ServeEnd::All
