@@ -65,7 +65,7 @@ behind_is h mark =
 pub rest_is : (l : List Entry) (n : ℕ) → take (length l - n) (drop n l) ≡ drop n l
 rest_is l n = ap (λ (k : ℕ). take k (drop n l)) (sym (length-drop n l)) ∙ take_all (length (drop n l)) (drop n l) (omega arith)
 
-pub copied_is : {E : Type 0} (r : Result (List Entry) E) (a b : List Entry) → IfOk r (λ (x : List Entry). x ≡ a) → a ≡ b → IfOk r (λ (x : List Entry). x ≡ b)
+pub copied_is : {A E : Type 0} (r : Result A E) (a b : A) → IfOk r (λ (x : A). x ≡ a) → a ≡ b → IfOk r (λ (x : A). x ≡ b)
 copied_is (Ok x) a b is e = is ∙ e
 copied_is (Err error) a b is e = is
 
@@ -77,7 +77,7 @@ heard_phone m None false = refl
 heard_phone m (Some ack) true = refl
 heard_phone m (Some ack) false = refl
 
-taken_terminal : (w : World) (place : ℕ) (s : Option State) (item : Option Unplaced) (way : Way) → (after_take w place s item way).terminal ≡ w.terminal
+pub taken_terminal : (w : World) (place : ℕ) (s : Option State) (item : Option Unplaced) (way : Way) → (after_take w place s item way).terminal ≡ w.terminal
 taken_terminal w place None item way = refl
 taken_terminal w place (Some s) item way = refl
 

@@ -26,13 +26,12 @@ use Rattle.jt_octets.specs.World.{World, completed_item, empty, line_at}
 use Rattle.jt_octets.specs.Steps.{Event, Does, Up, Down, Cut, RestartPlatform, MayCome, after, after_take, talk_after_item}
 use Rattle.jt_octets.specs.Reaching.{Reached}
 use Rattle.jt_play.specs.declared.tally.Tally.{Tally}
-use Rattle.jt_play.specs.Holding.{adds_row, row_by, rows_in, tally_of, tally_sum, unit_row}
+use Rattle.jt_play.specs.Holding.{row_by, rows_in, tally_of, tally_sum}
 use Rattle.jt_event_lines.specs.declared.totals.WorldTotals.{WorldTotals}
 use Rattle.jt_store.specs.Vaults.{accepted_count}
 use Rattle.jt_play.specs.Playing.{Play}
 use Rattle.jt_play.specs.Scripts.{at_most_u64, totals_of}
-use Rattle.jt_play.proofs.Scenes.{event_key}
-use Rattle.jt_play.proofs.Worlds.{rows_append}
+use Rattle.jt_play.proofs.KeeperRows.{rows_both, rows_come, rows_of_all}
 
 -- ---- sums that stay at their end
 
@@ -64,68 +63,12 @@ tally_append a b =
 fits : (n m : ℕ) → n ≡ m → n < 2 ^ 16 → m ≤ 2 ^ 64 - 1
 fits n m is few = omega (arith, is, few)
 
-pub tally_one : (id : ℕ) (body : List ℕ) (n : ℕ) → n ≡ length (fixes_of (id, body)) → n < 2 ^ 16 → ◌≡◌ {A = Tally} (record { rows = 1; fixes = n }) (tally_of (record { number = 0; id = id; body = body } ∷ []))
-tally_one id body n is few =
+pub tally_one : (number id : ℕ) (body : List ℕ) (n : ℕ) → n ≡ length (fixes_of (id, body)) → n < 2 ^ 16 → ◌≡◌ {A = Tally} (record { rows = 1; fixes = n }) (tally_of (record { number = number; id = id; body = body } ∷ []))
+tally_one number id body n is few =
     ap (λ (m : ℕ). record { rows = 1; fixes = m })
     (is ∙ (sym (min-eq_left (fits n (length (fixes_of (id, body))) is few)) ∙ ap at_most_u64 (ap (λ (l : List (List ℕ)). length l) (sym (append-nil (fixes_of (id, body)))))))
 
--- ---- one entry
-
-unit_tally : (key owner : List ℕ) (number id : ℕ) (body : List ℕ)
-    → tally_of (if same_key owner key then record { number = number; id = id; body = body } ∷ [] else []) ≡ tally_of (if same_key owner key then record { number = 0; id = id; body = body } ∷ [] else [])
-unit_tally key owner number id body = by (same_key owner key)
-  where
-    by : (b : Bool) → tally_of (if b then record { number = number; id = id; body = body } ∷ [] else []) ≡ tally_of (if b then record { number = 0; id = id; body = body } ∷ [] else [])
-    by true = refl
-    by false = refl
-
-added : (key : List ℕ) (q : Request) (r : Reply) → adds_row r ≡ true → tally_of (row_of key q r) ≡ tally_of (unit_row key q)
-added key (ask.Unit phone serial id body) (say.Stored n) is = unit_tally key (key_of phone) n id body
-added key (ask.Unit phone serial id body) (say.Renumbered n) is = unit_tally key (key_of phone) n id body
-added key (ask.Unit phone serial id body) (say.Registered code) is = absurd (false≢true is)
-added key (ask.Unit phone serial id body) (say.Denied n) is = absurd (false≢true is)
-added key (ask.Unit phone serial id body) say.Accepted is = absurd (false≢true is)
-added key (ask.Unit phone serial id body) (say.Repeat n) is = absurd (false≢true is)
-added key (ask.Unit phone serial id body) say.NotLive is = absurd (false≢true is)
-added key (ask.Unit phone serial id body) (say.Fenced other) is = absurd (false≢true is)
-added key (ask.Unit phone serial id body) (say.ListFull l) is = absurd (false≢true is)
-added key (ask.Unit phone serial id body) say.StoreFault is = absurd (false≢true is)
-added key (ask.Unit phone serial id body) say.Memory is = absurd (false≢true is)
-added key (ask.Register phone register) r is = refl
-added key (ask.Auth phone code) r is = refl
-added key (ask.Deregister phone) r is = refl
-added key (ask.Other phone id) r is = refl
-added key ask.Close r is = refl
-
-none_added : (key : List ℕ) (q : Request) (r : Reply) → adds_row r ≡ false → row_of key q r ≡ []
-none_added key (ask.Unit phone serial id body) (say.Stored n) is = absurd (false≢true (sym is))
-none_added key (ask.Unit phone serial id body) (say.Renumbered n) is = absurd (false≢true (sym is))
-none_added key (ask.Unit phone serial id body) (say.Registered code) is = refl
-none_added key (ask.Unit phone serial id body) (say.Denied n) is = refl
-none_added key (ask.Unit phone serial id body) say.Accepted is = refl
-none_added key (ask.Unit phone serial id body) (say.Repeat n) is = refl
-none_added key (ask.Unit phone serial id body) say.NotLive is = refl
-none_added key (ask.Unit phone serial id body) (say.Fenced other) is = refl
-none_added key (ask.Unit phone serial id body) (say.ListFull l) is = refl
-none_added key (ask.Unit phone serial id body) say.StoreFault is = refl
-none_added key (ask.Unit phone serial id body) say.Memory is = refl
-none_added key (ask.Register phone register) r is = refl
-none_added key (ask.Auth phone code) r is = refl
-none_added key (ask.Deregister phone) r is = refl
-none_added key (ask.Other phone id) r is = refl
-none_added key ask.Close r is = refl
-
-pub entry_added : (key : List ℕ) (e : Entry) (t : Tally) → adds_row e.reply ≡ true → t ≡ tally_of (unit_row key e.request) → t ≡ tally_of (row_by key e)
-entry_added key e t adds is = is ∙ sym (added key e.request e.reply adds)
-
-pub entry_none : (key : List ℕ) (e : Entry) (t : Tally) → adds_row e.reply ≡ false → t ≡ tally_of [] → t ≡ tally_of (row_by key e)
-entry_none key e t none is = is ∙ ap tally_of (sym (none_added key e.request e.reply none))
-
 -- ---- the entries of hubs, oldest first
-
-rows_both : (key : List ℕ) (a b : List Entry) → rows_in key (a ++ b) ≡ rows_in key a ++ rows_in key b
-rows_both key [] b = refl
-rows_both key (e ∷ a) b = ap (λ (l : List Row). row_by key e ++ l) (rows_both key a b) ∙ sym (append_assoc (row_by key e) (rows_in key a) (rows_in key b))
 
 pub tally_both : (key : List ℕ) (a b : List Entry) → tally_of (rows_in key (a ++ b)) ≡ tally_sum (tally_of (rows_in key a)) (tally_of (rows_in key b))
 tally_both key a b = ap tally_of (rows_both key a b) ∙ tally_append (rows_in key a) (rows_in key b)
@@ -139,55 +82,8 @@ tally_history key a h =
     ap (λ (entries : List Entry). tally_of (rows_in key entries)) (flat_map-append (λ (x : List Entry). x) a (h ∷ []) ∙ ap (λ (l : List Entry). flat_map (λ (x : List Entry). x) a ++ l) (append-nil h))
     ∙ tally_both key (flat_map (λ (x : List Entry). x) a) h
 
--- newest first they are the same rows
-rows_newest : (key : List ℕ) (before : List Row) (entries : List Entry) → rows_after key before (newest entries) ≡ before ++ rows_in key entries
-rows_newest key before [] = sym (append-nil before)
-rows_newest key before (e ∷ entries) =
-    ap (rows_after key before) (reverse-append (e ∷ []) entries)
-    ∙ (rows_append key before (newest entries) (e ∷ [])
-    ∙ (rows_newest key (before ++ row_by key e) entries ∙ append_assoc before (row_by key e) (rows_in key entries)))
-
--- the rows of all hubs, of which the present one has the second entries
-pub rows_of_all : (key : List ℕ) (past present : List Entry) → rows_after key [] (newest present ++ newest past) ≡ rows_in key past ++ rows_in key present
-rows_of_all key past present =
-    rows_append key [] (newest present) (newest past)
-    ∙ (rows_newest key (rows_after key [] (newest past)) present ∙ ap (λ (l : List Row). l ++ rows_in key present) (rows_newest key [] past))
-
 pub tally_of_all : (key : List ℕ) (past present : List Entry) → tally_sum (tally_of (rows_in key past)) (tally_of (rows_in key present)) ≡ tally_of (rows_after key [] (newest present ++ newest past))
 tally_of_all key past present = sym (ap tally_of (rows_of_all key past present) ∙ tally_append (rows_in key past) (rows_in key present))
-
--- ---- what the keeper has is what the entries of all hubs added
-
-abbrev pub ComesOfEntries : World → Type 0
-ComesOfEntries w = w.keeper.rows ≡ rows_after (key_of w.terminal.phone) [] (w.history ++ w.past)
-
-took_rows : (w : World) (place : ℕ) (s : Option State) (item : Option Unplaced) (way : Way) → ComesOfEntries w
-    → (after_take w place s item way).keeper.rows ≡ rows_after (key_of w.terminal.phone) [] ((after_take w place s item way).history ++ (after_take w place s item way).past)
-took_rows w place None item way is = is
-took_rows w place (Some s) item way is =
-    let key = key_of w.terminal.phone in
-    let made = entries_on (suc place) (talk_after_item s item way).entries in
-    ap (λ (rows : List Row). rows_after key rows made) is
-    ∙ (sym (rows_append key [] made (w.history ++ w.past)) ∙ ap (rows_after key []) (sym (append_assoc made w.history w.past)))
-
-event_rows : (w : World) (event : Event) → ComesOfEntries w → (after w event).keeper.rows ≡ rows_after (key_of w.terminal.phone) [] ((after w event).history ++ (after w event).past)
-event_rows w (Does s) is = is
-event_rows w (Up place way) is = took_rows w place (line_at w.lines place).session (completed_item (line_at w.lines place).up) way is
-event_rows w (Down takes) is = is
-event_rows w (Cut place) is = is ∙ sym (append-nil (rows_after (key_of w.terminal.phone) [] (w.history ++ w.past)))
-event_rows w RestartPlatform is = is
-
-all_rows : (w : World) (events : List Event) → MayAll MayCome after w events → ComesOfEntries w → ComesOfEntries (after_all after w events)
-all_rows w [] may is = is
-all_rows w (event ∷ events) may is =
-    let now = after w event in
-    all_rows now events may.1 (event_rows w event is ∙ ap (λ (key : List ℕ). rows_after key [] (now.history ++ now.past)) (sym (event_key w event may.0)))
-
-reached_rows : (w : World) → Reached w → ComesOfEntries w
-reached_rows w r = subst ComesOfEntries r.leads.to (all_rows (empty r.phone r.setting) r.leads.events r.leads.may refl)
-
-pub rows_come : (w : World) → ∥ Reached w ∥₁ → ComesOfEntries w
-rows_come w reached = ∥∥₁_elim reached (Prim.hlevel codes) (reached_rows w)
 
 -- ---- the totals
 

@@ -29,13 +29,14 @@ use crate::error::WorldError;
 use crate::identity::Identity;
 use crate::laws::law_asked;
 use crate::line::Line;
+use crate::rows::{add_all_rows, add_rows};
 use crate::tally::{Tally, tally_all, tally_entries};
 use jt_header::law_of_contents;
 use jt_platform::{Entry, Fleet, Hub, law_answers, law_histories};
 use jt_position::Fix;
 use jt_script::WorldEvent;
 use jt_session::{End, Fed};
-use jt_store::{MemKeeper, MemVault, StoreError};
+use jt_store::{MemKeeper, MemVault, Row, StoreError};
 use jt_stream::{law_frames, law_front, law_one_octet};
 use jt_terminal::{Terminal, TerminalLine};
 use jt_terminal_answers::first_params;
@@ -788,6 +789,17 @@ impl Stage {
     {
         let past = tally_all(self.past.as_slice(), phone);
         past.plus(tally_entries(self.hub.history(), phone))
+    }
+
+    /// The rows that the entries of all hubs added for a phone, the oldest first.
+    pub(crate) fn rows(&self, alloc: Global, phone: &Phone) -> Result<Seq<Row>, Memory>
+        ensures { IfOk result (λ rows. rows ≡ rows_after (key_of phone.now) []
+            (self.now.world.history ++ self.now.world.past)) }
+    {
+        let mut rows = Seq::new(alloc);
+        add_all_rows(alloc, &mut rows, self.past.as_slice(), phone)?;
+        add_rows(alloc, &mut rows, self.hub.history(), phone)?;
+        Ok(rows)
     }
 
     // The place of a line that was opened.

@@ -1,13 +1,14 @@
 //! How many rows the entries of hubs added, and how many fixes stand in them.
 
-ghost use Rattle.std.specs.Prelude.{◌≡◌, [], ◌∷◌, length};
+ghost use Rattle.std.specs.Prelude.{◌≡◌, [], ◌∷◌, length, ℕ};
 ghost use Rattle.std.specs.List.{flat_map};
 ghost use Rattle.jt_position.specs.Fixes.{fixes_of};
 ghost use Rattle.jt_value.specs.Sameness.{key_of};
 ghost use Rattle.jt_value.specs.declared.ids.TheConstants.{BATCH, POSITION};
-ghost use Rattle.jt_play.specs.Holding.{adds_row, row_by, rows_in, tally_of, tally_sum, unit_row};
+ghost use Rattle.jt_play.specs.Holding.{row_by, rows_in, tally_of, tally_sum};
 
-use jt_platform::{Entry, Reply, Request};
+use crate::rows::row_by;
+use jt_platform::Entry;
 use jt_position::{law_fixes, view_batch, view_position};
 use jt_value::ids::{BATCH, POSITION};
 use jt_value::{Phone, Seq};
@@ -43,8 +44,8 @@ fn batch_count(body: &[u8]) -> u16
     }
 }
 
-// How many fixes a message has: none where its id is of no message of positions.
-fn fix_count(id: u16, body: &[u8]) -> u16
+/// How many fixes a message has: none where its id is of no message of positions.
+pub(crate) fn fix_count(id: u16, body: &[u8]) -> u16
     ensures { result ≡ length (fixes_of (id, body.now)) }
 {
     law_fixes();
@@ -55,10 +56,11 @@ fn fix_count(id: u16, body: &[u8]) -> u16
     }
 }
 
-// One row of this unit.
+// One row of this unit, whatever its number.
 #[tactic(auto, using(crate::proofs::Tallies::tally_one))]
 fn of_unit(id: u16, body: &[u8]) -> Tally
-    ensures { result ≡ tally_of (record { number = 0; id = id; body = body.now } ∷ []) }
+    ensures { (number : ℕ) → result
+        ≡ tally_of (record { number = number; id = id; body = body.now } ∷ []) }
 {
     let fixes = fix_count(id, body);
     Tally {
@@ -67,58 +69,13 @@ fn of_unit(id: u16, body: &[u8]) -> Tally
     }
 }
 
-// Whether a reply adds a row.
-fn adds_row(reply: &Reply) -> bool
-    ensures { result ≡ adds_row reply.now }
-{
-    match reply {
-        Reply::Stored(_) | Reply::Renumbered(_) => true,
-        Reply::Registered(_)
-        | Reply::Denied(_)
-        | Reply::Accepted
-        | Reply::Repeat(_)
-        | Reply::NotLive
-        | Reply::Fenced(_)
-        | Reply::ListFull(_)
-        | Reply::StoreFault
-        | Reply::Memory => false,
-    }
-}
-
-// The row that a request adds for a phone where a row is added, if it is a unit of the phone.
-fn of_request(request: &Request, phone: &Phone) -> Tally
-    ensures { result ≡ tally_of (unit_row (key_of phone.now) request.now) }
-{
-    match request {
-        Request::Unit {
-            phone: owner,
-            serial: _,
-            id,
-            body,
-        } => {
-            if owner.same(phone) {
-                of_unit(*id, body.as_slice())
-            } else {
-                NO_ROW
-            }
-        }
-        Request::Register { .. }
-        | Request::Auth { .. }
-        | Request::Deregister { .. }
-        | Request::Other { .. }
-        | Request::Close => NO_ROW,
-    }
-}
-
 // The row that an entry added for a phone, if it added one.
-#[tactic(auto, using(crate::proofs::Tallies::entry_added, crate::proofs::Tallies::entry_none))]
 fn of_entry(entry: &Entry, phone: &Phone) -> Tally
     ensures { result ≡ tally_of (row_by (key_of phone.now) entry.now) }
 {
-    if adds_row(&entry.reply) {
-        of_request(&entry.request, phone)
-    } else {
-        NO_ROW
+    match row_by(entry, phone) {
+        Some((_, id, body)) => of_unit(id, body.as_slice()),
+        None => NO_ROW,
     }
 }
 

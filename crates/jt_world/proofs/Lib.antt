@@ -11,3 +11,4 @@ mod Heard
 mod Rehearsals
 mod Made
 mod Lasts
+mod Complete

@@ -1,6 +1,7 @@
 //! The world of a rehearsal.
 
-ghost use Rattle.std.specs.Prelude.{◌≡◌, ◌≢◌, ◌↔◌, length, false, true, ℕ, Err, IfOk, OnOk};
+ghost use Rattle.std.specs.Prelude.{◌≡◌, ◌≢◌, ◌↔◌, drop, length, false, true, ℕ, Err, IfOk, OnOk};
+ghost use Rattle.jt_store.specs.Units.{fixes_in};
 ghost use Rattle.jt_value.specs.declared.limits.TheConstants.{FIX_LIMIT};
 ghost use Rattle.jt_octets.specs.Reaching.{Leads, Reached};
 ghost use Rattle.jt_play.specs.Playing.{entries_between, finds_full, is_opened, play_after, RunsTo};
@@ -14,6 +15,8 @@ use crate::settings::{fleet, identity, secret};
 use jt_event_lines::WorldTotals;
 use jt_platform::Entry;
 use jt_play::{WorldError, WorldEvent};
+use jt_position::Fix;
+use jt_store::Row;
 use jt_value::{Memory, Seq};
 use std::alloc::Global;
 use std::marker::Model;
@@ -96,6 +99,22 @@ impl World {
         ensures { result ≡ totals_of self.now.play }
     {
         self.played.totals()
+    }
+
+    /// The rows that the hub's keeper has of the terminal's phone, the oldest first, copied. Memory
+    /// comes where memory ran out.
+    pub fn rows(&self, alloc: Global) -> Result<Seq<Row>, Memory>
+        ensures { IfOk result (λ rows. rows ≡ self.now.play.world.keeper.rows) }
+    {
+        self.played.rows(alloc)
+    }
+
+    /// The fixes of these rows behind so many, in order. Memory comes where memory ran out.
+    pub fn fixes_behind(&self, alloc: Global, mark: u64) -> Result<Seq<Fix>, Memory>
+        ensures { IfOk result (λ fixes.
+            fixes ≡ drop mark (fixes_in self.now.play.world.keeper.rows)) }
+    {
+        self.played.fixes_behind(alloc, mark)
     }
 
     /// How many fixes the terminal recorded, at most 2^64 - 1.

@@ -11,4 +11,6 @@ mod made;
 #[cfg(test)]
 mod restarts;
 #[cfg(test)]
+mod rows;
+#[cfg(test)]
 mod scene;
