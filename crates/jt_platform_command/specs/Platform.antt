@@ -103,7 +103,7 @@ store_reply true limit = early_reply early.StoreFault
 store_reply false limit = full_reply limit
 
 -- The last line, if there is one: a listener's fault comes before a store's, and that before a full list. Where memory was wanted
--- for a further session there is none.
+-- before the first session there is none.
 abbrev pub last_reply : ServeEnd → List Report → Reply
 last_reply served.ListenFault reports = early_reply early.ListenFault
 last_reply served.All reports = store_reply (some_end is_store_fault reports) (first_limit reports)

@@ -75,7 +75,7 @@ Does O NoListener sessions taken left_now old now reports history = (secret : Li
 Does O (Served end told entries) sessions taken left_now old now reports history = (secret : List ℕ) × (fleet : Fleet) × NamesFleet taken left_now secret fleet
     × Listens O (Served end told entries) (opening_of old.tables old.limit fleet secret) sessions old now reports history
 
--- where memory was wanted for a further link, the status says so
+-- where memory was wanted before the first link, the status says so
 abbrev pub EndsOf : ServeEnd → Status → Type 0
 EndsOf served.All s = Unit {0}
 EndsOf served.Over s = Unit {0}

@@ -14,7 +14,7 @@ pub enum ServeEnd {
     Over,
     /// The listener failed.
     ListenFault,
-    /// Memory was wanted and refused.
+    /// Memory was wanted and refused, before any link was accepted.
     Memory,
 }
 
