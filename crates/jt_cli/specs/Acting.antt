@@ -3,6 +3,7 @@ use Rattle.std.specs.Prelude.{◌≡◌, ◌≢◌, ◌⊎◌, ℕ, ◌^◌, Lis
 use Rattle.std.specs.Io.KnownBytes.{Appends, IsAtEnd}
 use Rattle.jt_value.specs.declared.limits.TheConstants.{FIX_LIMIT, INPUT_LIMIT}
 use Rattle.jt_fence_command.specs.Running.{Watches}
+use Rattle.jt_gateway_command.specs.Running.{RunsGateway}
 use Rattle.jt_world.specs.Claim.{KeptWhole}
 use Rattle.jt_world.specs.Made.{made, made_reply}
 use Rattle.jt_world.specs.Rehearsal.{FullAt, rehearsal, script_reply, world_of}
@@ -14,7 +15,7 @@ use Rattle.jt_cli.specs.Script.{RunsScript}
 use Rattle.jt_cli.specs.Statuses.{IsAlone, IsWithoutLinks}
 use Rattle.jt_view.specs.declared.command.Command.{Command}
 use Rattle.jt_cli.specs.declared.task.Task.{Task}
-use Rattle.jt_cli.specs.declared.task.Task.TheVariants.{Tell, Rehearse, Make, Fence}
+use Rattle.jt_cli.specs.declared.task.Task.TheVariants.{Tell, Rehearse, Make, Fence, Gateway}
 use Rattle.jt_input.specs.declared.status.Status.{Status}
 use Rattle.jt_input.specs.declared.status.Status.TheVariants.{Done, ReadFault, WriteFault, StoreFault}
 
@@ -75,3 +76,4 @@ Acts (Tell command) left left_now old now status = TellsOf command left left_now
 Acts Rehearse left left_now old now status = Plays left left_now old now status
 Acts (Make count) left left_now old now status = MakesScript count left left_now old now status
 Acts Fence left left_now old now status = Watches left left_now old now status
+Acts Gateway left left_now old now status = RunsGateway left left_now old now status

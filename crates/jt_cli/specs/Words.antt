@@ -28,6 +28,7 @@ unfoldable pub task_named : List ℕ → Option Task
 task_named word =
     if bytes_eq word (codes "rehearse") then Some tasks.Rehearse
     else if bytes_eq word (codes "fence") then Some tasks.Fence
+    else if bytes_eq word (codes "gateway") then Some tasks.Gateway
     else telling Octets word
 
 -- the number from 1 to 20,000 that a word writes in decimal digits

@@ -12,6 +12,7 @@ use crate::playing::{play, play_made};
 use crate::task::Task;
 use crate::usage::push_usage_line;
 use jt_fence_command::fence;
+use jt_gateway_command::gateway;
 use jt_input::Status;
 use jt_outside::{Clock, Dial, Sink, Source, write_all};
 use jt_store::{Keeper, Vault};
@@ -56,6 +57,7 @@ fn act<S: Source, K: Sink>(alloc: Global, source: &mut S, sink: &mut K, task: Ta
         Task::Rehearse => play(alloc, source, sink),
         Task::Make(count) => play_made(alloc, sink, count),
         Task::Fence => fence(alloc, source, sink),
+        Task::Gateway => gateway(alloc, source, sink),
     }
 }
 

@@ -17,6 +17,8 @@ pub enum Task {
     Make(u32),
     /// Says which alarms a track raises: the word is `fence`.
     Fence,
+    /// Plays the script of a gateway: the word is `gateway`.
+    Gateway,
 }
 
 // The most fixes of a script that is made.
@@ -59,6 +61,9 @@ fn named(word: &str) -> Option<Task>
     }
     if word == "fence" {
         return Some(Task::Fence);
+    }
+    if word == "gateway" {
+        return Some(Task::Gateway);
     }
     telling(Encoding::Octets, word)
 }

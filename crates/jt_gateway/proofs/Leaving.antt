@@ -18,7 +18,7 @@ use Rattle.jt_terminal_rule.specs.declared.state.Acknowledgement.{Acknowledgemen
 use Rattle.jt_octets.specs.World.{World, completed_item, empty, line_at, newest}
 use Rattle.jt_octets.specs.Steps.{Event, Does, Up, Down, Cut, RestartPlatform, MayCome, accepting, after, after_take, just_read, talk_after_item}
 use Rattle.jt_octets.specs.Reaching.{Reached}
-use Rattle.jt_gateway.specs.Steps.{RecordsNothing, recording}
+use Rattle.jt_gateway.specs.Steps.{RecordsNothing, world_with_fixes}
 use Rattle.jt_gateway.proofs.Prefixes.{prefix_same}
 
 -- ---- rows
@@ -103,13 +103,13 @@ reached_after w event r may = record {
   leads = leads_both MayCome after (empty r.phone r.setting) w (after w event) r.leads (leads_one MayCome after w (after w event) event may refl);
 }
 
-pub reached_recording : (fixes : List (List ℕ)) (w : World) → Reached w → All IsFix fixes → Reached (recording w fixes)
-reached_recording [] w r all = r
-reached_recording (fix ∷ fixes) w r all =
-    reached_recording fixes (after w (Does (step.Records fix))) (reached_after w (Does (step.Records fix)) r (All-head IsFix fix fixes all)) (All-tail IsFix fix fixes all)
+pub reached_with_fixes : (fixes : List (List ℕ)) (w : World) → Reached w → All IsFix fixes → Reached (world_with_fixes w fixes)
+reached_with_fixes [] w r all = r
+reached_with_fixes (fix ∷ fixes) w r all =
+    reached_with_fixes fixes (after w (Does (step.Records fix))) (reached_after w (Does (step.Records fix)) r (All-head IsFix fix fixes all)) (All-tail IsFix fix fixes all)
 
 -- ---- fixes recorded one after the other
 
-pub recorded_by : (fixes : List (List ℕ)) (w : World) → (recording w fixes).terminal.recorded ≡ w.terminal.recorded ++ fixes
+pub recorded_by : (fixes : List (List ℕ)) (w : World) → (world_with_fixes w fixes).terminal.recorded ≡ w.terminal.recorded ++ fixes
 recorded_by [] w = sym (append-nil w.terminal.recorded)
 recorded_by (fix ∷ fixes) w = recorded_by fixes (after w (Does (step.Records fix))) ∙ append_assoc w.terminal.recorded (fix ∷ []) fixes

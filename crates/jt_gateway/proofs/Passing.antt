@@ -13,10 +13,10 @@ use Rattle.jt_octets.specs.Steps.{Event, MayCome, after}
 use Rattle.jt_octets.specs.Reaching.{Reached}
 use Rattle.jt_octets.specs.Claim.{EachReachedIsKept, Kept}
 use Rattle.jt_gateway.specs.World.{GatewayWorld, fixes_behind, fixes_stored, gateway_empty}
-use Rattle.jt_gateway.specs.Steps.{GatewayStep, InA, InB, Pumps, MayStepOn, ReachedGateway, gateway_after, recording}
+use Rattle.jt_gateway.specs.Steps.{GatewayStep, InA, InB, Pumps, MayStepOn, ReachedGateway, gateway_after, world_with_fixes}
 use Rattle.jt_gateway.specs.Claim.{BothAreReached, EachReachedPasses, Passed}
 use Rattle.jt_gateway.proofs.Prefixes.{all_in_prefix, prefix_fixes, prefix_more, prefix_trans}
-use Rattle.jt_gateway.proofs.Leaving.{reached_after, reached_fixes, reached_recording, recorded_by, recorded_stays, rows_grow}
+use Rattle.jt_gateway.proofs.Leaving.{reached_after, reached_fixes, reached_with_fixes, recorded_by, recorded_stays, rows_grow}
 
 record Sound (g : GatewayWorld) : Type 0 where
   a : Reached g.a
@@ -37,12 +37,12 @@ module _ (kept : EachReachedIsKept) where
       All-drop IsFix (length g.b.terminal.recorded) (fixes_stored g.a)
       (all_in_prefix IsFix (fixes_stored g.a) g.a.terminal.recorded (kept g.a r).delivered.recorded (reached_fixes g.a r))
 
-  pump_sound : (g : GatewayWorld) (n : ℕ) → Sound g → Sound (record g { b = recording g.b (take n (fixes_behind g)) })
+  pump_sound : (g : GatewayWorld) (n : ℕ) → Sound g → Sound (record g { b = world_with_fixes g.b (take n (fixes_behind g)) })
   pump_sound g n s =
       let some = take n (fixes_behind g) in
       record {
         a = s.a;
-        b = reached_recording some g.b s.b (All-take IsFix n (fixes_behind g) (behind_fixes g s.a));
+        b = reached_with_fixes some g.b s.b (All-take IsFix n (fixes_behind g) (behind_fixes g s.a));
         relayed = subst (λ (l : List (List ℕ)). IsPrefix l (fixes_stored g.a)) (sym (recorded_by some g.b)) (prefix_more g.b.terminal.recorded (fixes_stored g.a) n s.relayed);
       }
 

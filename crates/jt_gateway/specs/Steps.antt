@@ -1,5 +1,5 @@
 -- The steps of the two worlds of a gateway, and to which worlds they lead (this project's own). To be believed.
-use Rattle.std.specs.Prelude.{◌≡◌, ℕ, ◌≤◌, List, map, take, length}
+use Rattle.std.specs.Prelude.{◌≡◌, ℕ, List, map, take}
 use Rattle.jt_value.specs.declared.phone.Edition.TheVariants.{E2019}
 use Rattle.jt_value.specs.declared.phone.Phone.{Phone}
 use Rattle.jt_value.specs.Reaching.{after_all, Leads as LeadsBy}
@@ -16,7 +16,7 @@ pub data GatewayStep : Type 0 where
   InA : Event → GatewayStep
   -- a step of world b
   InB : Event → GatewayStep
-  -- so many of the fixes that are to be passed on are recorded in world b
+  -- so many of the fixes that are to be passed on, or all where they are fewer, are recorded in world b
   Pumps : ℕ → GatewayStep
 
 abbrev pub IsNoRecord : TerminalStep → Type 0
@@ -42,16 +42,16 @@ RecordsNothing RestartPlatform = Unit {0}
 abbrev pub MayStepOn : GatewayWorld → GatewayStep → Type 0
 MayStepOn g (InA event) = MayCome g.a event
 MayStepOn g (InB event) = MayCome g.b event × RecordsNothing event
-MayStepOn g (Pumps n) = n ≤ length (fixes_behind g)
+MayStepOn g (Pumps n) = Unit {0}
 
 -- these fixes are recorded, one after the other
-abbrev pub recording : World → List (List ℕ) → World
-recording w fixes = after_all after w (map (λ fix. Does (step.Records fix)) fixes)
+abbrev pub world_with_fixes : World → List (List ℕ) → World
+world_with_fixes w fixes = after_all after w (map (λ fix. Does (step.Records fix)) fixes)
 
 abbrev pub gateway_after : GatewayWorld → GatewayStep → GatewayWorld
 gateway_after g (InA event) = record g { a = after g.a event }
 gateway_after g (InB event) = record g { b = after g.b event }
-gateway_after g (Pumps n) = record g { b = recording g.b (take n (fixes_behind g)) }
+gateway_after g (Pumps n) = record g { b = world_with_fixes g.b (take n (fixes_behind g)) }
 
 -- a list of steps leads from one gateway world to another
 abbrev pub GatewayLeads : GatewayWorld → GatewayWorld → Type 0

@@ -1,0 +1,260 @@
+//! The gateway: two worlds, of which one passes on to the other what it stored.
+
+ghost use Rattle.std.specs.Prelude.{◌≡◌, ◌≢◌, ◌↔◌, ℕ, [], true, false, length, take, Err, IfOk, OnOk};
+ghost use Rattle.jt_value.specs.declared.limits.TheConstants.{FIX_LIMIT};
+ghost use Rattle.jt_value.specs.declared.phone.Edition.TheVariants.{E2019};
+ghost use Rattle.jt_octets.specs.Reaching.{Leads};
+ghost use Rattle.jt_play.specs.Scripts.{IsScripted};
+ghost use Rattle.jt_play.specs.declared.error.WorldError.TheVariants as refused;
+ghost use Rattle.jt_script.specs.declared.world_event.WorldEvent.TheVariants as line;
+ghost use Rattle.jt_gateway.specs.Pumping.{EndsAlike, IsBegun, IsUpstream, PumpsMost, RecordsMost, RecordsOne, RestartsMiddle, Stepped};
+ghost use Rattle.jt_gateway.specs.Gateway.{HasNoLine, IsGateway, MayAsk, entries_of, first_gateway, first_scene, gateway_after_line, gateway_at_full, gateway_full, scene_after};
+
+use crate::event::GatewayEvent;
+use jt_platform::Entry;
+use jt_position::Fix;
+use jt_script::WorldEvent;
+use jt_terminal_rule::law_rule;
+use jt_value::{Edition, Memory, Seq};
+use jt_world::{World, WorldError};
+use std::alloc::Global;
+use std::marker::Model;
+
+/// A terminal that reports to an operator's platform, in world a, and the operator that reports on what it stored to an authority's
+/// platform, as the terminal of world b.
+#[derive(Drop)]
+pub struct Gateway {
+    a: World,
+    b: World,
+}
+
+impl Model for Gateway {
+    ghost use Rattle.std.specs.Coded.{codes};
+    ghost use Rattle.jt_subpacket.specs.Stored.{partial_code};
+    ghost use Rattle.jt_params.specs.contracts.table.ParamTable as params;
+    ghost use Rattle.jt_regions.specs.contracts.region_table.RegionTable as regions;
+    ghost use Rattle.jt_gateway.specs.Pumping.{PumpsMost, RecordsMost, RecordsOne};
+    ghost use Rattle.jt_gateway.specs.Gateway.{GatewayScene};
+
+    ghost Value = { GatewayScene };
+
+    ghost coded = { Prim.hlevel (codes, partial_code, params.the_row.coded, regions.the_row.coded) };
+
+    ghost view = { λ g. record { a = g.a; b = g.b } };
+}
+
+// What a line is answered, without its entries.
+fn without_entries(answered: Result<Seq<Entry>, WorldError>) -> Result<(), WorldError>
+    ensures { EndsAlike answered result }
+{
+    match answered {
+        Ok(_) => Ok(()),
+        Err(error) => Err(error),
+    }
+}
+
+// What a line that makes no entry is answered.
+fn with_no_entry(alloc: Global, done: Result<(), WorldError>) -> Result<Seq<Entry>, WorldError>
+    ensures alike { EndsAlike done result }
+    ensures none { IfOk result (λ entries. entries ≡ []) }
+{
+    match done {
+        Ok(()) => Ok(Seq::new(alloc)),
+        Err(error) => Err(error),
+    }
+}
+
+// A fix is recorded.
+fn record(alloc: Global, world: &mut World, fix: &Fix) -> Result<(), WorldError>
+    ensures records { IsScripted world.old → RecordsOne world.old world.new fix.now result }
+    ensures leads { Leads world.old.play.world world.new.play.world }
+    ensures identity { world.new.identity ≡ world.old.identity }
+{
+    match fix.clone() {
+        Ok(fix) => without_entries(world.step(alloc, WorldEvent::Raw(fix))),
+        Err(_) => Err(WorldError::Memory),
+    }
+}
+
+// These fixes are recorded, as many as there is room for.
+fn record_all(alloc: Global, world: &mut World, fixes: &[Fix]) -> Result<(), WorldError>
+    ensures records { IsScripted world.old → RecordsMost world.old world.new fixes.now result }
+    ensures leads { Leads world.old.play.world world.new.play.world }
+    ensures identity { world.new.identity ≡ world.old.identity }
+{
+    for fix in fixes {
+        match record(alloc, world, fix) {
+            Ok(()) => {}
+            Err(error) => return Err(error),
+        }
+    }
+    Ok(())
+}
+
+// The terminal of a world in which nothing has happened starts anew as one of 2019.
+fn begin_upstream(alloc: Global, world: &mut World) -> Result<(), Memory>
+    requires begun { IsBegun world.old }
+    requires first { world.old ≡ first_scene }
+    ensures is { OnOk result (world.new ≡ scene_after first_scene (line.RestartAs E2019)) }
+    ensures upstream { OnOk result (IsUpstream world.new) }
+{
+    law_rule();
+    match without_entries(world.step(alloc, WorldEvent::RestartAs(Edition::E2019))) {
+        Ok(()) => Ok(()),
+        Err(_) => Err(Memory),
+    }
+}
+
+// The world of a rehearsal before all lines.
+fn first_world(alloc: Global) -> Result<World, Memory>
+    ensures is { IfOk result (λ world. world ≡ first_scene) }
+    ensures begun { IfOk result IsBegun }
+{
+    law_rule();
+    World::new(alloc)
+}
+
+// A world in which nothing has happened, as the one in which the operator reports to the authority.
+fn turned_upstream(alloc: Global, world: World) -> Result<World, Memory>
+    requires begun { IsBegun world }
+    requires first { world ≡ first_scene }
+    ensures is { IfOk result (λ world. world ≡ scene_after first_scene (line.RestartAs E2019)) }
+    ensures upstream { IfOk result IsUpstream }
+{
+    let mut world = world;
+    match begin_upstream(alloc, &mut world) {
+        Ok(()) => Ok(world),
+        Err(Memory) => {
+            drop(world);
+            Err(Memory)
+        }
+    }
+}
+
+// The world in which the operator reports to the authority, as it begins.
+fn upstream_world(alloc: Global) -> Result<World, Memory>
+    ensures is { IfOk result (λ world. world ≡ scene_after first_scene (line.RestartAs E2019)) }
+    ensures upstream { IfOk result IsUpstream }
+{
+    match first_world(alloc) {
+        Ok(world) => turned_upstream(alloc, world),
+        Err(Memory) => Err(Memory),
+    }
+}
+
+// The gateway that begins with this world a.
+fn gateway_of(alloc: Global, a: World) -> Result<Gateway, Memory>
+    requires begun { IsBegun a }
+    requires first { a ≡ first_scene }
+    ensures is { IfOk result (λ gateway. gateway ≡ first_gateway) }
+    ensures gateway { IfOk result IsGateway }
+{
+    match upstream_world(alloc) {
+        Ok(b) => Ok(Gateway { a, b }),
+        Err(Memory) => {
+            drop(a);
+            Err(Memory)
+        }
+    }
+}
+
+impl Gateway {
+    /// The gateway in which nothing has happened: world a is that of a rehearsal before all lines, and world b is it after
+    /// `restart terminal 2019`. Memory comes where memory ran out.
+    pub fn new(alloc: Global) -> Result<Gateway, Memory>
+        ensures is { IfOk result (λ gateway. gateway ≡ first_gateway) }
+        ensures gateway { IfOk result IsGateway }
+    {
+        match first_world(alloc) {
+            Ok(a) => gateway_of(alloc, a),
+            Err(Memory) => Err(Memory),
+        }
+    }
+
+    /// The world in which the terminal reports to the operator.
+    pub fn a(&self) -> &World
+        ensures { result.now ≡ self.now.a }
+    {
+        &self.a
+    }
+
+    /// The world in which the operator reports to the authority.
+    pub fn b(&self) -> &World
+        ensures { result.now ≡ self.now.b }
+    {
+        &self.b
+    }
+
+    // The fixes that are to be passed on are recorded, as many as there is room for.
+    fn pump(&mut self, alloc: Global) -> Result<(), WorldError>
+        ensures pumps { IsScripted self.old.b → PumpsMost self.old self.new result }
+        ensures a { self.new.a ≡ self.old.a }
+        ensures b { Leads self.old.b.play.world self.new.b.play.world }
+        ensures identity { self.new.b.identity ≡ self.old.b.identity }
+    {
+        law_rule();
+        let mark = self.b.recorded();
+        if mark == u64::MAX {
+            return Err(WorldError::Memory);
+        }
+        match self.a.fixes_behind(alloc, mark) {
+            Ok(fixes) => record_all(alloc, &mut self.b, fixes.as_slice()),
+            Err(Memory) => Err(WorldError::Memory),
+        }
+    }
+
+    // The operator starts anew: its platform, and then its terminal.
+    fn restart_middle(&mut self, alloc: Global) -> Result<(), WorldError>
+        ensures restarts { IsScripted self.old.a → IsScripted self.old.b →
+            RestartsMiddle self.old self.new result }
+        ensures a { Leads self.old.a.play.world self.new.a.play.world }
+        ensures b { Leads self.old.b.play.world self.new.b.play.world }
+    {
+        match without_entries(self.a.step(alloc, WorldEvent::RestartPlatform)) {
+            Ok(()) => without_entries(self.b.step(alloc, WorldEvent::RestartTerminal)),
+            Err(error) => Err(error),
+        }
+    }
+
+    // A line of a script, and the entries that it made.
+    fn act(&mut self, alloc: Global, event: GatewayEvent) -> Result<Seq<Entry>, WorldError>
+        requires { MayAsk event }
+        ensures { Stepped self.old event self.new result }
+    {
+        law_rule();
+        match event {
+            GatewayEvent::A(event) => self.a.step(alloc, event),
+            GatewayEvent::B(event) => self.b.step(alloc, event),
+            GatewayEvent::Pump => with_no_entry(alloc, self.pump(alloc)),
+            GatewayEvent::RestartMiddle => with_no_entry(alloc, self.restart_middle(alloc)),
+        }
+    }
+
+    /// A line of a script, and the entries that it made, in order: of the world that it names; a pump and a restart make none. An
+    /// event of world b is no Fix, Raw or RestartAs. After each answer but Memory the gateway is one to which lines alone led, if it
+    /// was one before, so that its fixes were passed on as `law_gateway` says; after Ok it is the one that the line defines.
+    ///
+    /// NoLine comes exactly where the line of communication that is named was not opened; the gateway is then as before. Full comes
+    /// where as many fixes as the limit are not accepted and one is to be recorded; the gateway is then as before, but that a pump
+    /// recorded as many as there was room for. Memory comes where memory ran out, or where as many lines were opened or fixes recorded
+    /// as have a number; the line was then done in part, and both worlds are such to which steps of their own lead.
+    pub fn step(&mut self, alloc: Global, event: GatewayEvent) -> Result<Seq<Entry>, WorldError>
+        requires { MayAsk event }
+        ensures gateway { IsGateway self.old → result ≢ Err refused.Memory → IsGateway self.new }
+        ensures ok { IsGateway self.old →
+            OnOk result (self.new ≡ gateway_after_line self.old event) }
+        ensures full { IsGateway self.old → (limit : ℕ) → result ≡ Err (refused.Full limit) →
+            (limit ≡ FIX_LIMIT) × (gateway_full self.old event ≡ true)
+            × (self.new ≡ gateway_at_full self.old event) }
+        ensures room { IsGateway self.old → OnOk result (gateway_full self.old event ≡ false) }
+        ensures no_line { IsGateway self.old → (number : ℕ) →
+            (result ≡ Err (refused.NoLine number)) ↔ HasNoLine self.old event number }
+        ensures same { (number : ℕ) → IsGateway self.old → result ≡ Err (refused.NoLine number) →
+            self.new ≡ self.old }
+        ensures entries { IfOk result (λ entries. entries ≡ entries_of self.old self.new event) }
+        ensures a { Leads self.old.a.play.world self.new.a.play.world }
+        ensures b { Leads self.old.b.play.world self.new.b.play.world }
+    {
+        self.act(alloc, event)
+    }
+}

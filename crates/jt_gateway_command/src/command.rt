@@ -1,0 +1,55 @@
+//! The command over a source and a sink.
+
+ghost use Rattle.std.specs.Prelude.{◌≡◌, ◌≢◌};
+ghost use Rattle.jt_value.specs.Counts.{Rose};
+ghost use Rattle.jt_gateway.specs.Gateway.{IsGateway, first_gateway};
+ghost use Rattle.jt_gateway_command.specs.Running.{IsBegun, RunsGateway};
+
+use crate::hearing::GatewayPlayer;
+use jt_gateway::law_gateway;
+use jt_input::{LineTeller, Status, run_teller};
+use jt_outside::{Sink, Source};
+use std::alloc::Global;
+
+// Plays by a teller that heard nothing yet.
+fn play_by<S: Source, K: Sink>(
+    alloc: Global,
+    teller: &mut LineTeller<GatewayPlayer>,
+    source: &mut S,
+    sink: &mut K,
+) -> Status
+    requires { IsBegun teller.old.hearer teller.old.cutter teller.old.bad }
+    ensures runs { RunsGateway (S.left source.old) (S.left source.new)
+        (K.written sink.old) (K.written sink.new) result }
+    ensures read_fault { result ≡ Status.ReadFault →
+        Rose (S.faults source.old) (S.faults source.new) }
+    ensures write_fault { result ≡ Status.WriteFault →
+        Rose (K.faults sink.old) (K.faults sink.new) }
+    ensures not_usage { result ≢ Status.Usage }
+{
+    law_gateway();
+    run_teller(alloc, teller, source, sink)
+}
+
+/// Plays the script of the source over a gateway, and writes what is printed of it: a line for each entry of its two platforms,
+/// behind the name of its world, one for each pump that had room for all, and at its end how far the fixes came. Refused says that
+/// a line is bad, which is printed: it is outside all forms, or names a line of communication that was not opened. StoreFault says
+/// that a vault was full, which is printed. ReadFault, WriteFault and Memory cut the text short. The forms and texts are this
+/// project's own.
+pub fn gateway<S: Source, K: Sink>(alloc: Global, source: &mut S, sink: &mut K) -> Status
+    ensures runs { RunsGateway (S.left source.old) (S.left source.new)
+        (K.written sink.old) (K.written sink.new) result }
+    ensures read_fault { result ≡ Status.ReadFault →
+        Rose (S.faults source.old) (S.faults source.new) }
+    ensures write_fault { result ≡ Status.WriteFault →
+        Rose (K.faults sink.old) (K.faults sink.new) }
+    ensures not_usage { result ≢ Status.Usage }
+{
+    let Ok(player) = GatewayPlayer::new(alloc) else {
+        return Status::Memory;
+    };
+    let mut teller = LineTeller::new(player);
+    let status = play_by(alloc, &mut teller, source, sink);
+    drop(teller);
+    status
+}
