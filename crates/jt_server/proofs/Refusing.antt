@@ -21,7 +21,7 @@ none_served O o hub sessions pool faults kept reports is none some = record {
   opening = (refl, refl, refl);
   served = nothing_served o hub.history pool reports is;
   no_other = λ n _. no_entries hub.history n none;
-  ended = (ap length is, refl);
+  ended = ap length is;
   count = counts_none faults;
   faults = let no : store_faults reports ≡ 0 = ap store_faults is in omega (arith, no);
 }

@@ -65,7 +65,7 @@ pub ends_then : (end : ServeEnd) (count count_now sessions : ℕ) (pool pool_now
 ends_then All count count_now sessions pool pool_now before now is same ended = is ∙ ended
 ends_then Over count count_now sessions pool pool_now before now is same ended = (omega (arith, is, ended.0), subst (λ c. IfSome c (λ scripts. scripts ≡ [])) (sym same) ended.1)
 ends_then ListenFault count count_now sessions pool pool_now before now is same ended = (omega (arith, is, ended.0), ended.1)
-ends_then Memory count count_now sessions pool pool_now before now is same ended = (is ∙ ended.0, ended.1)
+ends_then Memory count count_now sessions pool pool_now before now is same ended = is ∙ ended
 
 lent_back : (count : ℕ) (lent : Option ℕ) → option_map (λ n. n - count) (option_map (λ n. n + count) lent) ≡ lent
 lent_back count None = refl

@@ -70,9 +70,9 @@ pub record AreServed (O : Type 0) (o : Opening) (h : List Entry) (pool pool_now 
   pub came_back : pool_now.back ≡ option_map (λ links. links ++ map used_of back) pool.back
   pub lent : pool_now.lent ≡ pool.lent
 
--- Why no more links were accepted. Where memory was wanted none was, and the listener's count of faults stands still.
+-- Why no more links were accepted. Where memory was wanted none was.
 abbrev pub EndsAs : ServeEnd → ℕ → ℕ → Pool → ℕ → ℕ → Type 0
 EndsAs All count sessions pool_now before now = count ≡ sessions
 EndsAs Over count sessions pool_now before now = (count < sessions) × IfSome pool_now.coming (λ scripts. scripts ≡ [])
 EndsAs ListenFault count sessions pool_now before now = (count < sessions) × Rose before now
-EndsAs Memory count sessions pool_now before now = (count ≡ 0) × (now ≡ before)
+EndsAs Memory count sessions pool_now before now = count ≡ 0

@@ -58,7 +58,7 @@ struct Back<K> {
 /// are given back to the listener in order. The hub's history is empty.
 ///
 /// Memory for the Closes, the passes and the reports is taken before the first link is accepted, and Memory comes only there: no
-/// link was accepted, and the listener did not fail.
+/// link was accepted.
 pub fn serve<R: Threads + Wait + Sync, L: Listen, P: Keeper + Send + Drop>(
     rt: &R,
     alloc: Global,

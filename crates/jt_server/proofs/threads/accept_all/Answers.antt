@@ -28,7 +28,7 @@ returns-in_default g c =
       name = refl;
       count = counts_none (g.D.Door.faults c.args.door.now);
       few = omega (arith, none);
-      end = (none, refl);
+      end = none;
     }
 
 pub returns : goal.returns
