@@ -540,22 +540,14 @@ late_still before after last same late = subst (λ n. n ≤ last) (sym same) lat
 
 -- ---- the vault
 
--- one call after another
+-- one call after another, of which the first did not fail so
 pub vault_then : (faults mid faults_now most most_mid most_now : ℕ) (may may_mid may_now : Bool) (one two both : Type 0) → VaultStays faults mid most most_mid may may_mid one
-    → VaultStays mid faults_now most_mid most_now may_mid may_now two → (both → two) → VaultStays faults faults_now most most_now may may_now both
-vault_then faults mid faults_now most most_mid most_now may may_mid may_now one two both first second to = record {
+    → VaultStays mid faults_now most_mid most_now may_mid may_now two → ¬ one → (both → two) → (two → both) → VaultStays faults faults_now most most_now may may_now both
+vault_then faults mid faults_now most most_mid most_now may may_mid may_now one two both first second fine to from = record {
   later = trans_le faults mid faults_now first.later second.later;
+  still = λ z. second.still (λ e. z (from e)) ∙ first.still fine;
   limit = second.limit ∙ first.limit;
   steady = λ e. let steady = second.steady (first.steady e).0 in (steady.0, λ z. steady.1 (to z));
-}
-
--- of another failure
-pub vault_else : (faults faults_now most most_now : ℕ) (may may_now : Bool) (one two : Type 0) → VaultStays faults faults_now most most_now may may_now one
-    → (two → ⊥) → VaultStays faults faults_now most most_now may may_now two
-vault_else faults faults_now most most_now may may_now one two stays none = record {
-  later = stays.later;
-  limit = stays.limit;
-  steady = λ e. ((stays.steady e).0, none);
 }
 
 -- ---- the end, when the line is lost

@@ -142,9 +142,10 @@ pub record Attempt (octets quiets : ℕ) (old now : AtLink) (time time_now : Tim
   pub counts : LinkCounts old.link now.link
   pub faults : old.faults ≤ now.faults
 
--- What is said of a vault beside what it holds: its count of faults never falls, its limit stays, and where none of its calls may fail, none may
--- later, and this failure does not come.
+-- What is said of a vault beside what it holds: its count of faults never falls, and stands still but where this failure comes; its limit stays;
+-- and where none of its calls may fail, none may later, and this failure does not come.
 pub record VaultStays (faults faults_now most most_now : ℕ) (may may_now : Bool) (failed : Type 0) : Type 0 where
   pub later : faults ≤ faults_now
+  pub still : ¬ failed → faults_now ≡ faults
   pub limit : most_now ≡ most
   pub steady : may ≡ false → (may_now ≡ false) × (failed → ⊥)

@@ -1,6 +1,6 @@
 //! One move of an attempt: what the terminal is told, and its frames on the link.
 
-ghost use Rattle.std.specs.Prelude.{◌≡◌, ◌≤◌, ◌<◌, ◌+◌, ◌++◌, ◌^◌, List, ℕ, None, Some, Bool, length};
+ghost use Rattle.std.specs.Prelude.{◌≡◌, ◌≢◌, ◌≤◌, ◌<◌, ◌+◌, ◌++◌, ◌^◌, List, ℕ, None, Some, Bool, length};
 ghost use Rattle.std.specs.List.{flat_map};
 ghost use Rattle.jt_value.specs.Counts.{Counts};
 ghost use Rattle.jt_outside.specs.Sink.{WritesAll, WriteAllHasCause};
@@ -12,7 +12,8 @@ ghost use Rattle.jt_value.specs.Octets.{AreOctets};
 ghost use Rattle.jt_agent.specs.Attempt.{LeavesAt, VaultStays, at_link};
 ghost use Rattle.jt_agent.specs.Course.{Reads};
 ghost use Rattle.jt_agent.specs.Moving.{Comes, Concludes, LeavesEvent, TicksOnce};
-ghost use Rattle.jt_agent.specs.declared.ending.Attempted.TheVariants.{StoreFault};
+ghost use Rattle.jt_agent.specs.declared.ending.AttemptEnd.TheVariants as how;
+ghost use Rattle.jt_agent.specs.declared.ending.Attempted.TheVariants.{Ended, StoreFault};
 
 use crate::ending::{AttemptEnd, Attempted};
 use jt_outside::{Clock, Link, Sink, write_all};
@@ -44,6 +45,7 @@ fn conclude<K: Link>(link: &mut K, actions: Actions, done: bool) -> Option<Attem
         (wire_of K.inbound K.written K.faults link.new) }
     ensures inbound { K.inbound link.new ≡ K.inbound link.old }
     ensures count { Counts (K.faults link.old) (K.faults link.new) }
+    ensures still { result ≢ Some (Ended how.Link) → K.faults link.new ≡ K.faults link.old }
     ensures stored { result ≡ Some StoreFault → ⊥ }
 {
     let Actions {
@@ -81,6 +83,7 @@ pub(crate) fn tell<K: Link, V: Vault>(
     ensures settings { terminal.new.state.settings ≡ terminal.old.state.settings }
     ensures inbound { K.inbound link.new ≡ K.inbound link.old }
     ensures count { Counts (K.faults link.old) (K.faults link.new) }
+    ensures still { result ≢ Some (Ended how.Link) → K.faults link.new ≡ K.faults link.old }
     ensures vault { VaultStays (V.faults terminal.old.vault) (V.faults terminal.new.vault)
         (V.limit terminal.old.vault) (V.limit terminal.new.vault)
         (V.may_fail terminal.old.vault) (V.may_fail terminal.new.vault) (result ≡ Some StoreFault) }
@@ -119,6 +122,7 @@ pub(crate) fn hear<K: Link, V: Vault>(
     ensures settings { terminal.new.state.settings ≡ terminal.old.state.settings }
     ensures inbound { K.inbound link.new ≡ K.inbound link.old }
     ensures count { Counts (K.faults link.old) (K.faults link.new) }
+    ensures still { result ≢ Some (Ended how.Link) → K.faults link.new ≡ K.faults link.old }
     ensures vault { VaultStays (V.faults terminal.old.vault) (V.faults terminal.new.vault)
         (V.limit terminal.old.vault) (V.limit terminal.new.vault)
         (V.may_fail terminal.old.vault) (V.may_fail terminal.new.vault) (result ≡ Some StoreFault) }
@@ -151,6 +155,7 @@ pub(crate) fn tick<K: Link, C: Clock, V: Vault>(
     ensures settings { terminal.new.state.settings ≡ terminal.old.state.settings }
     ensures inbound { K.inbound link.new ≡ K.inbound link.old }
     ensures count { Counts (K.faults link.old) (K.faults link.new) }
+    ensures still { result ≢ Some (Ended how.Link) → K.faults link.new ≡ K.faults link.old }
     ensures vault { VaultStays (V.faults terminal.old.vault) (V.faults terminal.new.vault)
         (V.limit terminal.old.vault) (V.limit terminal.new.vault)
         (V.may_fail terminal.old.vault) (V.may_fail terminal.new.vault) (result ≡ Some StoreFault) }

@@ -1,6 +1,6 @@
 //! One attempt over a link.
 
-ghost use Rattle.std.specs.Prelude.{◌≡◌, ◌≤◌, ◌+◌, ◌^◌};
+ghost use Rattle.std.specs.Prelude.{◌≡◌, ◌≢◌, ◌≤◌, ◌+◌, ◌^◌};
 ghost use Rattle.jt_outside.specs.Link.{wire_of};
 ghost use Rattle.jt_terminal_rule.specs.declared.state.Event.TheVariants.{Lost};
 ghost use Rattle.jt_terminal_rule.specs.declared.state.Phase.TheVariants.{Down};
@@ -8,7 +8,8 @@ ghost use Rattle.jt_terminal_rule.specs.Rule.{rule};
 ghost use Rattle.jt_terminal_steps.specs.Running.{IsDown};
 ghost use Rattle.jt_agent.specs.Attempt.{Attempt, VaultStays, at_link, most_quiet};
 ghost use Rattle.jt_agent.specs.Moving.{Ends, DidRule};
-ghost use Rattle.jt_agent.specs.declared.ending.Attempted.TheVariants.{StoreFault};
+ghost use Rattle.jt_agent.specs.declared.ending.AttemptEnd.TheVariants as how;
+ghost use Rattle.jt_agent.specs.declared.ending.Attempted.TheVariants.{Ended, StoreFault};
 
 use crate::ending::{AttemptEnd, Attempted};
 use crate::moving::{hear, tell, tick};
@@ -40,6 +41,7 @@ fn converse<K: Link, C: Clock, V: Vault>(
         (wire_of K.inbound K.written K.faults link.new))
         (C.time clock.old) (C.time clock.new) result }
     ensures quiet { (K.inbound link.new).run ≤ (K.inbound link.old).run + most_quiet quiets result }
+    ensures still { result ≢ Ended how.Link → K.faults link.new ≡ K.faults link.old }
     ensures late { terminal.new.state.time ≤ (C.time clock.new).last }
     ensures settings { terminal.new.state.settings ≡ terminal.old.state.settings }
     ensures vault { VaultStays (V.faults terminal.old.vault) (V.faults terminal.new.vault)
@@ -135,6 +137,8 @@ pub fn attempt_within<K: Link, C: Clock, V: Vault>(
         (C.time clock.old) (C.time clock.new) result }
     // As many quiet reads in a row as may be end it as Idle.
     ensures quiet { (K.inbound link.new).run ≤ (K.inbound link.old).run + most_quiet quiets result }
+    // Every other end, so Memory too, comes only where the link's count of faults stood still; the vault's rises only at StoreFault.
+    ensures still { result ≢ Ended how.Link → K.faults link.new ≡ K.faults link.old }
     // So another attempt may follow.
     ensures down { IsDown terminal.new.state }
     ensures late { terminal.new.state.time ≤ (C.time clock.new).last }
@@ -164,6 +168,7 @@ pub fn attempt<K: Link, C: Clock, V: Vault>(
         (wire_of K.inbound K.written K.faults link.new))
         (C.time clock.old) (C.time clock.new) result }
     ensures quiet { (K.inbound link.new).run ≤ (K.inbound link.old).run + most_quiet MOST_QUIETS result }
+    ensures still { result ≢ Ended how.Link → K.faults link.new ≡ K.faults link.old }
     ensures down { IsDown terminal.new.state }
     ensures late { terminal.new.state.time ≤ (C.time clock.new).last }
     ensures settings { terminal.new.state.settings ≡ terminal.old.state.settings }

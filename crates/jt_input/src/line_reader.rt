@@ -108,12 +108,14 @@ impl LineReader {
     }
 
     /// The next line of the source. All calls are to be given one source. Where it answers `Line` or `Last`, `line` gives the
-    /// line until the next call. `Failed` comes only where the source's count of faults rose, and the next call reads on.
+    /// line until the next call. `Failed` comes only where the source's count of faults rose, and the next call reads on; every other
+    /// answer only where it stood still.
     pub fn next<S: Source>(&mut self, source: &mut S) -> NextLine
         ensures goes { (text : List ℕ) (lines : List (List ℕ)) → HasTold self.old text lines →
             Goes result self.new (S.left source.old) (S.left source.new) text lines }
         ensures cause { result ≡ Failed → Rose (S.faults source.old) (S.faults source.new) }
         ensures later { S.faults source.old ≤ S.faults source.new }
+        ensures still { result ≢ Failed → S.faults source.new ≡ S.faults source.old }
     {
         loop {
             match self.cut() {

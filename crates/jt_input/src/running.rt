@@ -22,6 +22,7 @@ fn write<K: Sink>(sink: &mut K, text: &String, status: Option<Status>) -> Option
         (string_bytes text.now) status result }
     ensures later { K.faults sink.old ≤ K.faults sink.new }
     ensures write_fault { result ≢ status → Rose (K.faults sink.old) (K.faults sink.new) }
+    ensures still { result ≢ Some Status.WriteFault → K.faults sink.new ≡ K.faults sink.old }
 {
     if write_all(sink, text.as_bytes()) {
         status
@@ -47,6 +48,7 @@ fn advance<T: Teller, K: Sink>(
     ensures later { K.faults sink.old ≤ K.faults sink.new }
     ensures write_fault { result ≡ Some Status.WriteFault →
         Rose (K.faults sink.old) (K.faults sink.new) }
+    ensures still { result ≢ Some Status.WriteFault → K.faults sink.new ≡ K.faults sink.old }
     ensures early { IfSome result (λ status.
         (status ≢ Status.Done) × (status ≢ Status.ReadFault) × (status ≢ Status.Usage)) }
 {
@@ -70,6 +72,7 @@ fn finish<T: Teller, K: Sink>(
     ensures later { K.faults sink.old ≤ K.faults sink.new }
     ensures write_fault { result ≡ Status.WriteFault →
         Rose (K.faults sink.old) (K.faults sink.new) }
+    ensures still { result ≢ Status.WriteFault → K.faults sink.new ≡ K.faults sink.old }
     ensures ended { (result ≢ Status.ReadFault) × (result ≢ Status.Usage) }
 {
     text.clear();
@@ -120,6 +123,10 @@ pub fn run_teller<T: Teller, S: Source, K: Sink>(
         Rose (S.faults source.old) (S.faults source.new) }
     ensures write_fault { result ≡ Status.WriteFault →
         Rose (K.faults sink.old) (K.faults sink.new) }
+    // Every other status, so Memory too, comes only where the counts of faults stood still.
+    ensures read_still { result ≢ Status.ReadFault →
+        S.faults source.new ≡ S.faults source.old }
+    ensures write_still { result ≢ Status.WriteFault → K.faults sink.new ≡ K.faults sink.old }
     ensures not_usage { result ≢ Status.Usage }
 {
     let mut buf = [0; PIECE];

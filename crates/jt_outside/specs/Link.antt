@@ -1,5 +1,5 @@
 -- What a read does to a link. To be believed.
-use Rattle.std.specs.Prelude.{◌≡◌, ℕ, ◌-◌, ◌^◌, ◌<◌, ◌≤◌, List, Option, length, take}
+use Rattle.std.specs.Prelude.{◌≡◌, ◌≢◌, ℕ, ◌-◌, ◌^◌, ◌<◌, ◌≤◌, List, Option, length, take}
 use Rattle.std.specs.Io.KnownBytes.{Appends, Consumes, Keeps, IsAtEnd}
 use Rattle.jt_value.specs.Counts.{counted, Rose, Counts}
 use Rattle.jt_outside.specs.Inbound.{Inbound}
@@ -24,11 +24,13 @@ Reads old now Quiet buf = GivesNone old now × (now.run ≡ counted old.run)
 Reads old now End buf = IsAtEnd now.left × GivesNone old now × (now.run ≡ old.run)
 Reads old now Failed buf = GivesNone old now × (now.run ≡ old.run)
 
--- the counts of faults and of quiet reads never fall, and rose where the answer says so
+-- the counts of faults and of quiet reads never fall, and rose where the answer says so; at every other answer that of faults
+-- stands still
 pub record ReadHasCause (before now : ℕ) (old new : Inbound) (got : LinkGot) : Type 0 where
   pub faults : Counts before now
   pub fits : now ≤ 2 ^ 64 - 1
   pub failed : got ≡ Failed → Rose before now
+  pub still : got ≢ Failed → now ≡ before
   pub quiets : Counts old.quiets new.quiets
   pub quiets_fit : new.quiets ≤ 2 ^ 64 - 1
   pub quiet : got ≡ Quiet → Rose old.quiets new.quiets

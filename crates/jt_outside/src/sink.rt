@@ -41,6 +41,7 @@ pub fn write_front<K: Sink>(sink: &mut K, octets: &[u8]) -> usize
     ensures octets { Appends (K.written sink.old) (K.written sink.new) (take result octets.now) }
     ensures count { Counts (K.faults sink.old) (K.faults sink.new) }
     ensures cause { result < length octets.now → Rose (K.faults sink.old) (K.faults sink.new) }
+    ensures still { result ≡ length octets.now → K.faults sink.new ≡ K.faults sink.old }
     ensures inbound { K.inbound sink.new ≡ K.inbound sink.old }
 {
     let mut done = 0;

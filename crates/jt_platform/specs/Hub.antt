@@ -38,9 +38,10 @@ pub record IsAt (start now : Option Tables) (limit_then limit_now : ℕ) (histor
   pub tables : now ≡ tables_after start (newest history)
   pub limit : limit_now ≡ limit_then
 
--- what a reply says of the keeper's faults: the count never falls, StoreFault comes only where it rose, and where no call may
--- fail none does and StoreFault does not come
+-- what a reply says of the keeper's faults: the count never falls, StoreFault comes only where it rose, and every other reply, so
+-- Memory too, only where it stood still; where no call may fail none does and StoreFault does not come
 pub record HasReason (before now : ℕ) (may may_now : Bool) (reply : Reply) : Type 0 where
   pub later : before ≤ now
   pub fault : reply ≡ say.StoreFault → Rose before now
+  pub still : reply ≢ say.StoreFault → now ≡ before
   pub steady : may ≡ false → (may_now ≡ false) × (reply ≢ say.StoreFault)

@@ -161,6 +161,9 @@ where
         × (P.limit result.keeper ≡ P.limit keeper) }
     ensures read_fault { result.status ≡ Status.ReadFault →
         Rose (S.faults source.old) (S.faults source.new) }
+    // Every other status, so Memory too, comes only where the source's count of faults stood still.
+    ensures read_still { result.status ≢ Status.ReadFault →
+        S.faults source.new ≡ S.faults source.old }
     ensures write_fault { result.status ≡ Status.WriteFault →
         Rose (K.faults sink.old) (K.faults sink.new) }
     ensures net_fault { result.status ≡ Status.NetFault →

@@ -1,6 +1,6 @@
 //! The fleet that the text of a source names.
 
-ghost use Rattle.std.specs.Prelude.{◌≡◌, ◌≤◌, IfOk};
+ghost use Rattle.std.specs.Prelude.{◌≡◌, ◌≢◌, ◌≤◌, IfOk};
 ghost use Rattle.jt_value.specs.Counts.{Rose};
 ghost use Rattle.jt_platform_command.specs.FleetLines.{said_by};
 ghost use Rattle.jt_platform_command.specs.FleetText.{nothing_named, at_end};
@@ -130,6 +130,8 @@ pub fn read_fleet<S: Source>(alloc: Global, source: &mut S) -> FleetRead
     ensures reads { ReadsFleet result (S.left source.old) (S.left source.new) }
     ensures failed { result ≡ told.Failed → Rose (S.faults source.old) (S.faults source.new) }
     ensures later { S.faults source.old ≤ S.faults source.new }
+    // Every other answer, so Memory too, comes only where the count of faults stood still.
+    ensures still { result ≢ told.Failed → S.faults source.new ≡ S.faults source.old }
 {
     law_lines();
     let mut naming = Naming::new(alloc);

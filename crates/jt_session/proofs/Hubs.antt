@@ -139,15 +139,22 @@ feeds_reply s now o h h_now out out_now item q r did asked allowed history = rec
 
 -- ---- octets behind the end
 
+pub feeds_beyond : FrontFirst → (s now : Seen) (a b : List ℕ) (o : Opening) (h h_now : List Entry) (out out_now : List ℕ) (fed : Fed) (fd : Feeds s now a o h h_now out out_now fed) → now.over ≡ true
+    → (all : Feeds s now (a ++ b) o h h_now out out_now fed) × (all.turns ≡ fd.turns)
+feeds_beyond front s now a b o h h_now out out_now fed fd over = (
+  record {
+    turns = fd.turns;
+    went = turns_beyond front s now a b fd.turns over fd.went;
+    allowed = fd.allowed;
+    entries = fd.entries;
+    wrote = fd.wrote;
+    ended = fd.ended;
+  },
+  refl,
+)
+
 pub beyond : FrontFirst → (s now : Seen) (a b : List ℕ) (o : Opening) (h h_now : List Entry) (out out_now : List ℕ) (fed : Fed) → Feeds s now a o h h_now out out_now fed → now.over ≡ true → Feeds s now (a ++ b) o h h_now out out_now fed
-beyond front s now a b o h h_now out out_now fed fd over = record {
-  turns = fd.turns;
-  went = turns_beyond front s now a b fd.turns over fd.went;
-  allowed = fd.allowed;
-  entries = fd.entries;
-  wrote = fd.wrote;
-  ended = fd.ended;
-}
+beyond front s now a b o h h_now out out_now fed fd over = (feeds_beyond front s now a b o h h_now out out_now fed fd over).0
 
 -- ---- no session asks for a Close
 
@@ -270,13 +277,17 @@ feeds_ended law first now octets taken o h h_now front out_now fed so_far over =
 
 -- ---- the keeper's faults
 
+pub never_stops : On ≡ Stop ends.StoreFault → ⊥
+never_stops e = cc
+
 pub reason_none : (faults : ℕ) (may : Bool) (fed : Fed) → (fed ≡ Stop ends.StoreFault → ⊥) → HasFedReason faults faults may may fed
-reason_none faults may fed never = record { later = omega arith; fault = λ e. absurd (never e); steady = λ e. (e, never) }
+reason_none faults may fed never = record { later = omega arith; fault = λ e. absurd (never e); still = λ e. refl; steady = λ e. (e, never) }
 
 pub reason_both : (a b c : ℕ) (m m_mid m_now : Bool) (fed : Fed) → HasFedReason a b m m_mid On → HasFedReason b c m_mid m_now fed → HasFedReason a c m m_now fed
 reason_both a b c m m_mid m_now fed first second = record {
   later = omega (arith, first.later, second.later);
   fault = λ e. let rose = second.fault e in omega (arith, rose, first.later);
+  still = λ e. second.still e ∙ first.still never_stops;
   steady = λ e. second.steady (first.steady e).0;
 }
 
@@ -298,6 +309,3 @@ fed_on s now octets o other h h_now out out_now fed found same is did =
 
 pub reason_on : (a b : ℕ) (m m_now : Bool) (fed found : Fed) → fed ≡ found → HasFedReason a b m m_now fed → HasFedReason a b m m_now found
 reason_on a b m m_now fed found is reason = subst (λ f. HasFedReason a b m m_now f) is reason
-
-pub never_stops : On ≡ Stop ends.StoreFault → ⊥
-never_stops e = cc

@@ -142,9 +142,10 @@ pub record Feeds (s now : Seen) (octets : List ℕ) (o : Opening) (h h_now : Lis
   pub wrote : out_now ≡ out ++ (talk_from (before s) turns).written
   pub ended : fed ≡ end_of turns
 
--- What feeding says of the keeper's faults: the count never falls, a session ends by StoreFault only where it rose, and where no call
--- may fail none does and no session ends so.
+-- What feeding says of the keeper's faults: the count never falls, a session ends by StoreFault only where it rose, and goes on or ends
+-- otherwise, so by Memory too, only where it stood still; where no call may fail none does and no session ends by StoreFault.
 pub record HasFedReason (before now : ℕ) (may may_now : Bool) (fed : Fed) : Type 0 where
   pub later : before ≤ now
   pub fault : fed ≡ Stop ends.StoreFault → Rose before now
+  pub still : fed ≢ Stop ends.StoreFault → now ≡ before
   pub steady : may ≡ false → (may_now ≡ false) × (fed ≢ Stop ends.StoreFault)

@@ -1,10 +1,11 @@
 //! A session over a link.
 
-ghost use Rattle.std.specs.Prelude.{◌≡◌, ◌≤◌, ◌<◌, ◌+◌, ◌*◌, ◌^◌, [], false, None, IsSome, IsSomeAnd, length, option_map};
+ghost use Rattle.std.specs.Prelude.{◌≡◌, ◌≢◌, ◌≤◌, ◌<◌, ◌+◌, ◌*◌, ◌^◌, [], false, None, Some, IsSome, IsSomeAnd, length, option_map};
 ghost use Rattle.jt_value.specs.declared.limits.TheConstants.{ANSWER_LIMIT};
 ghost use Rattle.jt_value.specs.Octets.{AreOctets};
 ghost use Rattle.jt_outside.specs.Link.{wire_of};
 ghost use Rattle.jt_platform.specs.Hub.{opening_of};
+ghost use Rattle.jt_session.specs.declared.end.End.TheVariants as ends;
 ghost use Rattle.jt_session.specs.TurnLaw.{IsNew};
 ghost use Rattle.jt_session.specs.Hearing.{IsSamePass};
 ghost use Rattle.jt_session.specs.Serving.{AnswersRead, Converses, Serves, ServesUpTo, most_quiet};
@@ -56,6 +57,7 @@ fn answer<R: Wait, K: Link, P: Keeper>(
         session.old session.new octets.now pass.old pass.new
         (wire_of K.inbound K.written K.faults link.old)
         (wire_of K.inbound K.written K.faults link.new) result.0 result.1 }
+    ensures still { result.1 ≢ Some ends.LinkFault → K.faults link.new ≡ K.faults link.old }
     ensures same { IsSamePass pass.old pass.new }
     ensures on { result.1 ≡ None → session.new.over ≡ false }
     ensures waiting { session.new.waiting ≡ None }
@@ -97,6 +99,7 @@ fn converse<R: Wait, K: Link, P: Keeper>(
         session.old session.new pass.old pass.new (wire_of K.inbound K.written K.faults link.old)
         (wire_of K.inbound K.written K.faults link.new) result.read result.written result.end }
     ensures quiet { (K.inbound link.new).run ≤ (K.inbound link.old).run + most_quiet result.end }
+    ensures still { result.end ≢ ends.LinkFault → K.faults link.new ≡ K.faults link.old }
     ensures same { IsSamePass pass.old pass.new }
     ensures waiting { session.new.waiting ≡ None }
 {
@@ -156,6 +159,7 @@ fn serve_open<R: Wait, K: Link, P: Keeper>(
         pass.old pass.new (wire_of K.inbound K.written K.faults link.old)
         (wire_of K.inbound K.written K.faults link.new) result }
     ensures quiet { (K.inbound link.new).run ≤ (K.inbound link.old).run + most_quiet result.end }
+    ensures still { result.end ≢ ends.LinkFault → K.faults link.new ≡ K.faults link.old }
     ensures same { IsSamePass pass.old pass.new }
 {
     law_frames();
@@ -211,6 +215,8 @@ pub fn serve_link_within<R: Wait, K: Link, P: Keeper>(
         (wire_of K.inbound K.written K.faults link.new) result.0 }
     // The third quiet read in a row ends it as Idle.
     ensures quiet { (K.inbound link.new).run ≤ (K.inbound link.old).run + most_quiet result.0.end }
+    // Every other end, so Memory too, comes only where the link's count of faults stood still.
+    ensures still { result.0.end ≢ ends.LinkFault → K.faults link.new ≡ K.faults link.old }
     ensures same { IsSamePass pass result.1 }
 {
     let report = serve_open(rt, alloc, link, turn, &mut pass, octets);
@@ -235,6 +241,8 @@ pub fn serve_link<R: Wait, K: Link, P: Keeper>(
         (wire_of K.inbound K.written K.faults link.new) result.0 }
     // The third quiet read in a row ends it as Idle.
     ensures quiet { (K.inbound link.new).run ≤ (K.inbound link.old).run + most_quiet result.0.end }
+    // Every other end, so Memory too, comes only where the link's count of faults stood still.
+    ensures still { result.0.end ≢ ends.LinkFault → K.faults link.new ≡ K.faults link.old }
     ensures same { IsSamePass pass result.1 }
 {
     serve_link_within(rt, alloc, link, turn, pass, INPUT_LIMIT)

@@ -109,10 +109,11 @@ registered_set key registered (Some t) = Some (record { registered = λ q. if sa
 
 -- ---- calls
 
--- the count of faults never falls, and rose where the call failed
+-- the count of faults never falls, rose where the call failed, and stands still at every other answer
 pub record HasCause {T : Type 0} (before now : ℕ) (result : Result T StoreError) : Type 0 where
   pub later : before ≤ now
   pub failed : IsErrOf result Failed → Rose before now
+  pub still : ¬ IsErrOf result Failed → now ≡ before
 
 -- where no call may fail this one does not, and no later one may
 abbrev pub IsSteady : {T : Type 0} → Bool → Bool → Result T StoreError → Type 0

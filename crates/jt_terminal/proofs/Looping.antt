@@ -12,6 +12,8 @@ use Rattle.jt_terminal_rule.specs.declared.state.State.{State}
 use Rattle.jt_terminal_rule.specs.declared.state.GiveUp.{GiveUp}
 use Rattle.jt_terminal_rule.specs.Waits.{IsTimed}
 use Rattle.jt_terminal_steps.specs.declared.error.TerminalError.{TerminalError}
+use Rattle.jt_terminal_steps.specs.declared.error.TerminalError.TheVariants.{Store}
+use Rattle.std.specs.Prelude.{IsErrOf}
 use Rattle.jt_terminal_steps.specs.Running.{IsSame, Outside}
 use Rattle.jt_terminal.specs.Feeding.{HasFed, HasFedFront, IsSteadySoFar, Scene, WasCut}
 use Rattle.jt_terminal.proofs.Items.{cut_then_fed, fed_then}
@@ -62,25 +64,26 @@ pub same_on : (old mid now : State) → IsSame old mid → IsSame mid now → Is
 same_on old mid now one two = record { settings = two.settings ∙ one.settings; time = two.time ∙ one.time; last = two.last ∙ one.last }
 
 pub steady_at_first : (faults most : ℕ) (may : Bool) → IsSteadySoFar faults faults most most may may
-steady_at_first faults most may = record { limit = refl; later = omega arith; steady = λ e. e }
+steady_at_first faults most may = record { limit = refl; still = refl; steady = λ e. e }
 
 pub steady_on : {T : Type 0} (faults faults_mid faults_now most most_mid most_now : ℕ) (may may_mid may_now : Bool) (r : Result T TerminalError) → IsSteadySoFar faults faults_mid most most_mid may may_mid
-    → Outside faults_mid faults_now most_mid most_now may_mid may_now r → IsSteadySoFar faults faults_now most most_now may may_now
-steady_on faults faults_mid faults_now most most_mid most_now may may_mid may_now r one two = record {
+    → Outside faults_mid faults_now most_mid most_now may_mid may_now r → ¬ IsErrOf r Store → IsSteadySoFar faults faults_now most most_now may may_now
+steady_on faults faults_mid faults_now most most_mid most_now may may_mid may_now r one two goes = record {
   limit = two.limit ∙ one.limit;
-  later = omega (arith, one.later, two.later);
+  still = two.still goes ∙ one.still;
   steady = λ e. (two.steady (one.steady e)).0;
 }
 
 pub outside_so_far : {T : Type 0} (faults faults_now most most_now : ℕ) (may may_now : Bool) (x : T) → IsSteadySoFar faults faults_now most most_now may may_now → Outside faults faults_now most most_now may may_now (Ok x)
-outside_so_far faults faults_now most most_now may may_now x so_far = record { limit = so_far.limit; later = so_far.later; failed = λ e. absurd cc; steady = λ e. (so_far.steady e, λ f. cc) }
+outside_so_far faults faults_now most most_now may may_now x so_far = record { limit = so_far.limit; later = omega (arith, so_far.still); failed = λ e. absurd cc; still = λ e. so_far.still; steady = λ e. (so_far.steady e, λ f. cc) }
 
 pub outside_on : {T : Type 0} (faults faults_mid faults_now most most_mid most_now : ℕ) (may may_mid may_now : Bool) (r : Result T TerminalError) → IsSteadySoFar faults faults_mid most most_mid may may_mid
     → Outside faults_mid faults_now most_mid most_now may_mid may_now r → Outside faults faults_now most most_now may may_now r
 outside_on faults faults_mid faults_now most most_mid most_now may may_mid may_now r one two = record {
   limit = two.limit ∙ one.limit;
-  later = omega (arith, one.later, two.later);
-  failed = λ e. let rose = two.failed e in omega (arith, rose, one.later);
+  later = omega (arith, one.still, two.later);
+  failed = λ e. let rose = two.failed e in omega (arith, rose, one.still);
+  still = λ e. two.still e ∙ one.still;
   steady = λ e. two.steady (one.steady e);
 }
 

@@ -66,5 +66,5 @@ pub record WasCut (old : Scene) (stream : Splitting) (state : State) (held : Opt
 -- what a vault says beside what it holds, while nothing failed
 pub record IsSteadySoFar (faults faults_now most most_now : ℕ) (may may_now : Bool) : Type 0 where
   pub limit : most_now ≡ most
-  pub later : faults ≤ faults_now
+  pub still : faults_now ≡ faults
   pub steady : may ≡ false → may_now ≡ false

@@ -326,7 +326,7 @@ impl<V: Vault> Terminal<V> {
         requires { AreSettings settings }
         ensures ok { IfOk result (λ terminal. IsStarted settings (V.holds vault) terminal.state
             × (V.holds terminal.vault ≡ V.holds vault) × (V.limit terminal.vault ≡ V.limit vault)
-            × (V.faults vault ≤ V.faults terminal.vault)
+            × (V.faults terminal.vault ≡ V.faults vault)
             × (V.may_fail vault ≡ false → V.may_fail terminal.vault ≡ false)) }
         ensures err { IfErr result (λ refused. (V.holds refused.0 ≡ V.holds vault)
             × (V.limit refused.0 ≡ V.limit vault) × IsRefused (V.faults vault) (V.faults refused.0)

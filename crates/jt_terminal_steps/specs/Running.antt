@@ -92,12 +92,14 @@ pub record IsSame (old now : State) : Type 0 where
   pub time : now.time ≡ old.time
   pub last : now.last ≡ old.last
 
--- What a call says of its vault beside what that holds: the limit stays, the count of faults never falls, and Store comes only where it
--- rose; and where no call of the vault may fail, none may later, and Store does not come.
+-- What a call says of its vault beside what that holds: the limit stays, the count of faults never falls, Store comes only where it
+-- rose, and every other answer, so Memory too, only where it stood still; and where no call of the vault may fail, none may later, and
+-- Store does not come.
 pub record Outside {T : Type 0} (faults faults_now most most_now : ℕ) (may may_now : Bool) (result : Result T TerminalError) : Type 0 where
   pub limit : most_now ≡ most
   pub later : faults ≤ faults_now
   pub failed : IsErrOf result Store → Rose faults faults_now
+  pub still : ¬ IsErrOf result Store → faults_now ≡ faults
   pub steady : may ≡ false → (may_now ≡ false) × (IsErrOf result Store → ⊥)
 
 -- what an event must be: a message fits its header's edition and has its id, so that it is no part, and a moment is not before the last
@@ -137,10 +139,11 @@ time_after s Beat = s.time
 abbrev pub IsDone : State → Type 0
 IsDone s = (s.units ≡ []) × (s.waiting ≡ [])
 
--- why a vault did not load: the count of faults never falls, and Failed comes only where it rose; where no call may fail none may later, and
--- Failed does not come; Full never does
+-- why a vault did not load: the count of faults never falls, Failed comes only where it rose, and Memory only where it stood still; where
+-- no call may fail none may later, and Failed does not come; Full never does
 pub record IsRefused (faults faults_now : ℕ) (may may_now : Bool) (error : StoreError) : Type 0 where
   pub later : faults ≤ faults_now
   pub failed : error ≡ Failed → Rose faults faults_now
+  pub still : error ≢ Failed → faults_now ≡ faults
   pub steady : may ≡ false → (may_now ≡ false) × (error ≢ Failed)
   pub never_full : (limit : ℕ) → error ≢ Full limit

@@ -1,6 +1,6 @@
 //! Why an event failed.
 
-ghost use Rattle.std.specs.Prelude.{◌≡◌};
+ghost use Rattle.std.specs.Prelude.{◌≡◌, ◌↔◌};
 ghost use Rattle.jt_store.specs.declared.error.StoreError.TheVariants.{Failed};
 ghost use Rattle.jt_terminal_steps.specs.declared.error.TerminalError.TheVariants.{Store, Memory as NoMemory};
 
@@ -35,7 +35,7 @@ impl From<AllocError> for TerminalError {
 
 // Why an event failed at a call of the vault. No call in an event answers Full.
 pub(crate) fn trouble(error: StoreError) -> TerminalError
-    ensures { result ≡ Store → error ≡ Failed }
+    ensures { (result ≡ Store) ↔ (error ≡ Failed) }
 {
     match error {
         StoreError::Failed => TerminalError::Store,

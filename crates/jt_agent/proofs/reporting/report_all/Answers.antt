@@ -76,7 +76,7 @@ loop-alloc-preserved g c =
       c.in-Ended.ensures.down,
       c.in-Ended.ensures.late,
       c.in-Ended.ensures.settings ∙ c.loop-alloc.invariant.4,
-      vault_then _ _ _ _ _ _ _ _ _ _ _ _ c.loop-alloc.invariant.5 c.in-Ended.ensures.vault (λ z. absurd z),
+      vault_then _ _ _ _ _ _ _ _ _ _ _ _ c.loop-alloc.invariant.5 c.in-Ended.ensures.vault (λ z. absurd z) (λ z. absurd z) (λ z. cc),
       λ none. c.in-Ended.ensures.sent (c.loop-alloc.invariant.6 none),
     )
 

@@ -46,7 +46,8 @@ loop-taken-init g c =
       quiet_from _ _ _ _ _ _ _ goes (g.K.Sink.inbound c.args.link.now) (c.in_default-tell.ensures.inbound ∙ c.in_default.ensures.inbound) (omega arith),
       omega arith,
       c.requires.quiets.0,
-      vault_then _ _ _ _ _ _ _ _ _ _ _ _ c.in_default.ensures.vault c.in_default-tell.ensures.vault (λ z. absurd z),
+      vault_then _ _ _ _ _ _ _ _ _ _ _ _ c.in_default.ensures.vault c.in_default-tell.ensures.vault (λ z. cc) (λ z. absurd z) (λ z. cc),
+      c.in_default-tell.ensures.still (λ z. cc) ∙ c.in_default.ensures.still (λ z. cc),
       c.in_default-tell.ensures.settings ∙ c.in_default.ensures.settings,
     )
 
@@ -72,6 +73,13 @@ returns-in-Some-tick-clause-ends g c =
     c.in-Some-tick.ensures.ticks
     record { inbound = c.in-Some-tick.ensures.inbound; faults = c.in-Some-tick.ensures.count; vault = c.in-Some-tick.ensures.vault.later; settings = c.in-Some-tick.ensures.settings }
 
+pub returns-in-Some-hear-clause-vault : goal.returns-in-Some-hear-clause-vault
+returns-in-Some-hear-clause-vault g c = vault_then _ _ _ _ _ _ _ _ _ _ _ _ c.loop-taken.invariant.4 c.in-Some-hear.ensures.vault (λ z. absurd z) (λ z. cc) (λ z. cc)
+
+pub returns-in-Some-tick-clause-vault : goal.returns-in-Some-tick-clause-vault
+returns-in-Some-tick-clause-vault g c =
+    vault_then _ _ _ _ _ _ _ _ _ _ _ _ (vault_then _ _ _ _ _ _ _ _ _ _ _ ⊥ c.loop-taken.invariant.4 c.in_default-hear.ensures.vault (λ z. absurd z) (λ z. absurd z) (λ z. cc)) c.in-Some-tick.ensures.vault (λ z. absurd z) (λ z. cc) (λ z. cc)
+
 pub loop-taken-preserved-in_default-tick : goal.loop-taken-preserved-in_default-tick
 loop-taken-preserved-in_default-tick g c =
     let laws : StepLaws = record { sends_law = c.law_steps.ensures.sends; holds_law = c.law_steps.ensures.holds } in
@@ -90,8 +98,9 @@ loop-taken-preserved-in_default-tick g c =
       quiet_from _ _ _ _ _ _ _ ticked (g.K.Sink.inbound c.read.new.self) (c.in_default-tick.ensures.inbound ∙ c.in_default-hear.ensures.inbound) (none_run _ _ c.in-Bytes.ensures.octets.3),
       grind (arith, common_steps),
       c.requires.quiets.0,
-      vault_then _ _ _ _ _ _ _ _ _ _ _ _ (vault_then _ _ _ _ _ _ _ _ _ _ _ ⊥ c.loop-taken.invariant.4 c.in_default-hear.ensures.vault (λ z. absurd z)) c.in_default-tick.ensures.vault (λ z. absurd z),
-      c.in_default-tick.ensures.settings ∙ c.in_default-hear.ensures.settings ∙ c.loop-taken.invariant.5,
+      vault_then _ _ _ _ _ _ _ _ _ _ _ _ (vault_then _ _ _ _ _ _ _ _ _ _ _ ⊥ c.loop-taken.invariant.4 c.in_default-hear.ensures.vault (λ z. absurd z) (λ z. absurd z) (λ z. cc)) c.in_default-tick.ensures.vault (λ z. absurd z) (λ z. absurd z) (λ z. cc),
+      c.in_default-tick.ensures.still (λ z. cc) ∙ c.in_default-hear.ensures.still (λ z. cc) ∙ c.in-Bytes.ensures.cause.still (λ z. cc) ∙ c.loop-taken.invariant.5,
+      c.in_default-tick.ensures.settings ∙ c.in_default-hear.ensures.settings ∙ c.loop-taken.invariant.6,
     )
 
 pub returns-in-Some-tick-2-clause-ends : goal.returns-in-Some-tick-2-clause-ends
@@ -118,8 +127,9 @@ loop-taken-preserved g c =
       quiet_kept _ _ _ _ quiet c.in_default-tick-2.ensures.inbound,
       c.loop-taken.invariant.2,
       omega (arith, c.loop-taken.invariant.3, c.if-quiet-quiets.false),
-      vault_then _ _ _ _ _ _ _ _ _ _ _ _ c.loop-taken.invariant.4 c.in_default-tick-2.ensures.vault (λ z. absurd z),
-      c.in_default-tick-2.ensures.settings ∙ c.loop-taken.invariant.5,
+      vault_then _ _ _ _ _ _ _ _ _ _ _ _ c.loop-taken.invariant.4 c.in_default-tick-2.ensures.vault (λ z. absurd z) (λ z. absurd z) (λ z. cc),
+      c.in_default-tick-2.ensures.still (λ z. cc) ∙ c.in-Quiet.ensures.cause.still (λ z. cc) ∙ c.loop-taken.invariant.5,
+      c.in_default-tick-2.ensures.settings ∙ c.loop-taken.invariant.6,
     )
 
 pub returns-in-Some-clause-quiet : goal.returns-in-Some-clause-quiet

@@ -15,6 +15,7 @@ invariant-loop-taken g l =
     × (l.taken ≤ l.octets)
     × (l.quiet < l.quiets)
     × VaultStays (g.V.Vault.faults l.fn.terminal.vault) (g.V.Vault.faults l.terminal.vault) (g.V.Vault.limit l.fn.terminal.vault) (g.V.Vault.limit l.terminal.vault) (g.V.Vault.may_fail l.fn.terminal.vault) (g.V.Vault.may_fail l.terminal.vault) ⊥
+    × (g.K.Sink.faults l.link ≡ g.K.Sink.faults l.fn.link)
     × (l.terminal.state.settings ≡ l.fn.terminal.state.settings)
 
 abbrev pub decreases-loop-taken : goal.decreases-loop-taken

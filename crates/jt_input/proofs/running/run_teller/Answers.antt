@@ -1,4 +1,4 @@
-use Rattle.std.proofs.Common.{arith, refl}
+use Rattle.std.proofs.Common.{arith, refl, ◌∙◌}
 use Rattle.std.proofs.lemmas.Grind.{common_steps}
 use Rattle.jt_input.proofs.Runs.{runs_more, runs_last, runs_end, runs_failed, reads_no_further, prints_taken, stops_at_write, consumes_nothing}
 use Rattle.jt_input.proofs.Steps.{some_part, end_part}
@@ -11,8 +11,8 @@ loop-count-preserved g c =
     let advances = rw c.in-None.is at c.advance.ensures.advances in (
       λ asked began. runs_more _ asked _ _ _ _ _ _ _ _ _ (so_far.0 asked began) c.in-Bytes.ensures.octets.2 advances,
       c.in-None.ensures.can refl,
-      omega arith,
-      omega arith,
+      c.in-Bytes.ensures.cause.still (λ e. cc) ∙ so_far.2,
+      c.in-None.ensures.still (λ e. cc) ∙ so_far.3,
     )
 
 pub returns-in-Some-clause-runs : goal.returns-in-Some-clause-runs

@@ -1,4 +1,4 @@
-use Rattle.std.proofs.Common.{◌+◌, length, arith}
+use Rattle.std.proofs.Common.{◌+◌, ◌∙◌, length, arith}
 use Rattle.jt_platform_command.proofs.Hearing.{goes_on, ends_bad, ends_beyond, ends_last, ends_last_bad, ends_here, ends_failed, ends_memory, ends_last_memory, good_is, bad_is}
 use Rattle.jt_input.proofs.Fronts.{few_lines}
 use Rattle.jt_platform_command.proofs.fleet_reader.read_fleet.Goals as goal
@@ -22,7 +22,7 @@ pub loop-naming-preserved : goal.loop-naming-preserved
 loop-naming-preserved g c =
     let h = c.loop-naming.invariant.0 in
     let said = good_is c.in-Ok-true.field-0 c.loop-naming.naming c.hear.new.self _ _ c.in-Ok-true.field-0-test c.line.ensures c.in-Ok-true.ensures in
-    (goes_on _ _ _ _ _ _ _ _ h (c.in-Line.ensures.goes h.text h.lines h.told) said, omega (arith, c.loop-naming.invariant.1, c.in-Line.ensures.later))
+    (goes_on _ _ _ _ _ _ _ _ h (c.in-Line.ensures.goes h.text h.lines h.told) said, c.in-Line.ensures.still (λ e. cc) ∙ c.loop-naming.invariant.1)
 
 pub returns-in-Ok-false-clause-reads : goal.returns-in-Ok-false-clause-reads
 returns-in-Ok-false-clause-reads g c =

@@ -1,4 +1,4 @@
-use Rattle.std.proofs.Common.{◌≤◌, ◌+◌, take, ap, arith, rules, refl, length-take}
+use Rattle.std.proofs.Common.{◌≤◌, ◌+◌, ◌∙◌, sym, take, ap, arith, rules, refl, length-take}
 use Rattle.std.specs.Option.{option_map}
 use Rattle.jt_outside.specs.Link.{wire_of}
 use Rattle.jt_platform.specs.Hub.{opening_of}
@@ -11,6 +11,7 @@ pub loop-read-init : goal.loop-read-init
 loop-read-init g c = record {
   within = omega arith;
   few = omega arith;
+  still = refl;
   course = course_begun (option_map (λ o. opening_of (g.P.Keeper.tables o.start) (g.P.Keeper.limit o.start) o.fleet o.secret) c.args.pass.now.opening) c.args.session.now c.args.pass.now (wire_of g.K.Sink.inbound g.K.Sink.written g.K.Sink.faults c.args.link.now) c.requires.new c.requires.place;
 }
 
@@ -27,6 +28,7 @@ loop-read-preserved-in-None g c =
     record {
       within = within;
       few = omega arith;
+      still = c.answer-done.ensures.still (λ e. absurd (let f = sym c.in-None.is ∙ e in cc)) ∙ c.in-Bytes.ensures.cause.still (λ e. cc) ∙ c.loop-read.invariant.still;
       course =
           course_reads (option_map (λ o. opening_of (g.P.Keeper.tables o.start) (g.P.Keeper.limit o.start) o.fleet o.secret) c.args.pass.now.opening) c.args.session.now c.args.pass.now (wire_of g.K.Sink.inbound g.K.Sink.written g.K.Sink.faults c.args.link.now) c.loop-read.session c.loop-read.pass (wire_of g.K.Sink.inbound g.K.Sink.written g.K.Sink.faults c.loop-read.link) (wire_of g.K.Sink.inbound g.K.Sink.written g.K.Sink.faults c.read.new.self) c.loop-read.read c.loop-read.written c.loop-read.quiets c.loop-read.invariant.course c.read.ensures.written (take c.in-Bytes.count c.read.new.buf) c.in-Bytes.count c.in-Bytes.ensures.octets.2 c.in-Bytes.ensures.cause c.answer-done.ensures.fit
           (option_map (λ o. opening_of (g.P.Keeper.tables o.start) (g.P.Keeper.limit o.start) o.fleet o.secret) c.loop-read.pass.opening) (ap (λ x. option_map (λ o. opening_of (g.P.Keeper.tables o.start) (g.P.Keeper.limit o.start) o.fleet o.secret) x) c.loop-read.invariant.course.same.opening) c.answer-done.new.session c.answer-done.new.pass (wire_of g.K.Sink.inbound g.K.Sink.written g.K.Sink.faults c.answer-done.new.link) c.answer-done.result.0 c.answer-done.result.1 c.answer-done.ensures.answers c.answer-done.ensures.same

@@ -1,4 +1,4 @@
-use Rattle.std.proofs.Common.{◌≤◌, ◌<◌, ◌+◌, ◌-◌, ◌*◌}
+use Rattle.std.proofs.Common.{◌≡◌, ◌≤◌, ◌<◌, ◌+◌, ◌-◌, ◌*◌}
 use Rattle.std.specs.Option.{option_map}
 use Rattle.jt_outside.specs.Link.{wire_of}
 use Rattle.jt_platform.specs.Hub.{opening_of}
@@ -9,6 +9,7 @@ abbrev pub invariant-loop-read : goal.invariant-loop-read
 invariant-loop-read g l = record {
   within : l.read ≤ l.octets;
   few : l.quiets < 3;
+  still : g.K.Sink.faults l.link ≡ g.K.Sink.faults l.fn.link;
   course :
       Course (option_map (λ o. opening_of (g.P.Keeper.tables o.start) (g.P.Keeper.limit o.start) o.fleet o.secret) l.fn.pass.opening) l.fn.session l.session l.fn.pass l.pass (wire_of g.K.Sink.inbound g.K.Sink.written g.K.Sink.faults l.fn.link) (wire_of g.K.Sink.inbound g.K.Sink.written g.K.Sink.faults l.link) l.read l.written l.quiets;
 }

@@ -26,7 +26,7 @@ loop-taken-preserved g c =
       place = omega (arith, did.place, kept.place);
       sound = did.sound;
       same = same_on c.args.state.now c.loop-taken.state c.hear_item.new.state kept.same did.same;
-      steady = steady_on (g.V.Vault.faults c.args.vault.now) (g.V.Vault.faults c.loop-taken.vault) (g.V.Vault.faults c.hear_item.new.vault) (g.V.Vault.limit c.args.vault.now) (g.V.Vault.limit c.loop-taken.vault) (g.V.Vault.limit c.hear_item.new.vault) (g.V.Vault.may_fail c.args.vault.now) (g.V.Vault.may_fail c.loop-taken.vault) (g.V.Vault.may_fail c.hear_item.new.vault) _ kept.steady did.outside;
+      steady = steady_on (g.V.Vault.faults c.args.vault.now) (g.V.Vault.faults c.loop-taken.vault) (g.V.Vault.faults c.hear_item.new.vault) (g.V.Vault.limit c.args.vault.now) (g.V.Vault.limit c.loop-taken.vault) (g.V.Vault.limit c.hear_item.new.vault) (g.V.Vault.may_fail c.args.vault.now) (g.V.Vault.may_fail c.loop-taken.vault) (g.V.Vault.may_fail c.hear_item.new.vault) _ kept.steady did.outside (λ e. cc);
     }
 
 pub returns-in_err-count-clause-place : goal.returns-in_err-count-clause-place

@@ -1,4 +1,4 @@
-use Rattle.std.proofs.Common.{◌++◌, refl, ap, arith}
+use Rattle.std.proofs.Common.{◌++◌, ◌∙◌, refl, ap, arith}
 use Rattle.std.proofs.KnownBytes.{Consumes-kept}
 use Rattle.jt_input.specs.declared.line_cutter.Cut.TheVariants as cut
 use Rattle.jt_input.specs.LineReading.{Reading}
@@ -26,7 +26,7 @@ returns-in-Bad-clause-goes g c = λ text lines told.
 
 pub loop-self-preserved : goal.loop-self-preserved
 loop-self-preserved g c =
-    (reads_on c.args.self.now _ _ _ _ _ _ c.loop-self.invariant.0 c.in-More.ensures c.in-Bytes.ensures.held c.in-Bytes.ensures.ahead.1, omega (arith, c.loop-self.invariant.1, c.in-Bytes.ensures.cause.later))
+    (reads_on c.args.self.now _ _ _ _ _ _ c.loop-self.invariant.0 c.in-More.ensures c.in-Bytes.ensures.held c.in-Bytes.ensures.ahead.1, c.in-Bytes.ensures.cause.still (λ e. cc) ∙ c.loop-self.invariant.1)
 
 pub returns-in-End-clause-goes : goal.returns-in-End-clause-goes
 returns-in-End-clause-goes g c = λ text lines told.
