@@ -181,12 +181,19 @@ module _ (s mid now : Seen) (a b : List ℕ) (o : Opening) (h h_mid h_now : List
       subst (λ x. MayTurn o h s.number x newer) (at_mid s mid now a b older newer first.went second.went on)
       (may_onto o h s.number k' (before mid) newer (subst (λ n. MayTurn o (entries_on s.number k'.entries ++ h) n (before mid) newer) first.went.number (subst (λ e. MayTurn o e mid.number (before mid) newer) first.entries second.allowed)))
 
+  -- with the turns of both
+  pub feeds_joined : AreOctets a → (all : Feeds s now (a ++ b) o h h_now out out_now fed) × (all.turns ≡ newer ++ older)
+  feeds_joined are_a = (
+    record {
+      turns = newer ++ older;
+      went = both_turns s mid now a b older newer first.went second.went on are_a;
+      allowed = may_append o h s.number (before s) newer older may_then first.allowed;
+      entries = second.entries ∙ (ap (λ e. entries_on mid.number j'.entries ++ e) first.entries ∙ history);
+      wrote = second.wrote ∙ (ap (λ o. o ++ j'.written) first.wrote ∙ (append_assoc out k'.written j'.written ∙ ap (λ (x : Talked). out ++ x.written) (sym same_talk)));
+      ended = second.ended ∙ sym (end_append newer older (sym first.ended));
+    },
+    refl,
+  )
+
   pub feeds_both : AreOctets a → Feeds s now (a ++ b) o h h_now out out_now fed
-  feeds_both are_a = record {
-    turns = newer ++ older;
-    went = both_turns s mid now a b older newer first.went second.went on are_a;
-    allowed = may_append o h s.number (before s) newer older may_then first.allowed;
-    entries = second.entries ∙ (ap (λ e. entries_on mid.number j'.entries ++ e) first.entries ∙ history);
-    wrote = second.wrote ∙ (ap (λ o. o ++ j'.written) first.wrote ∙ (append_assoc out k'.written j'.written ∙ ap (λ (x : Talked). out ++ x.written) (sym same_talk)));
-    ended = second.ended ∙ sym (end_append newer older (sym first.ended));
-  }
+  feeds_both are_a = (feeds_joined are_a).0

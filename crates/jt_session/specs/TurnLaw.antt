@@ -3,12 +3,14 @@ use Rattle.std.specs.Prelude.{◌≡◌, ◌↔◌, ℕ, List, [], ◌∷◌, �
 use Rattle.jt_value.specs.Octets.{AreOctets}
 use Rattle.jt_escape.specs.Splitter.{StandsFor}
 use Rattle.jt_stream.specs.Unplaced.{Unplaced}
-use Rattle.jt_platform.specs.Allowed.{makes_entry}
+use Rattle.jt_platform.specs.Allowed.{Opening, makes_entry}
+use Rattle.jt_platform.specs.declared.request.Entry.{Entry}
 use Rattle.jt_platform.specs.declared.request.Request.{Request}
 use Rattle.jt_platform.specs.declared.request.Reply.{Reply}
+use Rattle.jt_session.specs.declared.end.Fed.{Fed}
 use Rattle.jt_session.specs.declared.end.Fed.TheVariants.{On}
 use Rattle.jt_session.specs.Talk.{Turn, Talk, FitsFrom, asks, start, talk_from}
-use Rattle.jt_session.specs.Sessions.{AreUnasked, Seen, Turns, before, end_of, ended_short, turn_by}
+use Rattle.jt_session.specs.Sessions.{AreUnasked, Feeds, Seen, Turns, before, end_of, ended_short, turn_by}
 
 -- a session that has read nothing
 pub record IsNew (s : Seen) : Type 0 where
@@ -37,3 +39,12 @@ pub record TurnsGoOn : Type 0 where
   pub behind : (s now : Seen) (a b : List ℕ) (turns : List Turn) → now.over ≡ true → Turns s now a turns → Turns s now (a ++ b) turns
   -- the turns of a new session, where no request waits, are a talk
   pub talk : (s now : Seen) (read : List ℕ) (turns : List Turn) → IsNew s → now.waiting ≡ None → Turns s now read turns → Talk read (talk_from (before s) turns).entries (talk_from (before s) turns).written
+
+-- octets that are fed one piece after another
+pub record FeedsGoOn : Type 0 where
+  -- octets fed behind others, over the hub that those left, are fed as both at once, with the turns of both
+  pub both : (s mid now : Seen) (a b : List ℕ) (o : Opening) (h h_mid h_now : List Entry) (out out_mid out_now : List ℕ) (fed : Fed) (first : Feeds s mid a o h h_mid out out_mid On) (second : Feeds mid now b o h_mid h_now out_mid out_now fed)
+      → mid.over ≡ false → AreOctets a → (all : Feeds s now (a ++ b) o h h_now out out_now fed) × (all.turns ≡ second.turns ++ first.turns)
+  -- octets behind the item that ended a session change nothing
+  pub behind : (s now : Seen) (a b : List ℕ) (o : Opening) (h h_now : List Entry) (out out_now : List ℕ) (fed : Fed) (first : Feeds s now a o h h_now out out_now fed)
+      → now.over ≡ true → (all : Feeds s now (a ++ b) o h h_now out out_now fed) × (all.turns ≡ first.turns)

@@ -2,7 +2,7 @@
 
 ghost use Rattle.jt_session.specs.AnswerLaw.{AnswersAre, RequestsAre};
 ghost use Rattle.jt_session.specs.Law.{IsAcceptedOnceStored, IsOneTalk};
-ghost use Rattle.jt_session.specs.TurnLaw.{TurnsGoOn};
+ghost use Rattle.jt_session.specs.TurnLaw.{FeedsGoOn, TurnsGoOn};
 
 use jt_codec::{law_of_acks, law_of_bodies};
 use jt_stream::{law_frames, law_front};
@@ -27,6 +27,14 @@ pub fn law_of_turns()
 {
     law_front();
     law_frames();
+}
+
+/// The law of feeding, with nothing to run: octets fed behind others are fed as both at once, and octets behind the item that ended a
+/// session change nothing.
+pub fn law_of_feeds()
+    ensures { FeedsGoOn }
+{
+    law_front();
 }
 
 /// The law of requests, with nothing to run: what a frame may ask, by its id, and always of its own phone; and a unit in one
