@@ -6,7 +6,8 @@ use Rattle.std.proofs.lemmas.List.{length_push, length-map, map-append, get_or_a
 use Rattle.std.proofs.lemmas.List.Elements.{Contains-push_cases, Contains-append_cases}
 use Rattle.jt_value.specs.declared.phone.Edition.{Edition}
 use Rattle.jt_order.specs.declared.performed.Performed.{Performed}
-use Rattle.jt_obeying.specs.Orders.{Performing, OrderTables, orders_in, results_in, result_at, tables_behind, tables_of}
+use Rattle.jt_terminal_answers.specs.Performing.{HeldTables}
+use Rattle.jt_obeying.specs.Orders.{Performing, orders_in, results_in, result_at, tables_behind, tables_of}
 use Rattle.jt_obeying.specs.World.{Up, Answer, OtherMessage, Down, OrderMessage, OtherAnswer, Line, put}
 use Rattle.jt_obeying.specs.Steps.{AtMostOneOther}
 use Rattle.jt_obeying.specs.Record.{orders_among, answers_among, IsOne, Rise, AgreeWithLog, AreResults}
@@ -28,12 +29,12 @@ result_before log p i lt = ap (λ (rs : List ℕ). get_or rs i 0) (results_push 
 pub result_new : (log : List Performed) (p : Performed) → result_at (log ++ p ∷ []) (length log) ≡ p.result
 result_new log p = ap (λ (rs : List ℕ). get_or rs (length log) 0) (results_push log p) ∙ get_or_push (results_in log) p.result 0 (length log) (length_results log)
 
-pub tables_push : (performing : Performing) (t : OrderTables) (log : List Performed) (p : Performed)
+pub tables_push : (performing : Performing) (t : HeldTables) (log : List Performed) (p : Performed)
     → tables_of performing t (log ++ p ∷ []) ≡ tables_behind performing (tables_of performing t log) p
 tables_push performing t [] p = refl
 tables_push performing t (x ∷ log) p = tables_push performing (tables_behind performing t x) log p
 
-pub are_results_push : (performing : Performing) (edition : Edition) (t : OrderTables) (log : List Performed) (p : Performed) → AreResults performing t log
+pub are_results_push : (performing : Performing) (edition : Edition) (t : HeldTables) (log : List Performed) (p : Performed) → AreResults performing t log
     → performing.refuses edition p.order ≡ false → p.result ≡ performing.result edition (tables_of performing t log) p.order → AreResults performing t (log ++ p ∷ [])
 are_results_push performing edition t [] p h readable e = ((edition, readable, e), tt)
 are_results_push performing edition t (x ∷ log) p h readable e = (h.0, are_results_push performing edition (tables_behind performing t x) log p h.1 readable e)

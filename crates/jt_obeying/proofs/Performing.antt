@@ -19,12 +19,12 @@ use Rattle.jt_terminal_rule.specs.declared.state.State.{State}
 use Rattle.jt_terminal_rule.specs.Answers.{answer_to, takes_params, takes_regions, takes_change}
 use Rattle.jt_terminal_rule.specs.Tables.{params_after, regions_after}
 use Rattle.jt_order.specs.Orders.{is_order_id}
-use Rattle.jt_obeying.specs.Orders.{OrderTables}
-use Rattle.jt_obeying.specs.Performing.{with_params, with_regions, with_change, message_outcome, reading_outcome, AnswersWith, PerformsAsTheTerminal, EditionsLeaveTheSame}
+use Rattle.jt_terminal_answers.specs.Performing.{HeldTables, with_params, with_regions, with_change, message_outcome}
+use Rattle.jt_obeying.specs.Performing.{reading_outcome, AnswersWith, PerformsAsTheTerminal, EditionsLeaveTheSame}
 use Rattle.jt_obeying.proofs.OrderKinds.{IsOrderKind, of_order, reads_as_order}
 
 module _ (s : State) (h : Header) where
-  abbrev tables : OrderTables
+  abbrev tables : HeldTables
   tables = record { params = s.params; regions = s.regions }
 
   by_params : (params : List Param) (after : Option Table) → AnswersWith s h (takes_params s h params after) (with_params tables after)
@@ -58,9 +58,9 @@ as_the_terminal s h edition order m is reads =
 -- ---- with result 0 an order leaves the same tables in both editions
 
 abbrev LeavesTheSame : ℕ → Type 0
-LeavesTheSame id = (t : OrderTables) (octets : List ℕ) → (reading_outcome t ((body E2019 id).read octets 0)).0 ≡ 0 → (reading_outcome t ((body E2019 id).read octets 0)).1 ≡ (reading_outcome t ((body E2013 id).read octets 0)).1
+LeavesTheSame id = (t : HeldTables) (octets : List ℕ) → (reading_outcome t ((body E2019 id).read octets 0)).0 ≡ 0 → (reading_outcome t ((body E2019 id).read octets 0)).1 ≡ (reading_outcome t ((body E2013 id).read octets 0)).1
 
-module _ {A : Type 0} (make : A → Message) (t : OrderTables) where
+module _ {A : Type 0} (make : A → Message) (t : HeldTables) where
   -- what changes no tables
   leaves_all : ((x : A) → (message_outcome t (make x)).1 ≡ t) → (r : Result A Refusal) → (reading_outcome t (r >>= λ x. Ok (make x))).1 ≡ t
   leaves_all same (Ok x) = same x

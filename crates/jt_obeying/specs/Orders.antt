@@ -2,9 +2,8 @@
 use Rattle.std.specs.Prelude.{ℕ, ◌-◌, ◌==◌, if◌then◌else◌, Bool, List, [], ◌∷◌, map, length, get_or, slice_get, Option}
 use Rattle.std.specs.FinMap.{empty}
 use Rattle.jt_value.specs.declared.phone.Edition.{Edition}
-use Rattle.jt_params.specs.Tables.{Table}
-use Rattle.jt_regions.specs.Tables.{Regions}
 use Rattle.jt_terminal_rule.specs.Tables.{no_regions}
+use Rattle.jt_terminal_answers.specs.Performing.{HeldTables}
 use Rattle.jt_order.specs.Orders.{OrderOf}
 use Rattle.jt_order.specs.Rules.{ruling_by}
 use Rattle.jt_order.specs.declared.performed.Performed.{Performed}
@@ -29,13 +28,8 @@ result_at log place = get_or (results_in log) place 0
 
 -- ---- tables
 
--- what orders change
-pub record OrderTables : Type 0 where
-  pub params : Table
-  pub regions : Regions
-
 -- the tables of a terminal that performed nothing
-abbrev pub no_tables : OrderTables
+abbrev pub no_tables : HeldTables
 no_tables = record { params = empty; regions = no_regions }
 
 -- The result of an order at a terminal, and the tables it leaves. The edition is the one in which the message of an order is read.
@@ -43,20 +37,20 @@ pub record Performing : Type 0 where
   -- whether the body of an order is refused
   pub refuses : Edition → OrderOf → Bool
   -- the result of an order over tables
-  pub result : Edition → OrderTables → OrderOf → ℕ
+  pub result : Edition → HeldTables → OrderOf → ℕ
   -- the tables that an order leaves where its result is 0, in whichever edition it was read
-  pub leaves : OrderTables → OrderOf → OrderTables
+  pub leaves : HeldTables → OrderOf → HeldTables
 
 -- the order, with the result that it has over these tables
-abbrev pub performed_over : Performing → Edition → OrderTables → OrderOf → Performed
+abbrev pub performed_over : Performing → Edition → HeldTables → OrderOf → Performed
 performed_over performing edition t order = record { order = order; result = performing.result edition t order }
 
 -- the tables behind a performed order; one with another result than 0 changes nothing
-abbrev pub tables_behind : Performing → OrderTables → Performed → OrderTables
+abbrev pub tables_behind : Performing → HeldTables → Performed → HeldTables
 tables_behind performing t p = if p.result == 0 then performing.leaves t p.order else t
 
 -- the tables behind performed orders, one after another
-abbrev pub tables_of : Performing → OrderTables → List Performed → OrderTables
+abbrev pub tables_of : Performing → HeldTables → List Performed → HeldTables
 tables_of performing t [] = t
 tables_of performing t (p ∷ more) = tables_of performing (tables_behind performing t p) more
 

@@ -5,7 +5,8 @@ use Rattle.jt_platform.specs.declared.request.Entry.{Entry}
 use Rattle.jt_platform.specs.History.{live, holder}
 use Rattle.jt_order.specs.Orders.{IsOrder}
 use Rattle.jt_order.specs.declared.performed.Performed.{Performed}
-use Rattle.jt_obeying.specs.Orders.{Performing, OrderTables, tables_behind, no_tables, tables_of, orders_in, order_at, results_in, result_at}
+use Rattle.jt_terminal_answers.specs.Performing.{HeldTables}
+use Rattle.jt_obeying.specs.Orders.{Performing, tables_behind, no_tables, tables_of, orders_in, order_at, results_in, result_at}
 use Rattle.jt_obeying.specs.World.{Up, Answer, OtherMessage, Down, OrderMessage, OtherAnswer, Line, OrderWorld}
 
 -- the places of the orders among these messages, and of those that these messages answer
@@ -41,11 +42,11 @@ AgreeWithLog log (Answer place result ∷ more) = (place < length log) × (resul
 AgreeWithLog log (OtherMessage ∷ more) = AgreeWithLog log more
 
 -- in one of the editions the order's body is not refused, and over these tables it has this result
-abbrev pub IsResult : Performing → OrderTables → Performed → Type 0
+abbrev pub IsResult : Performing → HeldTables → Performed → Type 0
 IsResult performing t p = (edition : Edition) × (performing.refuses edition p.order ≡ false) × (p.result ≡ performing.result edition t p.order)
 
 -- each result is that of its order over the tables behind those before it
-abbrev pub AreResults : Performing → OrderTables → List Performed → Type 0
+abbrev pub AreResults : Performing → HeldTables → List Performed → Type 0
 AreResults performing t [] = Unit {0}
 AreResults performing t (p ∷ more) = IsResult performing t p × AreResults performing (tables_behind performing t p) more
 

@@ -18,7 +18,8 @@ use Rattle.jt_order.specs.declared.rules.Ruling.{Ruling}
 use Rattle.jt_order.specs.declared.rules.Ruling.TheVariants.{Again, Performs, Refuses}
 use Rattle.jt_delivery.specs.World.{IsOpened}
 use Rattle.jt_delivery.specs.Steps.{entry, is_fenced}
-use Rattle.jt_obeying.specs.Orders.{OrderTables, order_at, performed_over, tables_behind, no_tables, tables_of, ruling}
+use Rattle.jt_terminal_answers.specs.Performing.{HeldTables}
+use Rattle.jt_obeying.specs.Orders.{order_at, performed_over, tables_behind, no_tables, tables_of, ruling}
 use Rattle.jt_obeying.specs.World.{Up, Answer, OtherMessage, Down, OrderMessage, OtherAnswer, Line, OrderWorld, new_line, put, opening}
 
 -- how a session goes on at a message, and what it writes itself
@@ -225,7 +226,7 @@ log_by w place (Again result) = w.log
 log_by w place Performs = w.log ++ performed_at w place ∷ []
 log_by w place Refuses = w.log
 
-abbrev pub tables_by : OrderWorld → ℕ → Ruling → OrderTables
+abbrev pub tables_by : OrderWorld → ℕ → Ruling → HeldTables
 tables_by w place (Again result) = w.tables
 tables_by w place Performs = tables_behind w.performing w.tables (performed_at w place)
 tables_by w place Refuses = w.tables

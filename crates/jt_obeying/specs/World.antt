@@ -8,7 +8,8 @@ use Rattle.jt_platform.specs.Allowed.{Opening}
 use Rattle.jt_order.specs.Orders.{OrderOf}
 use Rattle.jt_order.specs.declared.performed.Performed.{Performed}
 use Rattle.jt_delivery.specs.World.{Setting}
-use Rattle.jt_obeying.specs.Orders.{Performing, OrderTables}
+use Rattle.jt_terminal_answers.specs.Performing.{HeldTables}
+use Rattle.jt_obeying.specs.Orders.{Performing}
 
 -- ---- messages. An order is named by its place: orders count from 0 as they were issued. Its message has the serial of that number.
 
@@ -68,7 +69,7 @@ pub record OrderWorld : Type 0 where
   pub results : List ℕ
   -- the order terminal's log, and its tables
   pub log : List Performed
-  pub tables : OrderTables
+  pub tables : HeldTables
   -- whether the newest line is in use
   pub using : Bool
   -- how many lines were opened, and the lines by their numbers, from 1 on

@@ -20,23 +20,24 @@ use Rattle.jt_terminal_rule.specs.declared.state.AnswerKind.TheVariants.{Positio
 use Rattle.jt_terminal_rule.specs.Answers.{answer_to, answer_to_lack, only_says, responds, takes_params, takes_regions, tells_position}
 use Rattle.jt_terminal_rule.specs.Tables.{params_after, regions_after}
 use Rattle.jt_order.specs.Orders.{OrderOf, IsOrder}
-use Rattle.jt_obeying.specs.Orders.{Performing, OrderTables, order_at, performed_over, tables_behind}
+use Rattle.jt_terminal_answers.specs.Performing.{HeldTables, with_params, with_regions, message_outcome}
+use Rattle.jt_obeying.specs.Orders.{Performing, order_at, performed_over, tables_behind}
 use Rattle.jt_obeying.specs.World.{OrderWorld}
-use Rattle.jt_obeying.specs.Performing.{EditionsLeaveTheSame, with_params, with_regions, message_outcome, reading_outcome, reading, order_outcome, terminal_performing}
+use Rattle.jt_obeying.specs.Performing.{EditionsLeaveTheSame, reading_outcome, reading, order_outcome, terminal_performing}
 use Rattle.jt_order_turns.specs.Headers.{order_header}
 use Rattle.jt_order_turns.specs.Frames.{IsSeen, FramesAreSeen, NamesItsMessage, ResponsesName}
 
 -- ---- with another result than 0 the tables stay
 
-params_stay : (t : OrderTables) (after : Option Table) → ((with_params t after).0 ≡ 0 → ⊥) → (with_params t after).1 ≡ t
+params_stay : (t : HeldTables) (after : Option Table) → ((with_params t after).0 ≡ 0 → ⊥) → (with_params t after).1 ≡ t
 params_stay t None fails = refl
 params_stay t (Some table) fails = absurd (fails refl)
 
-regions_stay : (t : OrderTables) (after : Option Regions) → ((with_regions t after).0 ≡ 0 → ⊥) → (with_regions t after).1 ≡ t
+regions_stay : (t : HeldTables) (after : Option Regions) → ((with_regions t after).0 ≡ 0 → ⊥) → (with_regions t after).1 ≡ t
 regions_stay t None fails = refl
 regions_stay t (Some regions) fails = absurd (fails refl)
 
-tables_stay : (t : OrderTables) (m : Message) → ((message_outcome t m).0 ≡ 0 → ⊥) → (message_outcome t m).1 ≡ t
+tables_stay : (t : HeldTables) (m : Message) → ((message_outcome t m).0 ≡ 0 → ⊥) → (message_outcome t m).1 ≡ t
 tables_stay t (message.SetParams params) fails = params_stay t (params_after params t.params) fails
 tables_stay t (message.Text flag kind text) fails = refl
 tables_stay t (message.Circles setting list) fails = regions_stay t (regions_after (change.Circles setting list) t.regions) fails
@@ -46,14 +47,14 @@ tables_stay t (message.Route route) fails = regions_stay t (regions_after (chang
 tables_stay t (message.Delete kind ids) fails = regions_stay t (regions_after (change.Delete kind ids) t.regions) fails
 tables_stay t _ fails = refl
 
-outcome_stays : (t : OrderTables) (r : Result Message Refusal) → ((reading_outcome t r).0 ≡ 0 → ⊥) → (reading_outcome t r).1 ≡ t
+outcome_stays : (t : HeldTables) (r : Result Message Refusal) → ((reading_outcome t r).0 ≡ 0 → ⊥) → (reading_outcome t r).1 ≡ t
 outcome_stays t (Ok m) fails = tables_stay t m fails
 outcome_stays t (Err refusal) fails = refl
 
 -- ---- an order's frame
 
-module _ (same : EditionsLeaveTheSame) (edition : Edition) (t : OrderTables) (order : OrderOf) (is : IsOrder order) where
-  abbrev outcome : ℕ × OrderTables
+module _ (same : EditionsLeaveTheSame) (edition : Edition) (t : HeldTables) (order : OrderOf) (is : IsOrder order) where
+  abbrev outcome : ℕ × HeldTables
   outcome = order_outcome edition t order
 
   leaves_by : (done : Bool) → (outcome.0 == 0) ≡ done → outcome.1 ≡ (if done then terminal_performing.leaves t order else t)

@@ -142,6 +142,15 @@ impl ParamTable {
         Ok(())
     }
 
+    /// The same table again.
+    pub fn copy(&self) -> Result<ParamTable, Memory>
+        ensures { IfOk result (λ copy. copy ≡ self.now) }
+    {
+        Ok(ParamTable {
+            values: self.values.clone()?,
+        })
+    }
+
     /// All parameters in order of their ids.
     pub fn list(&self, alloc: Global) -> Result<Seq<Param>, Memory>
         ensures params { IfOk result (λ params. params ≡ listed self.now) }

@@ -6,8 +6,6 @@ ghost use Rattle.std.specs.List.{AllByRecursion};
 ghost use Rattle.jt_value.specs.declared.limits.TheConstants.{OCTET_COUNT_LIMIT};
 ghost use Rattle.jt_layout.specs.Layout.{word};
 ghost use Rattle.jt_params.specs.Tables.{HasOctets};
-ghost use Rattle.jt_region_bodies.specs.declared.kind.RegionKind.{RegionKind};
-ghost use Rattle.jt_regions.specs.declared.change.RegionChange.TheVariants as change;
 ghost use Rattle.jt_codec.specs.Bodies.{Fits, body_octets};
 ghost use Rattle.jt_codec.specs.declared.message.Message.TheVariants as message;
 ghost use Rattle.jt_terminal_rule.specs.Messages.{AreSettings, BeginsWith};
@@ -15,50 +13,17 @@ ghost use Rattle.jt_terminal_rule.specs.Answers as table;
 ghost use Rattle.jt_terminal_rule.specs.Rule as rule;
 ghost use Rattle.jt_terminal_answers.specs.Answering.{AllOrNothing};
 
+use crate::changes::{circles, deletion, polygon, rectangles, route};
 use crate::params::{set_params_of, tell_all, tell_some};
 use crate::position::tell_position;
 use crate::regions::change_regions;
 use crate::saying::{respond, say_answer};
 use jt_codec::{Message, Resend, write_body};
 use jt_header::Header;
-use jt_regions::{Circle, Polygon, Rectangle, RegionChange, RegionKind, Route};
 use jt_terminal_rule::{AnswerKind, State};
 use jt_value::results::{MESSAGE_ERROR, NOT_SUPPORTED, SUCCESS};
 use jt_value::{Edition, Memory, Octets, Seq};
 use std::alloc::Global;
-
-fn circles(alloc: Global, setting: u8, list: &Seq<Circle>) -> Result<RegionChange, Memory>
-    ensures { IfOk result (λ made. made ≡ change.Circles setting list.now) }
-{
-    let list = list.copy(alloc)?;
-    Ok(RegionChange::Circles { setting, list })
-}
-
-fn rectangles(alloc: Global, setting: u8, list: &Seq<Rectangle>) -> Result<RegionChange, Memory>
-    ensures { IfOk result (λ made. made ≡ change.Rectangles setting list.now) }
-{
-    let list = list.copy(alloc)?;
-    Ok(RegionChange::Rectangles { setting, list })
-}
-
-fn polygon(polygon: &Polygon) -> Result<RegionChange, Memory>
-    ensures { IfOk result (λ made. made ≡ change.Polygon polygon.now) }
-{
-    Ok(RegionChange::Polygon(polygon.clone()?))
-}
-
-fn route(route: &Route) -> Result<RegionChange, Memory>
-    ensures { IfOk result (λ made. made ≡ change.Route route.now) }
-{
-    Ok(RegionChange::Route(route.clone()?))
-}
-
-fn deletion(alloc: Global, kind: RegionKind, ids: &Seq<u32>) -> Result<RegionChange, Memory>
-    ensures { IfOk result (λ made. made ≡ change.Delete kind ids.now) }
-{
-    let ids = ids.copy(alloc)?;
-    Ok(RegionChange::Delete { kind, ids })
-}
 
 /// Answers a message by the table of answers: parameters and regions are set, told or changed, the position is told, and every
 /// other message but a response or a reply gets a general response. After want of memory nothing is changed, or times and

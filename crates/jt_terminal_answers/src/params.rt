@@ -11,7 +11,7 @@ ghost use Rattle.jt_terminal_rule.specs.Messages.{AreSettings, BeginsWith};
 ghost use Rattle.jt_terminal_rule.specs.Answers as table;
 ghost use Rattle.jt_terminal_rule.specs.Rule as rule;
 ghost use Rattle.jt_terminal_rule.specs.Tables.{params_after, set_params};
-ghost use Rattle.jt_terminal_answers.specs.Answering.{AllOrNothing, TookParams};
+ghost use Rattle.jt_terminal_answers.specs.Answering.{AllOrNothing, SetIn, TookParams};
 
 use crate::saying::{respond, say_answer};
 use jt_codec::{Message, write_body};
@@ -77,6 +77,20 @@ fn timing_after(timing: Timing, params: &[Param]) -> Timing
     now
 }
 
+// Whether a table took parameters.
+pub(crate) fn set_in(table: &mut ParamTable, params: &Seq<Param>) -> Result<bool, Memory>
+    requires few { length params.now ≤ OCTET_COUNT_LIMIT }
+    ensures ok { IfOk result (λ taken. SetIn taken table.old params.now table.new) }
+    ensures err { OnErr result (table.new ≡ table.old) }
+    ensures octets { HaveOctets params.now → HasOctets table.old → HasOctets table.new }
+{
+    match table.set_all(params) {
+        Ok(()) => Ok(true),
+        Err(ParamError::TooMany(_)) => Ok(false),
+        Err(ParamError::Memory) => Err(Memory),
+    }
+}
+
 // Whether the table took the parameters, and with them the times.
 fn take_params(state: &mut State, params: &Seq<Param>) -> Result<bool, Memory>
     requires few { length params.now ≤ OCTET_COUNT_LIMIT }
@@ -85,14 +99,11 @@ fn take_params(state: &mut State, params: &Seq<Param>) -> Result<bool, Memory>
     ensures octets { HaveOctets params.now → HasOctets state.old.params →
         HasOctets state.new.params }
 {
-    match state.params.set_all(params) {
-        Ok(()) => {
-            state.timing = timing_after(state.timing, params.as_slice());
-            Ok(true)
-        }
-        Err(ParamError::TooMany(_)) => Ok(false),
-        Err(ParamError::Memory) => Err(Memory),
+    if set_in(&mut state.params, params)? {
+        state.timing = timing_after(state.timing, params.as_slice());
+        return Ok(true);
     }
+    Ok(false)
 }
 
 // Sets parameters, and responds.

@@ -6,15 +6,28 @@ ghost use Rattle.jt_regions.specs.Tables.{AtMost};
 ghost use Rattle.jt_terminal_rule.specs.Messages.{AreSettings, BeginsWith};
 ghost use Rattle.jt_terminal_rule.specs.Answers as table;
 ghost use Rattle.jt_terminal_rule.specs.Rule as rule;
-ghost use Rattle.jt_terminal_answers.specs.Answering.{AllOrNothing, TookChange};
+ghost use Rattle.jt_terminal_answers.specs.Answering.{AllOrNothing, ChangedIn, TookChange};
 
 use crate::saying::respond;
 use jt_header::Header;
-use jt_regions::{RegionChange, RegionError};
+use jt_regions::{RegionChange, RegionError, RegionTable};
 use jt_terminal_rule::State;
 use jt_value::results::{FAILURE, SUCCESS};
 use jt_value::{Memory, Octets, Seq};
 use std::alloc::Global;
+
+// Whether a table took a change.
+pub(crate) fn change_in(table: &mut RegionTable, change: &RegionChange) -> Result<bool, Memory>
+    requires { AtMost WORD_COUNT_LIMIT change.now }
+    ensures ok { IfOk result (λ taken. ChangedIn taken table.old change.now table.new) }
+    ensures err { OnErr result (table.new ≡ table.old) }
+{
+    match table.apply(change) {
+        Ok(()) => Ok(true),
+        Err(RegionError::Memory) => Err(Memory),
+        Err(_) => Ok(false),
+    }
+}
 
 // Whether the table took the change.
 fn take_change(state: &mut State, change: &RegionChange) -> Result<bool, Memory>
@@ -22,11 +35,7 @@ fn take_change(state: &mut State, change: &RegionChange) -> Result<bool, Memory>
     ensures ok { IfOk result (λ taken. TookChange taken state.old change.now state.new) }
     ensures err { OnErr result (state.new ≡ state.old) }
 {
-    match state.regions.apply(change) {
-        Ok(()) => Ok(true),
-        Err(RegionError::Memory) => Err(Memory),
-        Err(_) => Ok(false),
-    }
+    change_in(&mut state.regions, change)
 }
 
 // Changes the regions, and responds.
