@@ -27,6 +27,7 @@
 -- says it. rt plant was not run on the crate with its tables.
 
 pub mod Asking
+pub mod Closing
 pub mod Places
 pub mod Rolls
 pub mod Verdicts

@@ -1,8 +1,8 @@
 //! The hub: one event of the platform's core.
 
-ghost use Rattle.std.specs.Prelude.{◌≡◌, ◌≢◌, ◌≤◌, ◌<◌, ◌+◌, ◌-◌, ◌^◌, [], false, true, max, IfOk, IfErr, IsTrue, ◌↔◌, OnOk, OnErr, IsOk, if◌then◌else◌};
+ghost use Rattle.std.specs.Prelude.{◌≡◌, ◌≢◌, ◌≤◌, ◌<◌, ◌+◌, ◌-◌, ◌^◌, [], false, true, Some, max, IfOk, IfErr, IsTrue, ◌↔◌, OnOk, OnErr, IsOk, if◌then◌else◌};
 ghost use Rattle.jt_value.specs.Sameness.{key_of};
-ghost use Rattle.jt_platform.specs.History.{newest, closed};
+ghost use Rattle.jt_platform.specs.History.{newest, closed, live, holder};
 ghost use Rattle.jt_platform.specs.Allowed.{AnyReply, Allowed, Legal, is_trouble};
 ghost use Rattle.jt_platform.specs.Allowed.{makes_entry as makes_an_entry};
 ghost use Rattle.jt_platform.specs.Calls.{tables_by, code_said, IsGuard, IsCoded, IsUnit, UnitIn};
@@ -271,6 +271,13 @@ impl<P: Keeper> Hub<P> {
         })
     }
 
+    /// The keeper, to be looked at; `history` says where it is.
+    pub fn keeper(&self) -> &P
+        ensures { result.now ≡ self.now.keeper }
+    {
+        &self.keeper
+    }
+
     /// The entries, oldest first. Each reply is one that the entries before it allow, and the keeper is where they leave it.
     pub fn history(&self) -> &[Entry]
         ensures entries { result.now ≡ self.now.history }
@@ -280,6 +287,18 @@ impl<P: Keeper> Hub<P> {
             self.now.fleet self.now.secret) (newest self.now.history) }
     {
         self.log.entries()
+    }
+
+    /// Whether the session is live for the phone and holds it, by the entries so far.
+    pub fn holds(&self, session: u32, phone: &Phone) -> bool
+        ensures { IsTrue result
+            ↔ ((live (key_of phone.now) (newest self.now.history) session ≡ true)
+            × (holder (key_of phone.now) (newest self.now.history) ≡ Some session)) }
+    {
+        if self.log.is_closed(session) {
+            return false;
+        }
+        self.log.is_live(phone, session) && self.log.holder(phone) == Some(session)
     }
 
     /// Takes the memory for a Close of each session from 1 to `upto`, so that the first Close of such a session takes none.

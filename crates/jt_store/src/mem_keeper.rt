@@ -58,6 +58,13 @@ impl MemKeeper {
             calls: Calls::new(failing),
         }
     }
+
+    /// The rows of a phone, the oldest first. It copies nothing, and is no call that is counted or fails.
+    pub fn rows(&self, phone: &Phone) -> &[Row]
+        ensures { result.now ≡ (tables_of self.now).rows (key_of phone.now) }
+    {
+        rows_of(&self.rows, phone)
+    }
 }
 
 // The phone of 2019 with these digits.

@@ -90,6 +90,22 @@ fn one_phone_in_both_editions(rt: HostRuntime) {
     assert!(rt; all_go(rt.alloc(), 100, &[], &steps, 9));
 }
 
+#[test]
+fn the_last_session_holds_its_phone(rt: HostRuntime) {
+    let steps = [
+        (1, Who::First, Ask::Register, A, b'1', Told::Registered, 0),
+        (1, Who::First, Ask::Auth, 0, 0, Told::Accepted, 0),
+        (1, Who::First, Ask::Unit, 2, b'x', Told::Stored, 2),
+        (2, Who::First, Ask::Auth, 0, 0, Told::Accepted, 0),
+    ];
+    let mut hub = hub(rt.alloc(), 100, &[]).expect(&rt, "memory");
+    assert!(rt; matches!(first_other(rt.alloc(), &mut hub, &steps), Ok(None)));
+    assert!(rt; !hub.holds(1, &phone(Who::First)));
+    assert!(rt; hub.holds(2, &phone(Who::First)));
+    assert!(rt; !hub.holds(2, &phone(Who::Second)));
+    assert!(rt; hub.keeper().rows(&phone(Who::First)).len() == 1);
+}
+
 // SHA-256 over 12345678 in ASCII is ef797c8118f02dfb649607dd.., and over 12, four zero octets and 345678 it is
 // 337338e726f241401e66a501..
 #[test]
