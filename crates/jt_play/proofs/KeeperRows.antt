@@ -2,8 +2,7 @@
 use Rattle.std.proofs.Common.{ℕ, suc, ◌+◌, ◌≡◌, ◌≤◌, ◌<◌, List, [], ◌∷◌, ◌++◌, length, Option, Some, None, Bool, true, false, refl, ap, sym, ◌∙◌, subst}
 use Rattle.std.specs.Prelude.{if◌then◌else◌}
 use Rattle.std.specs.Coded.{codes}
-use Rattle.std.specs.List.{AllByRecursion, AllByRecursion-prop, flat_map}
-use Rattle.std.proofs.lemmas.Grind.{flat_map-append}
+use Rattle.std.specs.List.{AllByRecursion, AllByRecursion-prop}
 use Rattle.std.proofs.lemmas.List.{append-nil, append_assoc, reverse-append}
 use Rattle.std.proofs.Math.Bridge.{le_prop}
 use Rattle.std.proofs.Math.Logic.{∥∥₁_elim}
@@ -99,23 +98,6 @@ pub rows_both : (key : List ℕ) (a b : List Entry) → rows_in key (a ++ b) ≡
 rows_both key [] b = refl
 rows_both key (e ∷ a) b = ap (λ (l : List Row). row_by key e ++ l) (rows_both key a b) ∙ sym (append_assoc (row_by key e) (rows_in key a) (rows_in key b))
 
-pub rows_push : (key : List ℕ) (a : List Entry) (e : Entry) → rows_in key (a ++ e ∷ []) ≡ rows_in key a ++ row_by key e
-rows_push key a e = rows_both key a (e ∷ []) ∙ ap (λ (l : List Row). rows_in key a ++ l) (append-nil (row_by key e))
-
--- no entry, and one entry or one hub more, behind the rows that stand
-pub add_none : (old : List Row) → old ++ [] ≡ old
-add_none old = append-nil old
-
-pub add_push : (key : List ℕ) (old : List Row) (a : List Entry) (e : Entry) → old ++ rows_in key (a ++ e ∷ []) ≡ (old ++ rows_in key a) ++ row_by key e
-add_push key old a e = ap (λ (l : List Row). old ++ l) (rows_push key a e) ∙ sym (append_assoc old (rows_in key a) (row_by key e))
-
-pub add_history : (key : List ℕ) (old : List Row) (a : List (List Entry)) (h : List Entry)
-    → old ++ rows_in key (flat_map (λ (x : List Entry). x) (a ++ h ∷ [])) ≡ (old ++ rows_in key (flat_map (λ (x : List Entry). x) a)) ++ rows_in key h
-add_history key old a h =
-    let front = flat_map (λ (x : List Entry). x) a in
-    ap (λ (entries : List Entry). old ++ rows_in key entries) (flat_map-append (λ (x : List Entry). x) a (h ∷ []) ∙ ap (λ (l : List Entry). front ++ l) (append-nil h))
-    ∙ (ap (λ (l : List Row). old ++ l) (rows_both key front h) ∙ sym (append_assoc old (rows_in key front) (rows_in key h)))
-
 -- newest first they are the same rows
 rows_newest : (key : List ℕ) (before : List Row) (entries : List Entry) → rows_after key before (newest entries) ≡ before ++ rows_in key entries
 rows_newest key before [] = sym (append-nil before)
@@ -162,9 +144,6 @@ reached_rows w r = subst ComesOfEntries r.leads.to (all_rows (empty r.phone r.se
 
 pub rows_come : (w : World) → ∥ Reached w ∥₁ → ComesOfEntries w
 rows_come w reached = ∥∥₁_elim reached (Prim.hlevel codes) (reached_rows w)
-
-pub kept_rows : (w : World) (key : List ℕ) → key ≡ key_of w.terminal.phone → ∥ Reached w ∥₁ → rows_after key [] (w.history ++ w.past) ≡ w.keeper.rows
-kept_rows w key same reached = ap (λ (k : List ℕ). rows_after k [] (w.history ++ w.past)) same ∙ sym (rows_come w reached)
 
 -- ---- each fix that was recorded is short enough for one packet, and so is each that is stored
 

@@ -1,14 +1,11 @@
-//! The rows that the entries of hubs added.
+//! The row that an entry of a hub added.
 
-ghost use Rattle.std.specs.Prelude.{◌≡◌, [], ◌∷◌, ◌++◌, true, is_none, IfSome, OnOk};
-ghost use Rattle.std.specs.List.{flat_map};
+ghost use Rattle.std.specs.Prelude.{◌≡◌, [], ◌∷◌, true, is_none, IfSome};
 ghost use Rattle.jt_value.specs.Sameness.{key_of};
-ghost use Rattle.jt_play.specs.Holding.{row_by, row_number, rows_in};
+ghost use Rattle.jt_play.specs.Holding.{row_by, row_number};
 
 use jt_platform::{Entry, Reply, Request};
-use jt_store::Row;
-use jt_value::{Memory, Octets, Phone, Seq};
-use std::alloc::Global;
+use jt_value::{Octets, Phone};
 
 // The number of the row that a reply says was added.
 fn row_number(reply: &Reply) -> Option<u64>
@@ -55,50 +52,4 @@ pub(crate) fn row_by<'e>(entry: &'e Entry, phone: &Phone) -> Option<(u64, u16, &
         | Request::Other { .. }
         | Request::Close => None,
     }
-}
-
-// The row that an entry added for a phone is put behind the others, if it added one.
-fn add_row(alloc: Global, rows: &mut Seq<Row>, entry: &Entry, phone: &Phone) -> Result<(), Memory>
-    ensures { OnOk result (rows.new ≡ rows.old ++ row_by (key_of phone.now) entry.now) }
-{
-    match row_by(entry, phone) {
-        Some((number, id, body)) => {
-            let body = body.copy(alloc)?;
-            rows.push(Row { number, id, body })
-        }
-        None => Ok(()),
-    }
-}
-
-/// The rows that the entries of a hub added for a phone are put behind the others.
-#[tactic(auto, using(crate::proofs::KeeperRows::add_none, crate::proofs::KeeperRows::add_push))]
-pub(crate) fn add_rows(
-    alloc: Global,
-    rows: &mut Seq<Row>,
-    entries: &[Entry],
-    phone: &Phone,
-) -> Result<(), Memory>
-    ensures { OnOk result (rows.new ≡ rows.old ++ rows_in (key_of phone.now) entries.now) }
-{
-    for entry in entries {
-        add_row(alloc, rows, entry, phone)?;
-    }
-    Ok(())
-}
-
-/// The rows that the entries of some hubs added for a phone are put behind the others.
-#[tactic(auto, using(crate::proofs::KeeperRows::add_none, crate::proofs::KeeperRows::add_history))]
-pub(crate) fn add_all_rows(
-    alloc: Global,
-    rows: &mut Seq<Row>,
-    histories: &[Seq<Entry>],
-    phone: &Phone,
-) -> Result<(), Memory>
-    ensures { OnOk result (rows.new ≡ rows.old
-        ++ rows_in (key_of phone.now) (flat_map (λ history. history) histories.now)) }
-{
-    for history in histories {
-        add_rows(alloc, rows, history.as_slice(), phone)?;
-    }
-    Ok(())
 }

@@ -29,7 +29,6 @@ use crate::error::WorldError;
 use crate::identity::Identity;
 use crate::laws::law_asked;
 use crate::line::Line;
-use crate::rows::{add_all_rows, add_rows};
 use crate::tally::{Tally, tally_all, tally_entries};
 use jt_header::law_of_contents;
 use jt_platform::{Entry, Fleet, Hub, law_answers, law_histories};
@@ -791,15 +790,15 @@ impl Stage {
         past.plus(tally_entries(self.hub.history(), phone))
     }
 
-    /// The rows that the entries of all hubs added for a phone, the oldest first.
-    pub(crate) fn rows(&self, alloc: Global, phone: &Phone) -> Result<Seq<Row>, Memory>
-        ensures { IfOk result (λ rows. rows ≡ rows_after (key_of phone.now) []
-            (self.now.world.history ++ self.now.world.past)) }
+    /// The rows that the hub's keeper has of the terminal's phone, which has these digits, the oldest first.
+    pub(crate) fn rows(&self, phone: &Phone) -> &[Row]
+        requires own { AreOf (key_of self.now.world.terminal.phone) self.now.world.history }
+        requires same { key_of phone.now ≡ key_of self.now.world.terminal.phone }
+        ensures { result.now ≡ self.now.world.keeper.rows }
     {
-        let mut rows = Seq::new(alloc);
-        add_all_rows(alloc, &mut rows, self.past.as_slice(), phone)?;
-        add_rows(alloc, &mut rows, self.hub.history(), phone)?;
-        Ok(rows)
+        law_histories();
+        let _entries = self.hub.history();
+        self.hub.keeper().rows(phone)
     }
 
     // The place of a line that was opened.

@@ -101,12 +101,11 @@ impl World {
         self.played.totals()
     }
 
-    /// The rows that the hub's keeper has of the terminal's phone, the oldest first, copied. Memory
-    /// comes where memory ran out.
-    pub fn rows(&self, alloc: Global) -> Result<Seq<Row>, Memory>
-        ensures { IfOk result (λ rows. rows ≡ self.now.play.world.keeper.rows) }
+    /// The rows that the hub's keeper has of the terminal's phone, the oldest first.
+    pub fn rows(&self) -> &[Row]
+        ensures { result.now ≡ self.now.play.world.keeper.rows }
     {
-        self.played.rows(alloc)
+        self.played.rows()
     }
 
     /// The fixes of these rows behind so many, in order. Memory comes where memory ran out.

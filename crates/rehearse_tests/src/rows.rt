@@ -34,9 +34,8 @@ fn expect_row(rt: &impl Abort, row: &Row, number: u64, body: &[u8]) {
 }
 
 // The registration took the number 0, and the authentications 1 and 3.
-fn expect_rows(rt: &impl Abort, alloc: Global, world: &World) {
-    let rows = world.rows(alloc).expect(rt, "the rows");
-    let [first, second] = rows.as_slice() else {
+fn expect_rows(rt: &impl Abort, world: &World) {
+    let [first, second] = world.rows() else {
         panic!(rt; "two rows");
     };
     expect_row(rt, first, 2, FIRST);
@@ -53,19 +52,18 @@ fn expect_fixes(rt: &impl Abort, alloc: Global, world: &World, mark: u64, bodies
 }
 
 fn expect_empty(rt: &impl Abort, alloc: Global, world: &World) {
-    let rows = world.rows(alloc).expect(rt, "the rows");
-    assert!(rt; rows.is_empty());
+    assert!(rt; world.rows().is_empty());
     expect_fixes(rt, alloc, world, 0, &[]);
 }
 
 // The rows of both hubs, the older first, and their fixes behind none, one, two and more than there are.
 #[test]
-fn a_world_copies_its_rows(rt: HostRuntime) {
+fn a_world_lends_its_rows(rt: HostRuntime) {
     let alloc = rt.alloc();
     let mut world = World::new(alloc).expect(&rt, "a world");
     expect_empty(&rt, alloc, &world);
     play_two_fixes(&rt, alloc, &mut world);
-    expect_rows(&rt, alloc, &world);
+    expect_rows(&rt, &world);
     expect_fixes(&rt, alloc, &world, 0, &[FIRST, SECOND]);
     expect_fixes(&rt, alloc, &world, 1, &[SECOND]);
     expect_fixes(&rt, alloc, &world, 2, &[]);
