@@ -57,7 +57,7 @@ one_more number at (first ∷ lines) fixes line said have same says good = (
 -- ---- beside the fixes
 
 pub beside_none : (s : State) (faults limit : ℕ) (may : Bool) → Beside {T = Unit {0}} s s faults faults limit limit may may (Ok (tt {0}))
-beside_none s faults limit may = record { phase = refl; time = refl; sent = refl; limit = refl; later = omega arith; failed = λ z. absurd (cc z); steady = λ none. (none, λ z. absurd (cc z)) }
+beside_none s faults limit may = record { phase = refl; time = refl; sent = refl; limit = refl; later = omega arith; failed = λ z. absurd (cc z); still = λ z. refl; steady = λ none. (none, λ z. absurd (cc z)) }
 
 rose_then : (before mid now : ℕ) → before ≤ mid → Rose mid now → Rose before now
 rose_then before mid now later rose = omega (arith, later, rose)
@@ -71,6 +71,7 @@ beside_then old mid now f f_mid f_now l l_mid l_now m m_mid m_now done result a 
   limit = b.limit ∙ a.limit;
   later = omega (arith, a.later, b.later);
   failed = λ z. rose_then f f_mid f_now a.later (b.failed z);
+  still = λ z. b.still z ∙ a.still (λ e. absurd (cc e));
   steady = λ none. b.steady ((a.steady none).0);
 }
 

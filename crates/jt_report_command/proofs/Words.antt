@@ -73,3 +73,6 @@ spoken_plate told spoken = few plate_most spoken.1.written.plate told.plate spok
 pub spoken_terminal : (told : ReportValues) → AreSpoken told → length told.terminal ≤ terminal_len told.phone.edition
 spoken_terminal told spoken =
     subst (λ (most : ℕ). length told.terminal ≤ most) (same_most told.phone.edition) (few (terminal_most told.phone.edition) spoken.1.written.terminal told.terminal spoken.1.tells.terminal)
+
+pub spoken_tries : (told : ReportValues) → AreSpoken told → 1 ≤ told.tries
+spoken_tries told spoken = spoken.1.tells.tries.1

@@ -27,7 +27,8 @@ NotesLine (Err ReadFailed) limit number line old now = ⊥
 NotesLine (Err Memory) limit number line old now = now ≡ old
 
 -- What is said of a terminal and its vault beside the fixes: it has a line where it had one and is as late as it was; the vault's limit stays, its
--- count of faults never falls and rose where it failed, and where none of its calls may fail none may later, and it did not fail.
+-- count of faults never falls, rose where it failed and else stood still, and where none of its calls may fail none may later, and it did
+-- not fail.
 pub record Beside {T : Type 0} (old now : State) (faults faults_now most most_now : ℕ) (may may_now : Bool) (result : Result T FixesError) : Type 0 where
   pub phase : now.phase ≡ old.phase
   pub time : now.time ≡ old.time
@@ -35,6 +36,7 @@ pub record Beside {T : Type 0} (old now : State) (faults faults_now most most_no
   pub limit : most_now ≡ most
   pub later : faults ≤ faults_now
   pub failed : IsErrOf result VaultFailed → Rose faults faults_now
+  pub still : ¬ IsErrOf result VaultFailed → faults_now ≡ faults
   pub steady : may ≡ false → (may_now ≡ false) × (IsErrOf result VaultFailed → ⊥)
 
 -- These lines were told and are good, their fixes were recorded, and this is the number of the next line.

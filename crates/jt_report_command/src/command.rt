@@ -11,10 +11,12 @@ ghost use Rattle.jt_store.specs.declared.error.StoreError.TheVariants.{Full};
 ghost use Rattle.jt_terminal_rule.specs.declared.state.Phase.TheVariants.{Down};
 ghost use Rattle.jt_terminal_steps.specs.Running.{IsStarted};
 ghost use Rattle.jt_agent.specs.Tries.{between};
+ghost use Rattle.jt_report_command.specs.Answered.{HasAll, WereFine};
 ghost use Rattle.jt_report_command.specs.Came.{report_text};
 ghost use Rattle.jt_report_command.specs.Steps.{TellsAttempts, VaultKeeps, came_at, came_of, status_at, status_of_refusal};
 ghost use Rattle.jt_report_command.specs.Running.{EndsSo, RunsReport, scene_of};
 ghost use Rattle.jt_report_command.specs.Settings.{AreSpoken, settings_of};
+ghost use Rattle.jt_report_command.specs.declared.noting.FixesError.TheVariants as noted;
 
 use crate::settings::settings_for;
 use crate::telling::{tell_bad_line, tell_outcome};
@@ -82,6 +84,7 @@ fn tell_error<K: Sink>(alloc: Global, sink: &mut K, error: FixesError) -> Status
         (K.written sink.old) (K.written sink.new) }
     ensures status { (result ≡ status_at error) ⊎ CutsShort result }
     ensures ends { EndsSo (came_of error) result }
+    ensures read_fault { error ≡ noted.ReadFailed → result ≡ Status.ReadFault }
     ensures write_fault { result ≡ Status.WriteFault →
         Rose (K.faults sink.old) (K.faults sink.new) }
 {
@@ -125,6 +128,8 @@ fn report_from<S: Source, K: Sink, D: Dial, C: Clock, V: Vault>(
         (V.may_fail terminal.old.vault) (V.may_fail terminal.new.vault) }
     ensures read_fault { result ≡ Status.ReadFault →
         Rose (S.faults source.old) (S.faults source.new) }
+    ensures read_still { result ≢ Status.ReadFault →
+        S.faults source.new ≡ S.faults source.old }
     ensures write_fault { result ≡ Status.WriteFault →
         Rose (K.faults sink.old) (K.faults sink.new) }
     ensures store_fault { result ≡ Status.StoreFault →
@@ -193,6 +198,9 @@ pub fn report<S: Source, K: Sink, D: Dial, C: Clock, V: Vault>(
     // Why a run ends with a fault.
     ensures read_fault { result.status ≡ Status.ReadFault →
         Rose (S.faults source.old) (S.faults source.new) }
+    // Every other status, so Memory too, comes only where the source's count of faults stood still.
+    ensures read_still { result.status ≢ Status.ReadFault →
+        S.faults source.new ≡ S.faults source.old }
     ensures write_fault { result.status ≡ Status.WriteFault →
         Rose (K.faults sink.old) (K.faults sink.new) }
     ensures store_fault { result.status ≡ Status.StoreFault →
@@ -207,6 +215,17 @@ pub fn report<S: Source, K: Sink, D: Dial, C: Clock, V: Vault>(
     ensures unsent { result.status ≡ Status.Unsent →
         WhereKnown (V.holds result.vault) (λ held. accepted_count held ≢ length held.recorded)
         × IsAtEnd (S.left source.new) }
+    // Where all lines are good, the vault has room, the dial's first link answers all in time, no count of faults rises and no read of
+    // a link is quiet, it is Done, or memory was refused.
+    ensures answered { HasAll (IsStarted (settings_of words.phone words.plate words.terminal)
+        (V.holds vault)) (S.left source.old) (scene_of (V.holds vault) (V.limit vault)
+        (V.faults vault) (C.time clock.old) (D.pool dial.old) (D.faults dial.old)) →
+        WereFine (D.pool dial.old) (D.pool dial.new) →
+        ¬ Rose (D.faults dial.old) (D.faults dial.new) →
+        ¬ Rose (V.faults vault) (V.faults result.vault) →
+        ¬ Rose (S.faults source.old) (S.faults source.new) →
+        ¬ Rose (K.faults sink.old) (K.faults sink.new) →
+        (result.status ≡ Status.Done) ⊎ (result.status ≡ Status.Memory) }
 {
     let ReportWords {
         host,

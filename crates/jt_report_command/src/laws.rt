@@ -1,9 +1,16 @@
-//! What is so of a run that had no memory.
+//! What is so of a run that had no memory, and of attempts and runs that are answered.
 
-ghost use Rattle.std.specs.Prelude.{ℕ, List, Option};
+ghost use Rattle.std.specs.Prelude.{◌≡◌, ◌≢◌, ◌≤◌, ◌⊎◌, ℕ, List, [], Option};
+ghost use Rattle.jt_value.specs.Counts.{Rose};
 ghost use Rattle.jt_value.specs.declared.phone.Phone.{Phone};
+ghost use Rattle.jt_input.specs.declared.status.Status.{Status};
 ghost use Rattle.jt_input.specs.declared.status.Status.TheVariants as status;
+ghost use Rattle.jt_terminal_rule.specs.declared.settings.Settings.{Settings};
 ghost use Rattle.jt_terminal_steps.specs.Running.{IsStarted};
+ghost use Rattle.jt_agent.specs.Tries.{Between, Reports};
+ghost use Rattle.jt_agent.specs.declared.reporting.Outcome.{Outcome};
+ghost use Rattle.jt_agent.specs.declared.reporting.Outcome.TheVariants.{Done, Memory};
+ghost use Rattle.jt_report_command.specs.Answered.{HasAll, HasAnswers, WereFine};
 ghost use Rattle.jt_report_command.specs.Running.{RunsReport, Scene};
 ghost use Rattle.jt_report_command.specs.Settings.{settings_of};
 
@@ -13,4 +20,26 @@ pub fn law_without_memory()
         (scene : Scene) →
         RunsReport (IsStarted (settings_of phone plate terminal) scene.held) tries left left scene
         scene written written status.Memory }
+{}
+
+/// Attempts, of which there may be one at least, over a dial whose first link answers all that the terminal sends, in time, where
+/// nothing failed: all is accepted by the first one, or memory was refused.
+pub fn law_of_answers()
+    ensures { (tries : ℕ) (outcome : Outcome) (old now : Between) → 1 ≤ tries →
+        HasAnswers old.state old.pool old.time → WereFine old.pool now.pool →
+        ¬ Rose old.dial now.dial → ¬ Rose old.faults now.faults → Reports tries outcome old now →
+        (outcome ≡ Done []) ⊎ (outcome ≡ Memory) }
+{}
+
+/// A run that has all that it needs, and in which no count of the dial, of its links and of the vault rises, comes to Done, unless
+/// memory is refused or the source or the sink fails.
+pub fn law_of_answered_runs()
+    ensures { (settings : Settings) (tries : ℕ) (left left_now : Option (List ℕ))
+        (written written_now : Option (List ℕ)) (old now : Scene) (ended : Status) → 1 ≤ tries →
+        HasAll (IsStarted settings old.held) left old → WereFine old.pool now.pool →
+        ¬ Rose old.dial now.dial → ¬ Rose old.faults now.faults →
+        RunsReport (IsStarted settings old.held) tries left left_now old now written written_now
+        ended →
+        ended ≢ status.ReadFault → ended ≢ status.WriteFault →
+        (ended ≡ status.Done) ⊎ (ended ≡ status.Memory) }
 {}

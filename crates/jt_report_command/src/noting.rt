@@ -115,6 +115,11 @@ pub fn note_fixes<S: Source, V: Vault>(
         Rose (S.faults source.old) (S.faults source.new) }
     ensures vault_failed { IsErrOf result told.VaultFailed →
         Rose (V.faults terminal.old.vault) (V.faults terminal.new.vault) }
+    // Every other answer, so Memory too, comes only where the counts of faults stood still.
+    ensures read_still { ¬ IsErrOf result told.ReadFailed →
+        S.faults source.new ≡ S.faults source.old }
+    ensures vault_still { ¬ IsErrOf result told.VaultFailed →
+        V.faults terminal.new.vault ≡ V.faults terminal.old.vault }
     // The terminal has a line where it had one, and it is as late as it was.
     ensures phase { terminal.new.state.phase ≡ terminal.old.state.phase }
     ensures time { terminal.new.state.time ≡ terminal.old.state.time }

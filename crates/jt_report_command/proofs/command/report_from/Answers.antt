@@ -19,3 +19,6 @@ returns-in-Err-clause-runs g c =
     (g.V.Vault.limit c.args.terminal.now.vault) (g.V.Vault.limit c.note_fixes.new.terminal.vault) (g.V.Vault.faults c.args.terminal.now.vault) (g.V.Vault.faults c.note_fixes.new.terminal.vault)
     (g.C.Clock.time c.args.clock.now) (g.D.Dial.pool c.args.dial.now) (g.D.Dial.faults c.args.dial.now) (g.K.Sink.written c.args.sink.now) (g.K.Sink.written c.tell_error.new.sink) c.tell_error.result
     c.in-Err.ensures.notes c.in-Err.ensures.vault_failed c.tell_error.ensures.answers c.tell_error.ensures.ends
+
+pub returns-in-Err-clause-read_still : goal.returns-in-Err-clause-read_still
+returns-in-Err-clause-read_still g c = λ other. c.in-Err.ensures.read_still (λ is. other (c.tell_error.ensures.read_fault (let e = is in cc)))

@@ -1,4 +1,4 @@
-use Rattle.std.proofs.Common.{◌+◌, length, Ok, Err, arith}
+use Rattle.std.proofs.Common.{◌+◌, ◌∙◌, length, Ok, Err, arith}
 use Rattle.jt_report_command.specs.Noting.{noting}
 use Rattle.jt_report_command.proofs.Recording.{at_line, beside_then, ends_beyond, ends_failed, ends_here, ends_last, ends_line, goes_on}
 use Rattle.jt_input.proofs.Fronts.{few_lines}
@@ -21,7 +21,7 @@ loop-terminal-preserved g c =
     (noting c.note_line.new.terminal.state (g.V.Vault.holds c.note_line.new.terminal.vault)) c.line.ensures c.in-Ok.ensures.line in (
       goes_on _ _ _ _ _ _ _ _ _ (g.V.Vault.limit c.loop-terminal.terminal.vault) h (c.in-Line.ensures.goes h.text h.lines h.told) notes,
       beside_then _ _ _ _ _ _ _ _ _ _ _ _ (tt {0}) (Ok (tt {0})) c.loop-terminal.invariant.1 c.in-Ok.ensures.beside,
-      omega (arith, c.loop-terminal.invariant.2, c.in-Line.ensures.later),
+      c.in-Line.ensures.still (λ e. cc) ∙ c.loop-terminal.invariant.2,
     )
 
 pub returns-in-Err-clause-notes : goal.returns-in-Err-clause-notes
