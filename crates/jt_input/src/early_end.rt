@@ -57,7 +57,8 @@ impl EarlyEnd {
 
     /// The status that goes with the line.
     pub fn status(self) -> Status
-        ensures { result ≡ (early_reply self).status }
+        ensures status { result ≡ (early_reply self).status }
+        ensures not_memory { result ≢ Status.Memory }
     {
         match self {
             EarlyEnd::BadLine(_) => Status::Refused,
@@ -78,6 +79,8 @@ pub fn write_reply<K: Sink>(sink: &mut K, text: &[u8], status: Status) -> Status
     ensures memory { status ≡ Status.Memory → result ≡ Status.Memory }
     ensures write_fault { result ≡ Status.WriteFault → status ≢ Status.WriteFault
         → Rose (K.faults sink.old) (K.faults sink.new) }
+    ensures still { status ≢ Status.Memory → result ≢ Status.WriteFault
+        → K.faults sink.new ≡ K.faults sink.old }
 {
     if write_all(sink, text) || status == Status::Memory {
         status
@@ -94,6 +97,8 @@ pub fn answer_early_end<K: Sink>(alloc: Global, sink: &mut K, end: EarlyEnd) -> 
     ensures status { (result ≡ (early_reply end).status) ⊎ CutsShort result }
     ensures write_fault { result ≡ Status.WriteFault →
         Rose (K.faults sink.old) (K.faults sink.new) }
+    // Every other status, so Memory too, comes only where the count of faults stood still.
+    ensures still { result ≢ Status.WriteFault → K.faults sink.new ≡ K.faults sink.old }
     ensures no_read_fault { result ≢ Status.ReadFault }
 {
     let mut text = String::new(alloc);

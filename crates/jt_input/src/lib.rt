@@ -17,7 +17,7 @@ pub use decimals::number;
 pub use early_end::{EarlyEnd, answer_early_end, write_reply};
 pub use hearer::{Heard, Hearer};
 pub use laws::law_lines;
-pub use line_cutter::{Cut, LineCutter};
+pub use line_cutter::{Cut, LINE_LIMIT, LINES_LIMIT, LineCutter};
 pub use line_reader::{LineReader, NextLine};
 pub use line_teller::{LineTeller, push_bad_line};
 pub use running::run_teller;

@@ -7,11 +7,11 @@ ghost use Rattle.jt_input.specs.Cutter.{CutsOctets, IsBegun, IsBeyond, begun_of,
 use arrayvec::ArrayVec;
 use std::marker::Model;
 
-// How many octets a line may have, without its line feed.
-const LINE_LIMIT: usize = 4096;
+/// How many octets a line may have, without its line feed (this project's limit).
+pub const LINE_LIMIT: usize = 4096;
 
-// How many lines a text may have.
-const LINES_LIMIT: u64 = 10_000_000;
+/// How many lines a text may have (this project's limit).
+pub const LINES_LIMIT: u64 = 10_000_000;
 
 const LINE_FEED: u8 = b'\n';
 

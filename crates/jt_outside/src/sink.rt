@@ -20,7 +20,8 @@ pub trait Sink {
     /// The octets that it has taken, where it tells them.
     ghost written: { Self → Option (List ℕ) };
 
-    /// How many of its calls failed. The count never falls, and stays at 2^64 - 1 once it is there (this project's rule).
+    /// How many of its calls failed. The count rises at no other call, never falls, and stays at 2^64 - 1 once it is there
+    /// (this project's rule).
     ghost faults: { Self → ℕ };
 
     /// Of a sink that can be read too, as a link can, what reads gave and will give. No write changes it.

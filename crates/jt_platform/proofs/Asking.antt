@@ -1,4 +1,4 @@
-use Rattle.std.proofs.Common.{◌≡◌, ℕ, List, [], ◌∷◌, ◌++◌, map, Bool, true, false, if◌then◌else◌, subst, refl, sym, ap}
+use Rattle.std.proofs.Common.{◌≡◌, ◌≢◌, ℕ, List, [], ◌∷◌, ◌++◌, map, Bool, true, false, if◌then◌else◌, subst, refl, sym, ap}
 use Rattle.std.proofs.lemmas.List.{append-nil, map-append}
 use Rattle.jt_turn.specs.Histories.{entry_if}
 use Rattle.jt_value.specs.Counts.{Rose}
@@ -18,13 +18,14 @@ back [] = refl
 back (e ∷ h) = ap (λ t. e ∷ t) (back h)
 
 pub gives_from : (o : Opening) (reserved : ℕ) (h : List Entry) (before now session : ℕ) (q : Request) (r : Reply)
-    → (is_trouble r ≡ false → Allowed o (newest h) session q r) → (q ≡ ask.Close → IsOwed h reserved session → r ≡ say.Accepted) → (r ≡ say.StoreFault → Rose before now)
+    → (is_trouble r ≡ false → Allowed o (newest h) session q r) → (q ≡ ask.Close → IsOwed h reserved session → r ≡ say.Accepted) → (r ≡ say.StoreFault → Rose before now) → (r ≢ say.StoreFault → now ≡ before)
     → Gives o reserved (map as_ask h) before now session q r
-gives_from o reserved h before now session q r allowed close fault =
+gives_from o reserved h before now session q r allowed close fault still =
     record {
       allowed = λ calm. subst (λ x. Allowed o (newest x) session q r) (sym (back h)) (allowed calm);
       close = λ is owed. close is (subst (λ x. IsOwed x reserved session) (back h) owed);
       fault = fault;
+      still = still;
     }
 
 -- one entry more, or none

@@ -23,6 +23,7 @@ pub(crate) fn answer_bad_line<K: Sink>(alloc: Global, sink: &mut K, number: u64)
     ensures status { (result ≡ Status.Refused) ⊎ IsFault result }
     ensures write_fault { result ≡ Status.WriteFault →
         Rose (K.faults sink.old) (K.faults sink.new) }
+    ensures still { result ≢ Status.WriteFault → K.faults sink.new ≡ K.faults sink.old }
     ensures no_read_fault { result ≢ Status.ReadFault }
 {
     answer_early_end(alloc, sink, EarlyEnd::BadLine(number))

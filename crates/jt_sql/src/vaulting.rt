@@ -62,7 +62,7 @@ fn are_all(from: i64, found: usize, count: i64) -> bool {
     }
 }
 
-// The units that are not accepted. Where any unit is missing, also one that is accepted, they are refused.
+// The units that are not accepted. They are refused where a unit, also an accepted one, is missing before the last that stands.
 fn pending<S: Alter>(
     alloc: Global,
     work: &mut Transaction<'_, S>,
@@ -101,7 +101,7 @@ fn loaded(state: State, recorded: i64, units: Seq<Unit>, fixes: Seq<Fix>) -> Res
     })
 }
 
-// What the tables hold that is not accepted. Where any fix or unit is missing they are refused.
+// What the tables hold that is not accepted. It is refused where a fix or unit is missing before the last that stands.
 fn load_within<S: Alter>(alloc: Global, work: &mut Transaction<'_, S>) -> Result<Loaded, Refused>
     ensures { IfOk result (λ loaded. AreInOrder loaded.mark loaded.next loaded.units loaded.code) }
 {

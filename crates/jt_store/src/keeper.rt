@@ -12,8 +12,8 @@ use std::alloc::Global;
 
 /// Keeps the registration and the rows of each phone. Two phones are the same where their twenty digits are.
 ///
-/// After each error the keeper is as before. Failed comes only where its count of faults rose in the call, Full from
-/// `append` alone.
+/// After each error the keeper is as before. Failed comes only where its count of faults rose in the call, and at every other
+/// answer that count stood still. Full comes from `append` alone.
 pub trait Keeper {
     /// The registrations and the rows, where the keeper tells them.
     ghost tables: { Self → Option Tables };

@@ -12,8 +12,8 @@ use std::alloc::Global;
 
 /// Keeps what a terminal recorded, what it formed of it, and what of that was accepted.
 ///
-/// After each error the vault is as before. Failed comes only where its count of faults rose in the call, Full from
-/// `note_fix` alone.
+/// After each error the vault is as before. Failed comes only where its count of faults rose in the call, and at every other
+/// answer that count stood still. Full comes from `note_fix` alone.
 pub trait Vault {
     /// What the vault holds, where it tells it.
     ghost holds: { Self → Option Held };

@@ -352,7 +352,7 @@ impl<V: Vault> Terminal<V> {
     }
 
     /// Starts anew in place, without a line, over what the vault loads and with these settings. After an error the terminal is as
-    /// before.
+    /// before; Full never comes.
     pub fn restart(&mut self, alloc: Global, settings: Settings) -> Result<(), StoreError>
         requires { AreSettings settings }
         ensures ok { OnOk result (IsStarted settings (V.holds self.old.vault) self.new.state) }
@@ -360,6 +360,12 @@ impl<V: Vault> Terminal<V> {
         ensures holds { V.holds self.new.vault ≡ V.holds self.old.vault }
         ensures sound { OnOk result (IsSound (V.holds self.new.vault) self.new.state) }
         ensures limit { V.limit self.new.vault ≡ V.limit self.old.vault }
+        ensures faults { OnOk result (V.faults self.new.vault ≡ V.faults self.old.vault) }
+        ensures steady { OnOk result
+            (V.may_fail self.old.vault ≡ false → V.may_fail self.new.vault ≡ false) }
+        ensures refused { IfErr result
+            (IsRefused (V.faults self.old.vault) (V.faults self.new.vault)
+            (V.may_fail self.old.vault) (V.may_fail self.new.vault)) }
     {
         let params = first_params(alloc, &settings)?;
         let window = Window::new(alloc)?;

@@ -14,6 +14,7 @@ pub record HeldTables : Type 0 where
   pub params : Table
   pub regions : Regions
 
+-- what a terminal holds of these parameters and regions
 abbrev pub tables : Table → Regions → HeldTables
 tables params regions = record { params = params; regions = regions }
 
