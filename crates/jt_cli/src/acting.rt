@@ -48,6 +48,9 @@ fn act<S: Source, K: Sink>(alloc: Global, source: &mut S, sink: &mut K, task: Ta
         (K.written sink.old) (K.written sink.new) result }
     ensures read_fault { result ≡ Status.ReadFault →
         Rose (S.faults source.old) (S.faults source.new) }
+    // Every other status, so Memory too, comes only where the source's count of faults stood still.
+    ensures read_still { result ≢ Status.ReadFault →
+        S.faults source.new ≡ S.faults source.old }
     ensures write_fault { result ≡ Status.WriteFault →
         Rose (K.faults sink.old) (K.faults sink.new) }
     ensures not_usage { result ≢ Status.Usage }
@@ -72,6 +75,9 @@ pub fn run_task<S: Source, K: Sink, D: Dial, L, C: Clock, P: Keeper, V: Vault>(
         Streams eyes task outside result }
     ensures read_fault { result.status ≡ Status.ReadFault →
         Rose (S.faults outside.source) (S.faults result.outside.source) }
+    // Every other status, so Memory too, comes only where the source's count of faults stood still.
+    ensures read_still { result.status ≢ Status.ReadFault →
+        S.faults result.outside.source ≡ S.faults outside.source }
     ensures write_fault { result.status ≡ Status.WriteFault →
         Rose (K.faults outside.sink) (K.faults result.outside.sink) }
     ensures not_usage { result.status ≢ Status.Usage }
@@ -94,6 +100,8 @@ pub fn refuse<S: Source, K: Sink, D: Dial, L, C: Clock, P: Keeper, V: Vault>(
     ensures does { let eyes = eyes_of S.left K.written D.pool D.faults C.time
         P.tables P.limit P.faults V.holds V.limit V.faults V.may_fail in
         Refuses eyes outside result }
+    // Every other status, so Memory too, comes only where the source's count of faults stood still.
+    ensures read_still { S.faults result.outside.source ≡ S.faults outside.source }
     ensures write_fault { result.status ≡ Status.WriteFault →
         Rose (K.faults outside.sink) (K.faults result.outside.sink) }
 {

@@ -1,6 +1,6 @@
 //! All that the program does alone, without a listener.
 
-ghost use Rattle.std.specs.Prelude.{◌≡◌, map, string_bytes};
+ghost use Rattle.std.specs.Prelude.{◌≡◌, ◌≢◌, map, string_bytes};
 ghost use Rattle.jt_value.specs.Counts.{Rose};
 ghost use Rattle.jt_cli.specs.Running.{Ran, Refuses, eyes_of};
 ghost use Rattle.jt_cli.specs.Words.{AreNoRelay, AreNoReport, AreNoTask};
@@ -40,6 +40,9 @@ pub fn run_alone<R, S: Source, K: Sink, D: Dial, L, C: Clock, P: Keeper, V: Vaul
         × AreNoRelay (map string_bytes words.now.items) }
     ensures read_fault { result.status ≡ Status.ReadFault →
         Rose (S.faults outside.source) (S.faults result.outside.source) }
+    // Every other status, so Memory too, comes only where the source's count of faults stood still.
+    ensures read_still { result.status ≢ Status.ReadFault →
+        S.faults result.outside.source ≡ S.faults outside.source }
     ensures write_fault { result.status ≡ Status.WriteFault →
         Rose (K.faults outside.sink) (K.faults result.outside.sink) }
 {

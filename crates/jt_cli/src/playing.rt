@@ -48,6 +48,10 @@ pub fn play<S: Source, K: Sink>(alloc: Global, source: &mut S, sink: &mut K) -> 
         Rose (S.faults source.old) (S.faults source.new) }
     ensures write_fault { result ≡ Status.WriteFault →
         Rose (K.faults sink.old) (K.faults sink.new) }
+    // Every other status, so Memory too, comes only where the counts of faults stood still.
+    ensures read_still { result ≢ Status.ReadFault →
+        S.faults source.new ≡ S.faults source.old }
+    ensures write_still { result ≢ Status.WriteFault → K.faults sink.new ≡ K.faults sink.old }
     ensures not_usage { result ≢ Status.Usage }
     ensures without_links { IsWithoutLinks result }
 {
@@ -62,6 +66,7 @@ pub fn play_made<K: Sink>(alloc: Global, sink: &mut K, count: u32) -> Status
     ensures not_read_fault { result ≢ Status.ReadFault }
     ensures write_fault { result ≡ Status.WriteFault →
         Rose (K.faults sink.old) (K.faults sink.new) }
+    ensures write_still { result ≢ Status.WriteFault → K.faults sink.new ≡ K.faults sink.old }
     ensures not_usage { result ≢ Status.Usage }
     ensures without_links { IsWithoutLinks result }
 {

@@ -45,6 +45,9 @@ where
         Serves eyes (Option (HubOpening P)) L.pool L.faults words.sessions outside result }
     ensures read_fault { result.status ≡ Status.ReadFault →
         Rose (S.faults outside.source) (S.faults result.outside.source) }
+    // Every other status, so Memory too, comes only where the source's count of faults stood still.
+    ensures read_still { result.status ≢ Status.ReadFault →
+        S.faults result.outside.source ≡ S.faults outside.source }
     ensures write_fault { result.status ≡ Status.WriteFault →
         Rose (K.faults outside.sink) (K.faults result.outside.sink) }
     ensures not_usage { result.status ≢ Status.Usage }
@@ -109,6 +112,9 @@ where
     ensures usage { result.status ≡ Status.Usage → AskNothing (map string_bytes words.now.items) }
     ensures read_fault { result.status ≡ Status.ReadFault →
         Rose (S.faults outside.source) (S.faults result.outside.source) }
+    // Every other status, so Memory too, comes only where the source's count of faults stood still.
+    ensures read_still { result.status ≢ Status.ReadFault →
+        S.faults result.outside.source ≡ S.faults outside.source }
     ensures write_fault { result.status ≡ Status.WriteFault →
         Rose (K.faults outside.sink) (K.faults result.outside.sink) }
 {

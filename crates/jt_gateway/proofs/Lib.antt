@@ -7,9 +7,9 @@
 pub mod Prefixes
 pub mod Leaving
 pub mod Passing
-mod Noting
 mod Playing
 mod Gateways
+mod Editions
 mod Pumping
 mod Acting
 mod Relaying

@@ -14,7 +14,7 @@ use Rattle.jt_octets.specs.Reaching.{Reached}
 use Rattle.jt_octets.specs.Claim.{EachReachedIsKept, Kept}
 use Rattle.jt_gateway.specs.World.{GatewayWorld, fixes_behind, fixes_stored, gateway_empty}
 use Rattle.jt_gateway.specs.Steps.{GatewayStep, InA, InB, Pumps, MayStepOn, ReachedGateway, gateway_after, world_with_fixes}
-use Rattle.jt_gateway.specs.Claim.{BothAreReached, EachReachedPasses, Passed}
+use Rattle.jt_gateway.specs.Claim.{BothAreReached, EachLedPasses, EachReachedPasses, Passed}
 use Rattle.jt_gateway.proofs.Prefixes.{all_in_prefix, prefix_fixes, prefix_more, prefix_trans}
 use Rattle.jt_gateway.proofs.Leaving.{reached_after, reached_fixes, reached_with_fixes, recorded_by, recorded_stays, rows_grow}
 
@@ -69,12 +69,17 @@ module _ (kept : EachReachedIsKept) where
       begins : Sound (gateway_empty r.phone_a r.phone_b r.setting_a r.setting_b)
       begins = record { a = empty_reached r.phone_a r.setting_a r.good_a; b = empty_reached r.phone_b r.setting_b r.good_b; relayed = ([], refl) }
 
-  pub each_passes : EachReachedPasses
-  each_passes g r =
-      let s = reached_sound g r in
+  sound_passes : (g : GatewayWorld) → Sound g → Passed g
+  sound_passes g s =
       let a = (kept g.a s.a).delivered in
       let b = (kept g.b s.b).delivered in
       record { upstream = b.recorded; relayed = s.relayed; middle = a.recorded; units = b.first_units; told = b.told }
+
+  pub each_passes : EachReachedPasses
+  each_passes g r = sound_passes g (reached_sound g r)
+
+  pub each_led : EachLedPasses
+  each_led g h r l = sound_passes h (subst Sound l.to (all_sound g l.events (reached_sound g r) l.may))
 
   pub both_reached : BothAreReached
   both_reached g r = let s = reached_sound g r in (s.a, s.b)

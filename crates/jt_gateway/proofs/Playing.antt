@@ -2,7 +2,7 @@
 use Rattle.std.proofs.Common.{◌≡◌, ℕ, zero, suc, List, [], ◌∷◌, ◌++◌, Bool, true, false, cond, Option, None, Some, refl, sym, ap, ◌∙◌, subst}
 use Rattle.std.specs.Prelude.{◌&&◌, ◌+◌, ◌^◌, is_none, min}
 use Rattle.jt_value.specs.declared.phone.Edition.{Edition}
-use Rattle.jt_value.specs.declared.phone.Edition.TheVariants.{E2013, E2019}
+use Rattle.jt_value.specs.declared.phone.Edition.TheVariants.{E2013}
 use Rattle.jt_position.specs.Fixes.{position_at}
 use Rattle.jt_position.specs.Positions.{position}
 use Rattle.jt_session.specs.Talk.{State as Session, Way}
@@ -27,11 +27,9 @@ use Rattle.jt_script.specs.declared.world_event.WorldEvent.{WorldEvent}
 use Rattle.jt_script.specs.declared.world_event.WorldEvent.TheVariants as line
 use Rattle.jt_play.specs.Laws.{first_play, plays}
 use Rattle.jt_play.specs.Playing.{Play, acts, beats, begins, behind_first, closes, comes_down, cuts, done, goes_on, goes_up, has_left, heard_in, if_using, left_of, loaded_of, loses, meets, moves, octets_moving, opens, place_of, play_after, reads, reads_by, reads_down, reads_more, reads_one, records, round, rounds, runs, starts_again, takes, takes_by, takes_first, takes_one, takes_up, ticks, way_at}
-use Rattle.jt_play.specs.Scripts.{IsScripted, Scene, edition_after, edition_by, settings_in}
-use Rattle.jt_gateway.specs.Gateway.{IsLed, is_line_of_b, play_with_fixes, scene_after}
-use Rattle.jt_world.specs.Rehearsal.{the_identity}
-use Rattle.jt_play.specs.declared.identity.Identity.{Identity}
-use Rattle.jt_gateway.proofs.Noting.{NotesNone, heard_keeps, rule_keeps}
+use Rattle.jt_play.specs.Scripts.{IsScripted, Scene, settings_in}
+use Rattle.jt_gateway.specs.Gateway.{is_line_of_b}
+use Rattle.jt_play.proofs.RuleNotes.{NotesNone, heard_keeps, rule_keeps}
 
 -- ---- worlds: the terminal recorded the same, and has the same phone
 
@@ -143,12 +141,8 @@ pub record Started (p q : Play) (settings : Settings) : Type 0 where
 abbrev pub Own : Play → Type 0
 Own p = (p.world.terminal.phone ≡ p.state.settings.phone) × (p.world.terminal.recorded ≡ p.held.recorded)
 
-abbrev pub edition_of : Play → Edition
-edition_of p = p.state.settings.phone.edition
-
-edition_with : (p : Play) (fixes : List (List ℕ)) → edition_of (play_with_fixes p fixes) ≡ edition_of p
-edition_with p [] = refl
-edition_with p (fix ∷ fixes) = edition_with (records p fix) fixes
+pub same_scene : (s t : Scene) → s.play ≡ t.play → s.identity ≡ t.identity → s.edition ≡ t.edition → s ≡ t
+same_scene s t play identity edition = λ i. record { play = play i; identity = identity i; edition = edition i }
 
 module _ (keeps : RuleKeepsSettings) where
   at_settings : (s : State) (x : Option Heard) → (rule_at s x).state.settings ≡ s.settings
@@ -248,64 +242,3 @@ module _ (keeps : RuleKeepsSettings) where
 
   pub own_scripted : (s : Scene) → IsScripted s → Own s.play
   own_scripted s is = subst Own (sym is.play_is) (own_along (settings_in s.identity) (first_play (settings_in s.identity E2013) is.setting) is.events (refl, refl))
-
-  -- ---- the present edition is that of the terminal
-
-  module _ (who : Edition → Settings) (who_is : (e : Edition) → (who e).phone.edition ≡ e) where
-    quiet_edition : (p : Play) (e : WorldEvent) → is_line_of_b e ≡ true → Own p → edition_of (play_after who p e) ≡ edition_of p
-    quiet_edition p e of_b own = ap (λ (s : Settings). s.phone.edition) (line_quiet who p e of_b own).1
-
-    edition_same : (p : Play) (e : WorldEvent) → Own p → edition_of (play_after who p e) ≡ edition_by (edition_of p) e
-    edition_same p (line.Fix latitude) own = refl
-    edition_same p (line.Raw fix) own = refl
-    edition_same p (line.RestartAs edition) own = ap (λ (s : Settings). s.phone.edition) (started p (who edition)).settings_are ∙ who_is edition
-    edition_same p line.Open own = quiet_edition p line.Open refl own
-    edition_same p (line.Up number count) own = quiet_edition p (line.Up number count) refl own
-    edition_same p (line.Down count) own = quiet_edition p (line.Down count) refl own
-    edition_same p (line.Tick by) own = quiet_edition p (line.Tick by) refl own
-    edition_same p (line.Beat n) own = quiet_edition p (line.Beat n) refl own
-    edition_same p line.Run own = quiet_edition p line.Run refl own
-    edition_same p (line.Cut number) own = quiet_edition p (line.Cut number) refl own
-    edition_same p line.Lost own = quiet_edition p line.Lost refl own
-    edition_same p line.RestartTerminal own = quiet_edition p line.RestartTerminal refl own
-    edition_same p line.RestartPlatform own = quiet_edition p line.RestartPlatform refl own
-
-    edition_along : (p : Play) (events : List WorldEvent) → Own p → edition_of (plays who p events) ≡ edition_after (edition_of p) events
-    edition_along p [] own = refl
-    edition_along p (e ∷ events) own = edition_along (play_after who p e) events (own_after who p e own) ∙ ap (λ (x : Edition). edition_after x events) (edition_same p e own)
-
-  its_edition : (e : Edition) → (settings_in the_identity e).phone.edition ≡ e
-  its_edition E2013 = refl
-  its_edition E2019 = refl
-
-  each_edition : (s : Scene) → IsLed s → (e : Edition) → (settings_in s.identity e).phone.edition ≡ e
-  each_edition s led e = ap (λ (i : Identity). (settings_in i e).phone.edition) led.identity ∙ its_edition e
-
-  pub edition_known : (s : Scene) → IsLed s → s.edition ≡ edition_of s.play
-  edition_known s led =
-      let who = settings_in s.identity in
-      let begun = first_play (who E2013) led.scripted.setting in
-      led.scripted.edition_is
-      ∙ (ap (λ (x : Edition). edition_after x led.scripted.events) (sym (each_edition s led E2013))
-      ∙ (sym (edition_along who (each_edition s led) begun led.scripted.events (refl, refl))
-      ∙ ap edition_of (sym led.scripted.play_is)))
-
-  -- where lines led to both worlds, the one behind a line is told by its play
-  pub scene_on : (old now : Scene) (event : WorldEvent) → IsLed old → IsScripted now → now.play ≡ (scene_after old event).play → now.identity ≡ old.identity → now ≡ scene_after old event
-  scene_on old now event led scripted is identity = λ i. record { play = is i; identity = identity i; edition = edition i }
-    where
-      edition : now.edition ≡ edition_by old.edition event
-      edition =
-          edition_known now (record { scripted = scripted; identity = identity ∙ led.identity })
-          ∙ (ap edition_of is
-          ∙ (edition_same (settings_in old.identity) (each_edition old led) old.play event (own_scripted old led.scripted)
-          ∙ ap (λ (x : Edition). edition_by x event) (sym (edition_known old led))))
-
-  pub scene_with : (old now : Scene) (fixes : List (List ℕ)) → IsLed old → IsScripted now → now.play ≡ play_with_fixes old.play fixes → now.identity ≡ old.identity
-      → now ≡ record old { play = play_with_fixes old.play fixes }
-  scene_with old now fixes led scripted is identity = λ i. record { play = is i; identity = identity i; edition = edition i }
-    where
-      edition : now.edition ≡ old.edition
-      edition =
-          edition_known now (record { scripted = scripted; identity = identity ∙ led.identity })
-          ∙ (ap edition_of is ∙ (edition_with old.play fixes ∙ sym (edition_known old led)))

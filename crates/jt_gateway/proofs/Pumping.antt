@@ -1,5 +1,5 @@
 -- Fixes that are recorded one after the other, as many as there is room for.
-use Rattle.std.proofs.Common.{◌≡◌, ℕ, ◌+◌, ◌-◌, ◌<◌, ◌≤◌, ◌^◌, List, [], ◌∷◌, ◌++◌, length, take, get_or, Result, Ok, Err, OnOk, true, false, arith, refl, sym, ap, ◌∙◌, subst}
+use Rattle.std.proofs.Common.{◌≡◌, ℕ, ◌+◌, ◌-◌, ◌<◌, ◌≤◌, ◌^◌, List, [], ◌∷◌, ◌++◌, length, take, get_or, Result, Ok, Err, OnOk, true, false, inl, inr, arith, refl, sym, ap, ◌∙◌, subst}
 use Rattle.std.specs.Prelude.{drop, nat_le, nat_lt, min, ◌↔◌}
 use Rattle.std.proofs.lemmas.Bool.{le-ltb, leb-true, le-leb, lt-ltb}
 use Rattle.std.proofs.lemmas.List.{append-nil, append_assoc, length-append, take_all, take_more}
@@ -8,33 +8,37 @@ use Rattle.jt_platform.specs.declared.request.Entry.{Entry}
 use Rattle.jt_store.specs.Units.{fixes_in}
 use Rattle.jt_store.specs.Vaults.{accepted_count}
 use Rattle.jt_script.specs.declared.world_event.WorldEvent.TheVariants as line
+use Rattle.jt_octets.specs.World.{World}
+use Rattle.jt_play.specs.Laws.{RecordsAtMost}
 use Rattle.jt_play.specs.Playing.{Play, finds_full, is_opened, records}
 use Rattle.jt_play.specs.Scripts.{IsScripted, Names, Scene}
 use Rattle.jt_play.specs.declared.error.WorldError.{WorldError}
 use Rattle.jt_play.specs.declared.error.WorldError.TheVariants as refused
 use Rattle.jt_gateway.specs.World.{fixes_behind}
-use Rattle.jt_gateway.specs.Gateway.{GatewayScene, play_with_fixes, room_for, worlds_of}
-use Rattle.jt_gateway.specs.Pumping.{EndsAlike, PumpsMost, RecordsMost, RecordsOne}
-use Rattle.jt_gateway.proofs.Playing.{Own}
+use Rattle.jt_gateway.specs.Gateway.{GatewayScene, play_with_fixes, room_for, scene_with_fixes, worlds_of}
+use Rattle.jt_gateway.specs.Pumping.{EndsAlike, PumpsMost, RecordsFirst, RecordsMost, RecordsOne}
+use Rattle.jt_gateway.proofs.Gateways.{records_world}
+use Rattle.jt_gateway.proofs.Leaving.{recorded_by}
+use Rattle.jt_gateway.proofs.Playing.{same_scene}
 
 -- ---- one fix
 
 pub one_recorded : (old now : Scene) (fix : List ℕ) (r : Result (List Entry) WorldError) (out : Result (Unit {0}) WorldError) → EndsAlike r out
-    → OnOk r (now.play ≡ records old.play fix) → OnOk r (IsScripted now)
+    → (IsScripted old → OnOk r (IsScripted now)) → OnOk r (now.play ≡ records old.play fix) → now.identity ≡ old.identity → OnOk r (now.edition ≡ old.edition)
     → ((number : ℕ) → (r ≡ Err (refused.NoLine number)) ↔ (Names (line.Raw fix) number × (is_opened old.play.world number ≡ false)))
     → ((limit : ℕ) → r ≡ Err (refused.Full limit) → (limit ≡ FIX_LIMIT) × (finds_full FIX_LIMIT old.play (line.Raw fix) ≡ true))
     → OnOk r (finds_full FIX_LIMIT old.play (line.Raw fix) ≡ false)
     → ((error : WorldError) → r ≡ Err error → (error ≡ refused.Memory → ⊥) → now ≡ old)
     → RecordsOne old now fix out
-one_recorded old now fix (Ok x) (Ok u) alike ok scripted no_line full room same = (scripted, ok, room)
-one_recorded old now fix (Ok x) (Err e) alike ok scripted no_line full room same = absurd alike
-one_recorded old now fix (Err e) (Ok u) alike ok scripted no_line full room same = absurd alike
-one_recorded old now fix (Err e) (Err (refused.Full limit)) alike ok scripted no_line full room same =
+one_recorded old now fix (Ok x) (Ok u) alike scripted play identity edition no_line full room same = (scripted, same_scene now (scene_with_fixes old (fix ∷ [])) play identity edition, room)
+one_recorded old now fix (Ok x) (Err e) alike scripted play identity edition no_line full room same = absurd alike
+one_recorded old now fix (Err e) (Ok u) alike scripted play identity edition no_line full room same = absurd alike
+one_recorded old now fix (Err e) (Err (refused.Full limit)) alike scripted play identity edition no_line full room same =
     let is = ap (λ (x : WorldError). Err x) (sym alike) in
     let f = full limit is in
     (f.0, same (refused.Full limit) is (λ m. absurd cc), f.1)
-one_recorded old now fix (Err e) (Err (refused.NoLine number)) alike ok scripted no_line full room same = ((no_line number).0 (ap (λ (x : WorldError). Err x) (sym alike))).0
-one_recorded old now fix (Err e) (Err refused.Memory) alike ok scripted no_line full room same = tt
+one_recorded old now fix (Err e) (Err (refused.NoLine number)) alike scripted play identity edition no_line full room same = ((no_line number).0 (ap (λ (x : WorldError). Err x) (sym alike))).0
+one_recorded old now fix (Err e) (Err refused.Memory) alike scripted play identity edition no_line full room same = tt
 
 -- ---- many
 
@@ -72,25 +76,25 @@ no_room p fix is = let le : 100000 ≤ length p.held.recorded - accepted_count p
 
 -- what is known in front of the fix of this place
 pub record At (old now : Scene) (fixes : List (List ℕ)) (i : ℕ) : Type 0 where
-  pub scripted : IsScripted now
-  pub play : now.play ≡ play_with_fixes old.play (take i fixes)
+  pub scripted : IsScripted old → IsScripted now
+  pub is : now ≡ scene_with_fixes old (take i fixes)
   pub room : i ≤ room_for old.play
 
-pub at_first : (old : Scene) (fixes : List (List ℕ)) → IsScripted old → At old old fixes 0
-at_first old fixes s = record { scripted = s; play = refl; room = omega arith }
+pub at_first : (old : Scene) (fixes : List (List ℕ)) → At old old fixes 0
+at_first old fixes = record { scripted = λ s. s; is = refl; room = omega arith }
 
 room_at : (old mid : Scene) (fixes : List (List ℕ)) (i : ℕ) → i < length fixes → At old mid fixes i → room_for mid.play ≡ room_for old.play - i
-room_at old mid fixes i lt at = ap room_for at.play ∙ (room_left old.play (take i fixes) ∙ ap (λ (n : ℕ). room_for old.play - n) (length_take i fixes (omega (arith, lt))))
+room_at old mid fixes i lt at = ap (λ (s : Scene). room_for s.play) at.is ∙ (room_left old.play (take i fixes) ∙ ap (λ (n : ℕ). room_for old.play - n) (length_take i fixes (omega (arith, lt))))
 
 pub at_next : (old mid now : Scene) (fixes : List (List ℕ)) (i : ℕ) (fix : List ℕ) (u : Unit {0}) → i < length fixes → fix ≡ get_or fixes i fix → At old mid fixes i → RecordsOne mid now fix (Ok u) → At old now fixes (i + 1)
 at_next old mid now fixes i fix u lt is at one = record {
-  scripted = one.0;
-  play = one.1 ∙ (ap (λ (p : Play). records p fix) at.play ∙ sym (records_more old.play fixes i fix lt is));
+  scripted = λ s. one.0 (at.scripted s);
+  is = one.1 ∙ (ap (λ (s : Scene). scene_with_fixes s (fix ∷ [])) at.is ∙ ap (λ (p : Play). record old { play = p }) (sym (records_more old.play fixes i fix lt is)));
   room = let more = has_room mid.play fix one.2 in let e = room_at old mid fixes i lt at in omega (arith, more, e);
 }
 
 pub at_end : (old now : Scene) (fixes : List (List ℕ)) (i : ℕ) (u : Unit {0}) → i ≡ length fixes → At old now fixes i → RecordsMost old now fixes (Ok u)
-at_end old now fixes i u is at = (at.scripted, at.play ∙ ap (play_with_fixes old.play) (ap (λ (n : ℕ). take n fixes) is ∙ take_all (length fixes) fixes (omega arith)), omega (arith, is, at.room))
+at_end old now fixes i u is at = (at.scripted, at.is ∙ ap (scene_with_fixes old) (ap (λ (n : ℕ). take n fixes) is ∙ take_all (length fixes) fixes (omega arith)), omega (arith, is, at.room))
 
 pub at_error : (old mid now : Scene) (fixes : List (List ℕ)) (i : ℕ) (fix : List ℕ) (e : WorldError) → i < length fixes → At old mid fixes i → RecordsOne mid now fix (Err e) → RecordsMost old now fixes (Err e)
 at_error old mid now fixes i fix (refused.Full limit) lt at one =
@@ -98,31 +102,54 @@ at_error old mid now fixes i fix (refused.Full limit) lt at one =
     let e = room_at old mid fixes i lt at in
     let all : i ≡ room_for old.play = omega (arith, none, e, at.room) in (
       one.0,
-      subst IsScripted (sym one.1) at.scripted,
-      ap (λ (s : Scene). s.play) one.1 ∙ (at.play ∙ ap (λ (n : ℕ). play_with_fixes old.play (take n fixes)) all),
+      λ s. subst IsScripted (sym one.1) (at.scripted s),
+      one.1 ∙ (at.is ∙ ap (λ (n : ℕ). scene_with_fixes old (take n fixes)) all),
       omega (arith, all, lt),
     )
 at_error old mid now fixes i fix (refused.NoLine number) lt at one = one
 at_error old mid now fixes i fix refused.Memory lt at one = tt
+
+-- ---- what was recorded, also where that was cut short
+
+recorded_at : (old now : Scene) (fixes : List (List ℕ)) (i : ℕ) → At old now fixes i → now.play.world.terminal.recorded ≡ old.play.world.terminal.recorded ++ take i fixes
+recorded_at old now fixes i at =
+    ap (λ (s : Scene). s.play.world.terminal.recorded) at.is ∙ (ap (λ (w : World). w.terminal.recorded) (records_world old.play (take i fixes)) ∙ recorded_by (take i fixes) old.play.world)
+
+pub first_at : (old now : Scene) (fixes : List (List ℕ)) (i : ℕ) → At old now fixes i → RecordsFirst old.play.world.terminal.recorded now.play.world.terminal.recorded fixes
+first_at old now fixes i at = record { count = i; is = recorded_at old now fixes i at }
+
+pub first_more : (old mid now : Scene) (fixes : List (List ℕ)) (i : ℕ) (fix : List ℕ) → i < length fixes → fix ≡ get_or fixes i fix → At old mid fixes i
+    → RecordsAtMost (line.Raw fix) mid.play.world.terminal.recorded now.play.world.terminal.recorded → RecordsFirst old.play.world.terminal.recorded now.play.world.terminal.recorded fixes
+first_more old mid now fixes i fix lt is at (inl same) = record { count = i; is = same ∙ recorded_at old mid fixes i at }
+first_more old mid now fixes i fix lt is at (inr more) = record {
+  count = i + 1;
+  is = more ∙ (ap (λ (l : List (List ℕ)). l ++ fix ∷ []) (recorded_at old mid fixes i at)
+      ∙ (append_assoc recorded (take i fixes) (fix ∷ []) ∙ ap (λ (l : List (List ℕ)). recorded ++ l) (sym (take_more fixes i fix lt ∙ ap (λ (x : List ℕ). take i fixes ++ x ∷ []) (sym is)))));
+}
+  where
+    recorded : List (List ℕ)
+    recorded = old.play.world.terminal.recorded
 
 -- ---- those that are to be passed on
 
 whole_mark : (mark n : ℕ) → mark ≡ min n (2 ^ 64 - 1) → (mark ≡ 2 ^ 64 - 1 → ⊥) → mark ≡ n
 whole_mark mark n is apart = grind arith
 
-pub pumps : (old new : GatewayScene) (b : Scene) (mark : ℕ) (fixes : List (List ℕ)) (r : Result (Unit {0}) WorldError) → Own old.b.play → new.b ≡ b
-    → mark ≡ min (length old.b.play.held.recorded) (2 ^ 64 - 1) → (mark ≡ 2 ^ 64 - 1 → ⊥) → fixes ≡ drop mark (fixes_in old.a.play.world.keeper.rows) → RecordsMost old.b b fixes r → PumpsMost old new r
-pumps old new b mark fixes r own new_is mark_is apart fixes_are most = by r (subst (λ (l : List (List ℕ)). RecordsMost old.b b l r) all most)
-  where
-    all : fixes ≡ fixes_behind (worlds_of old)
-    all = fixes_are ∙ ap (λ (n : ℕ). drop n (fixes_in old.a.play.world.keeper.rows)) (whole_mark mark (length old.b.play.held.recorded) mark_is apart ∙ ap (λ (l : List (List ℕ)). length l) (sym own.1))
+-- those behind the number that was recorded
+pub behind_are : (g : GatewayScene) (mark : ℕ) (fixes : List (List ℕ)) → g.b.play.held.recorded ≡ g.b.play.world.terminal.recorded
+    → mark ≡ min (length g.b.play.held.recorded) (2 ^ 64 - 1) → (mark ≡ 2 ^ 64 - 1 → ⊥) → fixes ≡ drop mark (fixes_in g.a.play.world.keeper.rows) → fixes ≡ fixes_behind (worlds_of g)
+behind_are g mark fixes held mark_is apart are =
+    are ∙ ap (λ (n : ℕ). drop n (fixes_in g.a.play.world.keeper.rows)) (whole_mark mark (length g.b.play.held.recorded) mark_is apart ∙ ap (λ (l : List (List ℕ)). length l) held)
 
-    by : (x : Result (Unit {0}) WorldError) → RecordsMost old.b b (fixes_behind (worlds_of old)) x → PumpsMost old new x
+pub pumps : (old : GatewayScene) (b : Scene) (fixes : List (List ℕ)) (r : Result (Unit {0}) WorldError) → fixes ≡ fixes_behind (worlds_of old) → RecordsMost old.b b fixes r → PumpsMost old (record old { b = b }) r
+pumps old b fixes r are most = by r (subst (λ (l : List (List ℕ)). RecordsMost old.b b l r) are most)
+  where
+    by : (x : Result (Unit {0}) WorldError) → RecordsMost old.b b (fixes_behind (worlds_of old)) x → PumpsMost old (record old { b = b }) x
     by (Ok u) m = (
-      subst IsScripted (sym new_is) m.0,
-      ap (λ (s : Scene). s.play) new_is ∙ (m.1 ∙ ap (play_with_fixes old.b.play) (sym (take_all (room_for old.b.play) (fixes_behind (worlds_of old)) m.2))),
+      m.0,
+      ap (λ (s : Scene). record old { b = s }) (m.1 ∙ ap (scene_with_fixes old.b) (sym (take_all (room_for old.b.play) (fixes_behind (worlds_of old)) m.2))),
       le-ltb (room_for old.b.play) (length (fixes_behind (worlds_of old))) m.2,
     )
-    by (Err (refused.Full limit)) m = (m.0, subst IsScripted (sym new_is) m.1, ap (λ (s : Scene). s.play) new_is ∙ m.2, lt-ltb (room_for old.b.play) (length (fixes_behind (worlds_of old))) m.3)
+    by (Err (refused.Full limit)) m = (m.0, m.1, ap (λ (s : Scene). record old { b = s }) m.2, lt-ltb (room_for old.b.play) (length (fixes_behind (worlds_of old))) m.3)
     by (Err (refused.NoLine number)) m = m
     by (Err refused.Memory) m = tt

@@ -48,19 +48,22 @@ abbrev pub play_with_fixes : Play → List (List ℕ) → Play
 play_with_fixes p [] = p
 play_with_fixes p (fix ∷ fixes) = play_with_fixes (records p fix) fixes
 
+abbrev pub scene_with_fixes : Scene → List (List ℕ) → Scene
+scene_with_fixes s fixes = record s { play = play_with_fixes s.play fixes }
+
 -- so many fixes more, and as many as the limit are not accepted
 abbrev pub room_for : Play → ℕ
 room_for p = (FIX_LIMIT + accepted_count p.held) - length p.held.recorded
 
 -- the fixes that are to be passed on are recorded in world b, as many as there is room for
-abbrev pub play_after_pump : GatewayScene → Play
-play_after_pump g = play_with_fixes g.b.play (take (room_for g.b.play) (fixes_behind (worlds_of g)))
+abbrev pub scene_after_pump : GatewayScene → Scene
+scene_after_pump g = scene_with_fixes g.b (take (room_for g.b.play) (fixes_behind (worlds_of g)))
 
 -- the operator starts anew: its platform in world a, its terminal in world b
 abbrev pub gateway_after_line : GatewayScene → GatewayEvent → GatewayScene
 gateway_after_line g (asked.A event) = record g { a = scene_after g.a event }
 gateway_after_line g (asked.B event) = record g { b = scene_after g.b event }
-gateway_after_line g asked.Pump = record g { b = record g.b { play = play_after_pump g } }
+gateway_after_line g asked.Pump = record g { b = scene_after_pump g }
 gateway_after_line g asked.RestartMiddle = record { a = scene_after g.a line.RestartPlatform; b = scene_after g.b line.RestartTerminal }
 
 -- the entries that a line made, in order; a pump and a restart make none
@@ -100,6 +103,12 @@ first_scene = record { play = first; identity = the_identity; edition = E2013 }
 -- world a is that of a rehearsal, world b is it after `restart terminal 2019`
 abbrev pub first_gateway : GatewayScene
 first_gateway = record { a = first_scene; b = scene_after first_scene (line.RestartAs E2019) }
+
+-- the terminal is one of 2019, and starts anew as one
+pub record IsOf2019 (s : Scene) : Type 0 where
+  pub phone : s.play.world.terminal.phone.edition ≡ E2019
+  pub edition : s.edition ≡ E2019
+  pub identity : s.identity.e2019.phone.edition ≡ E2019
 
 -- lines alone led to the world, whose terminal is the one of a rehearsal
 pub record IsLed (s : Scene) : Type 0 where

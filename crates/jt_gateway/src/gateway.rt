@@ -4,11 +4,12 @@ ghost use Rattle.std.specs.Prelude.{◌≡◌, ◌≢◌, ◌↔◌, ℕ, [], tr
 ghost use Rattle.jt_value.specs.declared.limits.TheConstants.{FIX_LIMIT};
 ghost use Rattle.jt_value.specs.declared.phone.Edition.TheVariants.{E2019};
 ghost use Rattle.jt_octets.specs.Reaching.{Leads};
-ghost use Rattle.jt_play.specs.Scripts.{IsScripted};
+ghost use Rattle.jt_play.specs.Laws.{RecordsAtMost};
 ghost use Rattle.jt_play.specs.declared.error.WorldError.TheVariants as refused;
 ghost use Rattle.jt_script.specs.declared.world_event.WorldEvent.TheVariants as line;
-ghost use Rattle.jt_gateway.specs.Pumping.{EndsAlike, IsBegun, IsUpstream, PumpsMost, RecordsMost, RecordsOne, RestartsMiddle, Stepped};
-ghost use Rattle.jt_gateway.specs.Gateway.{HasNoLine, IsGateway, MayAsk, entries_of, first_gateway, first_scene, gateway_after_line, gateway_at_full, gateway_full, scene_after};
+ghost use Rattle.jt_gateway.specs.Steps.{GatewayLeads};
+ghost use Rattle.jt_gateway.specs.Pumping.{EndsAlike, IsBegun, IsUpstream, PumpsMost, RecordsFirst, RecordsMost, RecordsOne, RestartsMiddle, Stepped};
+ghost use Rattle.jt_gateway.specs.Gateway.{HasNoLine, IsGateway, IsOf2019, MayAsk, entries_of, first_gateway, first_scene, gateway_after_line, gateway_at_full, gateway_full, scene_after, worlds_of};
 
 use crate::event::GatewayEvent;
 use jt_platform::Entry;
@@ -34,13 +35,15 @@ impl Model for Gateway {
     ghost use Rattle.jt_params.specs.contracts.table.ParamTable as params;
     ghost use Rattle.jt_regions.specs.contracts.region_table.RegionTable as regions;
     ghost use Rattle.jt_gateway.specs.Pumping.{PumpsMost, RecordsMost, RecordsOne};
-    ghost use Rattle.jt_gateway.specs.Gateway.{GatewayScene};
+    ghost use Rattle.jt_gateway.specs.Gateway.{GatewayScene, IsOf2019};
 
     ghost Value = { GatewayScene };
 
     ghost coded = { Prim.hlevel (codes, partial_code, params.the_row.coded, regions.the_row.coded) };
 
     ghost view = { λ g. record { a = g.a; b = g.b } };
+
+    ghost invariant = { λ g. IsOf2019 g.b };
 }
 
 // What a line is answered, without its entries.
@@ -66,9 +69,11 @@ fn with_no_entry(alloc: Global, done: Result<(), WorldError>) -> Result<Seq<Entr
 
 // A fix is recorded.
 fn record(alloc: Global, world: &mut World, fix: &Fix) -> Result<(), WorldError>
-    ensures records { IsScripted world.old → RecordsOne world.old world.new fix.now result }
+    ensures records { RecordsOne world.old world.new fix.now result }
+    ensures recorded { RecordsAtMost (line.Raw fix.now) world.old.play.world.terminal.recorded
+        world.new.play.world.terminal.recorded }
+    ensures edition { IsOf2019 world.old → IsOf2019 world.new }
     ensures leads { Leads world.old.play.world world.new.play.world }
-    ensures identity { world.new.identity ≡ world.old.identity }
 {
     match fix.clone() {
         Ok(fix) => without_entries(world.step(alloc, WorldEvent::Raw(fix))),
@@ -78,9 +83,11 @@ fn record(alloc: Global, world: &mut World, fix: &Fix) -> Result<(), WorldError>
 
 // These fixes are recorded, as many as there is room for.
 fn record_all(alloc: Global, world: &mut World, fixes: &[Fix]) -> Result<(), WorldError>
-    ensures records { IsScripted world.old → RecordsMost world.old world.new fixes.now result }
+    ensures records { RecordsMost world.old world.new fixes.now result }
+    ensures first { RecordsFirst world.old.play.world.terminal.recorded
+        world.new.play.world.terminal.recorded fixes.now }
+    ensures edition { IsOf2019 world.old → IsOf2019 world.new }
     ensures leads { Leads world.old.play.world world.new.play.world }
-    ensures identity { world.new.identity ≡ world.old.identity }
 {
     for fix in fixes {
         match record(alloc, world, fix) {
@@ -110,7 +117,6 @@ fn first_world(alloc: Global) -> Result<World, Memory>
     ensures is { IfOk result (λ world. world ≡ first_scene) }
     ensures begun { IfOk result IsBegun }
 {
-    law_rule();
     World::new(alloc)
 }
 
@@ -178,21 +184,22 @@ impl Gateway {
         &self.a
     }
 
-    /// The world in which the operator reports to the authority.
+    /// The world in which the operator reports to the authority. Its terminal is one of 2019.
     pub fn b(&self) -> &World
-        ensures { result.now ≡ self.now.b }
+        ensures is { result.now ≡ self.now.b }
+        ensures edition { result.now.play.world.terminal.phone.edition ≡ E2019 }
     {
         &self.b
     }
 
     // The fixes that are to be passed on are recorded, as many as there is room for.
     fn pump(&mut self, alloc: Global) -> Result<(), WorldError>
-        ensures pumps { IsScripted self.old.b → PumpsMost self.old self.new result }
+        ensures pumps { PumpsMost self.old self.new result }
+        ensures leads { GatewayLeads (worlds_of self.old) (worlds_of self.new) }
+        ensures edition { self.new.b.play.world.terminal.phone.edition ≡ E2019 }
         ensures a { self.new.a ≡ self.old.a }
         ensures b { Leads self.old.b.play.world self.new.b.play.world }
-        ensures identity { self.new.b.identity ≡ self.old.b.identity }
     {
-        law_rule();
         let mark = self.b.recorded();
         if mark == u64::MAX {
             return Err(WorldError::Memory);
@@ -205,8 +212,9 @@ impl Gateway {
 
     // The operator starts anew: its platform, and then its terminal.
     fn restart_middle(&mut self, alloc: Global) -> Result<(), WorldError>
-        ensures restarts { IsScripted self.old.a → IsScripted self.old.b →
-            RestartsMiddle self.old self.new result }
+        ensures restarts { RestartsMiddle self.old self.new result }
+        ensures leads { GatewayLeads (worlds_of self.old) (worlds_of self.new) }
+        ensures edition { self.new.b.play.world.terminal.phone.edition ≡ E2019 }
         ensures a { Leads self.old.a.play.world self.new.a.play.world }
         ensures b { Leads self.old.b.play.world self.new.b.play.world }
     {
@@ -231,27 +239,30 @@ impl Gateway {
     }
 
     /// A line of a script, and the entries that it made, in order: of the world that it names; a pump and a restart make none. An
-    /// event of world b is no Fix, Raw or RestartAs. After each answer but Memory the gateway is one to which lines alone led, if it
-    /// was one before, so that its fixes were passed on as `law_gateway` says; after Ok it is the one that the line defines.
+    /// event of world b is no Fix, Raw or RestartAs. After each answer the gateway is one to which steps of the gateway's world lead, so
+    /// that its fixes were passed on as `law_gateway` says, and the terminal of world b is one of 2019. If lines alone led to the gateway
+    /// before, they lead to it after each answer but Memory, and after Ok it is the one that the line defines.
     ///
     /// NoLine comes exactly where the line of communication that is named was not opened; the gateway is then as before. Full comes
     /// where as many fixes as the limit are not accepted and one is to be recorded; the gateway is then as before, but that a pump
     /// recorded as many as there was room for. Memory comes where memory ran out, or where as many lines were opened or fixes recorded
-    /// as have a number; the line was then done in part, and both worlds are such to which steps of their own lead.
+    /// as have a number; the line was then done in part.
     pub fn step(&mut self, alloc: Global, event: GatewayEvent) -> Result<Seq<Entry>, WorldError>
         requires { MayAsk event }
+        ensures leads { GatewayLeads (worlds_of self.old) (worlds_of self.new) }
         ensures gateway { IsGateway self.old → result ≢ Err refused.Memory → IsGateway self.new }
         ensures ok { IsGateway self.old →
             OnOk result (self.new ≡ gateway_after_line self.old event) }
-        ensures full { IsGateway self.old → (limit : ℕ) → result ≡ Err (refused.Full limit) →
+        ensures full { (limit : ℕ) → result ≡ Err (refused.Full limit) →
             (limit ≡ FIX_LIMIT) × (gateway_full self.old event ≡ true)
             × (self.new ≡ gateway_at_full self.old event) }
-        ensures room { IsGateway self.old → OnOk result (gateway_full self.old event ≡ false) }
-        ensures no_line { IsGateway self.old → (number : ℕ) →
+        ensures room { OnOk result (gateway_full self.old event ≡ false) }
+        ensures no_line { (number : ℕ) →
             (result ≡ Err (refused.NoLine number)) ↔ HasNoLine self.old event number }
-        ensures same { (number : ℕ) → IsGateway self.old → result ≡ Err (refused.NoLine number) →
+        ensures same { (number : ℕ) → result ≡ Err (refused.NoLine number) →
             self.new ≡ self.old }
         ensures entries { IfOk result (λ entries. entries ≡ entries_of self.old self.new event) }
+        ensures edition { self.new.b.play.world.terminal.phone.edition ≡ E2019 }
         ensures a { Leads self.old.a.play.world self.new.a.play.world }
         ensures b { Leads self.old.b.play.world self.new.b.play.world }
     {

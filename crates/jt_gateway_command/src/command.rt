@@ -25,6 +25,10 @@ fn play_by<S: Source, K: Sink>(
         Rose (S.faults source.old) (S.faults source.new) }
     ensures write_fault { result ≡ Status.WriteFault →
         Rose (K.faults sink.old) (K.faults sink.new) }
+    // Every other status, so Memory too, comes only where the counts of faults stood still.
+    ensures read_still { result ≢ Status.ReadFault →
+        S.faults source.new ≡ S.faults source.old }
+    ensures write_still { result ≢ Status.WriteFault → K.faults sink.new ≡ K.faults sink.old }
     ensures not_usage { result ≢ Status.Usage }
 {
     law_gateway();
@@ -43,6 +47,10 @@ pub fn gateway<S: Source, K: Sink>(alloc: Global, source: &mut S, sink: &mut K) 
         Rose (S.faults source.old) (S.faults source.new) }
     ensures write_fault { result ≡ Status.WriteFault →
         Rose (K.faults sink.old) (K.faults sink.new) }
+    // Every other status, so Memory too, comes only where the counts of faults stood still.
+    ensures read_still { result ≢ Status.ReadFault →
+        S.faults source.new ≡ S.faults source.old }
+    ensures write_still { result ≢ Status.WriteFault → K.faults sink.new ≡ K.faults sink.old }
     ensures not_usage { result ≢ Status.Usage }
 {
     let Ok(player) = GatewayPlayer::new(alloc) else {

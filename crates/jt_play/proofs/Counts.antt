@@ -112,7 +112,7 @@ stays_if p false x y a b = b
 stays_self : (p : Play) → Stays p p
 stays_self p = (refl, more_self p.world)
 
-held_same : (steps : List Step) (h : Held) → NotesNone steps → (held_after steps h).recorded ≡ h.recorded
+pub held_same : (steps : List Step) (h : Held) → NotesNone steps → (held_after steps h).recorded ≡ h.recorded
 held_same [] h none = refl
 held_same (rule_of.Changes (Notes fix) ∷ steps) h none = absurd none
 held_same (rule_of.Changes (Forms unit) ∷ steps) h none = held_same steps (held_by (Forms unit) h) none
@@ -123,7 +123,7 @@ held_same (rule_of.Says say body ∷ steps) h none = held_same steps h none
 held_same (rule_of.Opens ∷ steps) h none = held_same steps h none
 held_same (rule_of.Loses ∷ steps) h none = held_same steps h none
 
-at_none : (s : State) (x : Option Heard) → NotesNone (rule_at s x).steps
+pub at_none : (s : State) (x : Option Heard) → NotesNone (rule_at s x).steps
 at_none s None = tt
 at_none s (Some x) = heard_keeps s x
 

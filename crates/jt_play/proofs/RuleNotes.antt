@@ -29,7 +29,7 @@ NotesNone [] = Unit {0}
 NotesNone (rule_of.Changes (Notes fix) ∷ steps) = ⊥
 NotesNone (s ∷ steps) = NotesNone steps
 
-none_append : (a b : List Step) → NotesNone a → NotesNone b → NotesNone (a ++ b)
+pub none_append : (a b : List Step) → NotesNone a → NotesNone b → NotesNone (a ++ b)
 none_append [] b x y = y
 none_append (rule_of.Changes (Notes fix) ∷ a) b x y = absurd x
 none_append (rule_of.Changes (Forms unit) ∷ a) b x y = none_append a b x y

@@ -1,9 +1,10 @@
 -- Scripts of the world that is played: what contracts see of it, to which world the lines of a script lead, and how far that came (this
 -- project's own). To be believed.
-use Rattle.std.specs.Prelude.{◌≡◌, ℕ, ◌-◌, ◌^◌, List, [], ◌∷◌, length, min, false}
+use Rattle.std.specs.Prelude.{◌≡◌, ◌⊎◌, ℕ, ◌-◌, ◌^◌, List, [], ◌∷◌, length, min, false}
 use Rattle.jt_value.specs.Sameness.{key_of}
 use Rattle.jt_value.specs.declared.phone.Edition.{Edition}
 use Rattle.jt_value.specs.declared.phone.Edition.TheVariants.{E2013, E2019}
+use Rattle.jt_value.specs.declared.phone.Phone.{Phone}
 use Rattle.jt_store.specs.Units.{fixes_in}
 use Rattle.jt_store.specs.Vaults.{accepted_count}
 use Rattle.jt_script.specs.declared.world_event.WorldEvent.{WorldEvent}
@@ -51,6 +52,14 @@ edition_by edition other = edition
 abbrev pub edition_after : Edition → List WorldEvent → Edition
 edition_after edition [] = edition
 edition_after edition (e ∷ events) = edition_after (edition_by edition e) events
+
+-- After an event the terminal is in that edition, or in the one of before, as where the event was cut short.
+abbrev pub TakesEdition : WorldEvent → Edition → Edition → Type 0
+TakesEdition e old now = (now ≡ old) ⊎ (now ≡ edition_by old e)
+
+-- It has the phone of before, or its phone of that edition, as where it started anew.
+abbrev pub TakesPhone : Identity → Edition → WorldEvent → Phone → Phone → Type 0
+TakesPhone identity edition e old now = (now ≡ old) ⊎ (now ≡ (settings_in identity (edition_by edition e)).phone)
 
 -- the lines of a script, and nothing else, led to the world from that in which nothing has happened
 pub record IsScripted (s : Scene) : Type 0 where

@@ -1,10 +1,10 @@
 //! The parts of the world that run, and what a line of a script does to them.
 
-ghost use Rattle.std.specs.Prelude.{◌≡◌, ◌+◌, ◌-◌, ◌<◌, ◌≤◌, ◌^◌, ◌++◌, [], ◌∷◌, length, set, true, false, ℕ, Err, is_none, not, IfErr, IfOk, IfSome, IsSome, OnErr, OnOk, Some};
+ghost use Rattle.std.specs.Prelude.{◌≡◌, ◌+◌, ◌-◌, ◌<◌, ◌≤◌, ◌^◌, ◌++◌, ◌⊎◌, [], ◌∷◌, length, set, true, false, ℕ, Err, is_none, not, IfErr, IfOk, IfSome, IsSome, OnErr, OnOk, Some};
 ghost use Rattle.std.specs.List.{flat_map};
-ghost use Rattle.jt_play.specs.Holding.{FullWhere, TakesNext, is_short, ReadsNext, is_no_line, noted_at, tally_of, IsMoment, HasMoreRoom, IsNewHub, IsNewTerminal, IsNoOpening, first_line, shut_lines, wrote_last};
-ghost use Rattle.jt_play.specs.Laws.{HasFix, first_play};
-ghost use Rattle.jt_play.specs.Scripts.{IsPlayed, Names, at_most_u64, edition_by, settings_in};
+ghost use Rattle.jt_play.specs.Holding.{FullWhere, TakesNext, is_short, ReadsNext, is_no_line, noted_at, phone_in, recorded_in, tally_of, IsMoment, HasMoreRoom, IsNewHub, IsNewTerminal, IsNoOpening, first_line, shut_lines, wrote_last};
+ghost use Rattle.jt_play.specs.Laws.{HasFix, RecordsAtMost, first_play};
+ghost use Rattle.jt_play.specs.Scripts.{IsPlayed, Names, TakesEdition, TakesPhone, at_most_u64, edition_by, settings_in};
 ghost use Rattle.jt_play.specs.Playing.{beats, behind, begins, closes, cuts, finds_full, goes_on, goes_up, is_opened, loses, meets, moves, names_no_line, opens, play_after, reads, reads_down, reads_more, reads_one, records, round, RunsTo, starts_again, takes, takes_octet, takes_up, ticks};
 ghost use Rattle.jt_platform.specs.Laws.{AreOf};
 ghost use Rattle.jt_terminal_rule.specs.Messages.{AreSettings};
@@ -296,6 +296,8 @@ impl Stage {
         requires other { IsNoOpening event }
         requires moment { IsMoment self.old.clock event }
         ensures leads { Leads self.old.world self.new.world }
+        ensures recorded { recorded_in self.new ≡ recorded_in self.old }
+        ensures phone { phone_in self.new ≡ phone_in self.old }
         ensures whole { result ≡ true → self.new ≡ meets self.old event }
     {
         law_rule();
@@ -329,6 +331,8 @@ impl Stage {
     // The line in use is lost, where there is one.
     fn lose(&mut self, alloc: Global) -> bool
         ensures leads { Leads self.old.world self.new.world }
+        ensures recorded { recorded_in self.new ≡ recorded_in self.old }
+        ensures phone { phone_in self.new ≡ phone_in self.old }
         ensures whole { result ≡ true → self.new ≡ loses self.old }
     {
         if self.terminal.is_up() {
@@ -341,6 +345,8 @@ impl Stage {
     // The clock goes up, and the terminal is told.
     fn tick(&mut self, alloc: Global, by: u32) -> bool
         ensures leads { Leads self.old.world self.new.world }
+        ensures recorded { recorded_in self.new ≡ recorded_in self.old }
+        ensures phone { phone_in self.new ≡ phone_in self.old }
         ensures whole { result ≡ true → self.new ≡ ticks self.old by }
     {
         let more = u64::from(by);
@@ -355,6 +361,8 @@ impl Stage {
     // The terminal is told the moment.
     fn tell(&mut self, alloc: Global) -> bool
         ensures leads { Leads self.old.world self.new.world }
+        ensures recorded { recorded_in self.new ≡ recorded_in self.old }
+        ensures phone { phone_in self.new ≡ phone_in self.old }
         ensures whole { result ≡ true → self.new ≡ meets self.old (Tick self.old.clock) }
     {
         self.act(alloc, Event::Tick(self.clock))
@@ -363,6 +371,8 @@ impl Stage {
     // The terminal beats so many times.
     fn beat(&mut self, alloc: Global, count: u32) -> bool
         ensures leads { Leads self.old.world self.new.world }
+        ensures recorded { recorded_in self.new ≡ recorded_in self.old }
+        ensures phone { phone_in self.new ≡ phone_in self.old }
         ensures whole { result ≡ true → self.new ≡ beats count self.old }
     {
         let mut left = count;
@@ -379,6 +389,8 @@ impl Stage {
     fn cut(&mut self, place: usize)
         requires opened { place < length self.old.world.lines }
         ensures leads { Leads self.old.world self.new.world }
+        ensures recorded { recorded_in self.new ≡ recorded_in self.old }
+        ensures phone { phone_in self.new ≡ phone_in self.old }
         ensures whole { self.new ≡ record self.old { world = cuts self.old.world place } }
         ensures count { length self.new.world.lines ≡ length self.old.world.lines }
     {
@@ -396,6 +408,8 @@ impl Stage {
             < length (line_at self.old.world.lines place).up.octets }
         requires reached { ∥ Reached self.old.world ∥₁ }
         ensures leads { Leads self.old.world self.new.world }
+        ensures recorded { recorded_in self.new ≡ recorded_in self.old }
+        ensures phone { phone_in self.new ≡ phone_in self.old }
         ensures whole { is_short result ≡ false → self.new ≡ record self.old {
           world = takes_octet self.old.world place (line_at self.old.world.lines place).session;
         } }
@@ -413,6 +427,8 @@ impl Stage {
         requires opened { place < length self.old.world.lines }
         requires is_open { (line_at self.old.world.lines place).is_open ≡ true }
         ensures leads { Leads self.old.world self.new.world }
+        ensures recorded { recorded_in self.new ≡ recorded_in self.old }
+        ensures phone { phone_in self.new ≡ phone_in self.old }
         ensures whole { self.new ≡ record self.old { world = closes place self.old.world } }
         ensures count { length self.new.world.lines ≡ length self.old.world.lines }
     {
@@ -435,6 +451,8 @@ impl Stage {
         requires opened { place < length self.old.world.lines }
         requires reached { ∥ Reached self.old.world ∥₁ }
         ensures leads { Leads self.old.world self.new.world }
+        ensures recorded { recorded_in self.new ≡ recorded_in self.old }
+        ensures phone { phone_in self.new ≡ phone_in self.old }
         ensures whole { TakesNext self.old self.new place result }
         ensures count { length self.new.world.lines ≡ length self.old.world.lines }
     {
@@ -454,6 +472,8 @@ impl Stage {
         requires opened { place < length self.old.world.lines }
         requires reached { ∥ Reached self.old.world ∥₁ }
         ensures leads { Leads self.old.world self.new.world }
+        ensures recorded { recorded_in self.new ≡ recorded_in self.old }
+        ensures phone { phone_in self.new ≡ phone_in self.old }
         ensures whole { result ≡ true →
             self.new ≡ record self.old { world = takes most self.old.world place } }
         ensures count { length self.new.world.lines ≡ length self.old.world.lines }
@@ -474,6 +494,8 @@ impl Stage {
         requires opened { place < length self.old.world.lines }
         requires reached { ∥ Reached self.old.world ∥₁ }
         ensures leads { Leads self.old.world self.new.world }
+        ensures recorded { recorded_in self.new ≡ recorded_in self.old }
+        ensures phone { phone_in self.new ≡ phone_in self.old }
         ensures whole { result ≡ true → self.new ≡ takes_up self.old place count }
     {
         let most = count_or_all(count);
@@ -504,6 +526,8 @@ impl Stage {
     fn up_newest(&mut self) -> bool
         requires reached { ∥ Reached self.old.world ∥₁ }
         ensures leads { Leads self.old.world self.new.world }
+        ensures recorded { recorded_in self.new ≡ recorded_in self.old }
+        ensures phone { phone_in self.new ≡ phone_in self.old }
         ensures whole { result ≡ true → self.new ≡ goes_up self.old }
     {
         let count = self.lines.len();
@@ -517,6 +541,8 @@ impl Stage {
     fn round(&mut self, alloc: Global) -> bool
         requires reached { ∥ Reached self.old.world ∥₁ }
         ensures leads { Leads self.old.world self.new.world }
+        ensures recorded { recorded_in self.new ≡ recorded_in self.old }
+        ensures phone { phone_in self.new ≡ phone_in self.old }
         ensures whole { result ≡ true → self.new ≡ round self.old }
     {
         if !self.up_newest() {
@@ -530,6 +556,8 @@ impl Stage {
     fn run(&mut self, alloc: Global) -> bool
         requires reached { ∥ Reached self.old.world ∥₁ }
         ensures leads { Leads self.old.world self.new.world }
+        ensures recorded { recorded_in self.new ≡ recorded_in self.old }
+        ensures phone { phone_in self.new ≡ phone_in self.old }
         ensures whole { result ≡ true → RunsTo self.old self.new }
     {
         if !self.tell(alloc) {
@@ -553,6 +581,7 @@ impl Stage {
         requires good { AreSettings settings }
         requires own { key_of settings.phone ≡ key_of self.old.world.terminal.phone }
         ensures leads { Leads self.old.world self.new.world }
+        ensures recorded { recorded_in self.new ≡ recorded_in self.old }
         ensures ok { OnOk result (self.new ≡ begins self.old settings) }
         ensures err { OnErr result (self.new ≡ self.old) }
     {
@@ -572,9 +601,13 @@ impl Stage {
         requires own { (e : Edition) → key_of (settings_in identity.now e).phone
             ≡ key_of self.old.world.terminal.phone }
         ensures leads { Leads self.old.world self.new.world }
+        ensures recorded { recorded_in self.new ≡ recorded_in self.old }
+        ensures phone { (phone_in self.new ≡ phone_in self.old)
+            ⊎ (phone_in self.new ≡ (settings_in identity.now next).phone) }
         ensures whole { result ≡ true →
             self.new ≡ starts_again self.old (settings_in identity.now next) }
         ensures edition { result ≡ true → edition.new ≡ next }
+        ensures present { (edition.new ≡ edition.old) ⊎ (edition.new ≡ next) }
     {
         let Ok(settings) = identity.settings(alloc, next) else {
             return false;
@@ -591,6 +624,8 @@ impl Stage {
     // A new line is opened: whether all was done.
     fn open_next(&mut self, alloc: Global) -> bool
         ensures leads { Leads self.old.world self.new.world }
+        ensures recorded { recorded_in self.new ≡ recorded_in self.old }
+        ensures phone { phone_in self.new ≡ phone_in self.old }
         ensures whole { result ≡ true → self.new ≡ meets self.old Opened }
     {
         law_rule();
@@ -616,6 +651,8 @@ impl Stage {
     // The line in use is lost, and a new one is opened: whether all was done.
     fn open(&mut self, alloc: Global) -> bool
         ensures leads { Leads self.old.world self.new.world }
+        ensures recorded { recorded_in self.new ≡ recorded_in self.old }
+        ensures phone { phone_in self.new ≡ phone_in self.old }
         ensures whole { result ≡ true → self.new ≡ opens self.old }
     {
         if !self.lose(alloc) {
@@ -641,6 +678,8 @@ impl Stage {
     // The terminal reads one octet of the line in use, if one is left: whether it did. Memory where that was cut short.
     fn read_next(&mut self, alloc: Global) -> Result<bool, Memory>
         ensures leads { Leads self.old.world self.new.world }
+        ensures recorded { recorded_in self.new ≡ recorded_in self.old }
+        ensures phone { phone_in self.new ≡ phone_in self.old }
         ensures whole { ReadsNext self.old self.new result }
     {
         if !self.reads_more() {
@@ -665,6 +704,8 @@ impl Stage {
             < length (line_at self.old.world.lines place).down.octets }
         requires short { (line_at self.old.world.lines place).down.taken + 1 < 2 ^ 63 }
         ensures leads { Leads self.old.world self.new.world }
+        ensures recorded { recorded_in self.new ≡ recorded_in self.old }
+        ensures phone { phone_in self.new ≡ phone_in self.old }
         ensures whole { OnOk result (self.new ≡ reads_one self.old) }
     {
         law_rule();
@@ -707,6 +748,8 @@ impl Stage {
     // The terminal reads so many octets of the line in use, or those that are left where they are fewer: whether all was done.
     fn read_many(&mut self, alloc: Global, most: u64) -> bool
         ensures leads { Leads self.old.world self.new.world }
+        ensures recorded { recorded_in self.new ≡ recorded_in self.old }
+        ensures phone { phone_in self.new ≡ phone_in self.old }
         ensures whole { result ≡ true → self.new ≡ reads most self.old }
     {
         let mut left = most;
@@ -723,6 +766,8 @@ impl Stage {
     // The terminal reads so many octets of the line in use, or all where there is no count: whether all was done.
     fn down(&mut self, alloc: Global, count: Option<u32>) -> bool
         ensures leads { Leads self.old.world self.new.world }
+        ensures recorded { recorded_in self.new ≡ recorded_in self.old }
+        ensures phone { phone_in self.new ≡ phone_in self.old }
         ensures whole { result ≡ true → self.new ≡ reads_down self.old count }
     {
         let most = count_or_all(count);
@@ -739,6 +784,8 @@ impl Stage {
     fn restart_platform(&mut self, alloc: Global) -> Result<(), Memory>
         requires own { AreOf (key_of self.old.world.terminal.phone) self.old.world.history }
         ensures leads { Leads self.old.world self.new.world }
+        ensures recorded { recorded_in self.new ≡ recorded_in self.old }
+        ensures phone { phone_in self.new ≡ phone_in self.old }
         ensures ok { OnOk result (self.new
             ≡ record self.old { world = after self.old.world RestartPlatform }) }
         ensures err { OnErr result (self.new ≡ self.old) }
@@ -774,8 +821,9 @@ impl Stage {
 
     /// How many fixes were recorded, and how many of them are accepted.
     pub(crate) fn counts(&self) -> (u64, u64)
-        ensures { (result.0 ≡ at_most_u64 (length self.now.held.recorded))
+        ensures counts { (result.0 ≡ at_most_u64 (length self.now.held.recorded))
             × (result.1 ≡ at_most_u64 (accepted_count self.now.held)) }
+        ensures held { self.now.held.recorded ≡ recorded_in self.now }
     {
         self.terminal.counts()
     }
@@ -830,12 +878,16 @@ impl Stage {
         requires own { AreOf (key_of self.old.world.terminal.phone) self.old.world.history }
         requires reached { ∥ Reached self.old.world ∥₁ }
         ensures leads { Leads self.old.world self.new.world }
+        ensures recorded { RecordsAtMost event (recorded_in self.old) (recorded_in self.new) }
+        ensures phone { TakesPhone identity.now edition.old event (phone_in self.old)
+            (phone_in self.new) }
         ensures ok { IsPlayed identity.now edition.old self.old event → result ≡ Ok true →
             self.new ≡ play_after (settings_in identity.now) self.old event }
         ensures ran { event ≡ asked.Run → result ≡ Ok true → RunsTo self.old self.new }
         ensures same { IfErr result (λ error. self.new ≡ self.old) }
         ensures edition { IfErr result (λ error. edition.new ≡ edition.old) }
         ensures next { result ≡ Ok true → edition.new ≡ edition_by edition.old event }
+        ensures present { TakesEdition event edition.old edition.new }
         ensures fix { result ≡ Ok true → HasFix event }
         ensures no_line { is_no_line result ≡ names_no_line self.old.world event }
         ensures number { (line : ℕ) → result ≡ Err (refused.NoLine line) → Names event line }

@@ -11,17 +11,12 @@ use crate::laws::law_world;
 use crate::rehearsing::Rehearsed;
 use crate::world::World;
 use jt_event_lines::push_world_totals;
-use jt_input::{Heard, push_bad_line};
+use jt_input::{Heard, LINE_LIMIT, LINES_LIMIT, push_bad_line};
 use jt_outside::{Sink, write_all};
 use jt_value::Memory;
 use jt_value::limits::FIX_LIMIT;
 use std::alloc::{AllocError, Global};
 use std::fmt::Write;
-
-// A text input has no more lines, and no longer ones.
-const LINES_LIMIT: u64 = 10_000_000;
-
-const LINE_LIMIT: usize = 4096;
 
 // How a round of the script ends.
 #[derive(Clone, Copy)]
@@ -257,6 +252,7 @@ impl Making {
 fn write<K: Sink>(sink: &mut K, text: &[u8], ended: Rehearsed) -> Rehearsed
     ensures writes { Writes ended result (K.written sink.old) (K.written sink.new) text.now }
     ensures write_fault { result ≢ ended → Rose (K.faults sink.old) (K.faults sink.new) }
+    ensures still { result ≢ Rehearsed.WriteFault → K.faults sink.new ≡ K.faults sink.old }
     ensures result { (result ≡ ended) ⊎ (result ≡ Rehearsed.WriteFault) }
 {
     if write_all(sink, text) {
@@ -273,6 +269,7 @@ impl Making {
         ensures makes { Makes count (K.written sink.old) (K.written sink.new) result }
         ensures write_fault { result ≡ Rehearsed.WriteFault →
             Rose (K.faults sink.old) (K.faults sink.new) }
+        ensures still { result ≢ Rehearsed.WriteFault → K.faults sink.new ≡ K.faults sink.old }
         ensures no_read_fault { result ≢ Rehearsed.ReadFault }
     {
         law_world();
@@ -290,6 +287,8 @@ pub fn make<K: Sink>(alloc: Global, sink: &mut K, count: u32) -> Rehearsed
     ensures makes { Makes count (K.written sink.old) (K.written sink.new) result }
     ensures write_fault { result ≡ Rehearsed.WriteFault →
         Rose (K.faults sink.old) (K.faults sink.new) }
+    ensures write_still { result ≢ Rehearsed.WriteFault →
+        K.faults sink.new ≡ K.faults sink.old }
     ensures no_read_fault { result ≢ Rehearsed.ReadFault }
 {
     let Ok(mut making) = Making::new(alloc) else {

@@ -1,6 +1,6 @@
 //! A rehearsal of a source, written to a sink while it is read.
 
-ghost use Rattle.std.specs.Prelude.{◌≡◌, ◌^◌, ◌⊎◌, IfSome};
+ghost use Rattle.std.specs.Prelude.{◌≡◌, ◌≢◌, ◌^◌, ◌⊎◌, IfSome};
 ghost use Rattle.std.specs.Io.KnownBytes.{IsAtEnd, Appends};
 ghost use Rattle.jt_value.specs.Counts.{Rose};
 ghost use Rattle.jt_world.specs.Claim.{KeptWhole};
@@ -57,6 +57,10 @@ fn rehearse_by<S: Source, K: Sink>(
         Rose (S.faults source.old) (S.faults source.new) }
     ensures write_fault { result ≡ Rehearsed.WriteFault →
         Rose (K.faults sink.old) (K.faults sink.new) }
+    // Every other status, so Memory too, comes only where the counts of faults stood still.
+    ensures read_still { result ≢ Rehearsed.ReadFault →
+        S.faults source.new ≡ S.faults source.old }
+    ensures write_still { result ≢ Rehearsed.WriteFault → K.faults sink.new ≡ K.faults sink.old }
 {
     law_world();
     match run_teller(alloc, teller, source, sink) {
@@ -101,6 +105,10 @@ pub fn rehearse<S: Source, K: Sink>(alloc: Global, source: &mut S, sink: &mut K)
         Rose (S.faults source.old) (S.faults source.new) }
     ensures write_fault { result ≡ Rehearsed.WriteFault →
         Rose (K.faults sink.old) (K.faults sink.new) }
+    // Every other status, so Memory too, comes only where the counts of faults stood still.
+    ensures read_still { result ≢ Rehearsed.ReadFault →
+        S.faults source.new ≡ S.faults source.old }
+    ensures write_still { result ≢ Rehearsed.WriteFault → K.faults sink.new ≡ K.faults sink.old }
 {
     let Ok(world) = World::new(alloc) else {
         return Rehearsed::Memory;

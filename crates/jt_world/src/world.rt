@@ -3,9 +3,11 @@
 ghost use Rattle.std.specs.Prelude.{◌≡◌, ◌≢◌, ◌↔◌, drop, length, false, true, ℕ, Err, IfOk, OnOk};
 ghost use Rattle.jt_store.specs.Units.{fixes_in};
 ghost use Rattle.jt_value.specs.declared.limits.TheConstants.{FIX_LIMIT};
+ghost use Rattle.jt_value.specs.declared.phone.Edition.TheVariants.{E2013};
 ghost use Rattle.jt_octets.specs.Reaching.{Leads, Reached};
+ghost use Rattle.jt_play.specs.Laws.{RecordsAtMost};
 ghost use Rattle.jt_play.specs.Playing.{entries_between, finds_full, is_opened, play_after, RunsTo};
-ghost use Rattle.jt_play.specs.Scripts.{IsPlayed, IsScripted, Names, at_most_u64, settings_in, totals_of};
+ghost use Rattle.jt_play.specs.Scripts.{IsPlayed, IsScripted, Names, TakesEdition, TakesPhone, at_most_u64, edition_by, settings_in, totals_of};
 ghost use Rattle.jt_play.specs.declared.error.WorldError.{WorldError};
 ghost use Rattle.jt_play.specs.declared.error.WorldError.TheVariants as refused;
 ghost use Rattle.jt_script.specs.declared.world_event.WorldEvent.TheVariants as asked;
@@ -52,6 +54,7 @@ impl World {
         ensures new { IfOk result (λ world. world.play ≡ first) }
         ensures identity { IfOk result (λ world. world.identity ≡ the_identity) }
         ensures scripted { IfOk result IsScripted }
+        ensures edition { IfOk result (λ world. world.edition ≡ E2013) }
         ensures reached { IfOk result (λ world. Reached world.play.world) }
     {
         let identity = identity(alloc)?;
@@ -63,9 +66,10 @@ impl World {
     }
 
     /// A line of a script, and the entries that it made, in order. After each answer the world is
-    /// one to which steps lead. After Ok it is the one that the line defines, if lines of a script
-    /// alone led to the one before; of each line but `run` and the terminal's restart that holds
-    /// whatever happened before.
+    /// one to which steps lead, and the terminal recorded the line's fix or nothing, and has the phone
+    /// and the edition of before or those in which the line lets it start anew. After Ok it is the one
+    /// that the line defines, if lines of a script alone led to the one before; of each line but `run`
+    /// and the terminal's restart that holds whatever happened before.
     ///
     /// NoLine comes exactly where the line that is named was not opened, and Full where as many
     /// fixes as the limit are not accepted and one is to be recorded; the world is then as before.
@@ -74,6 +78,12 @@ impl World {
     pub fn step(&mut self, alloc: Global, event: WorldEvent) -> Result<Seq<Entry>, WorldError>
         ensures leads { Leads self.old.play.world self.new.play.world }
         ensures identity { self.new.identity ≡ self.old.identity }
+        ensures recorded { RecordsAtMost event self.old.play.world.terminal.recorded
+            self.new.play.world.terminal.recorded }
+        ensures phone { TakesPhone self.old.identity self.old.edition event
+            self.old.play.world.terminal.phone self.new.play.world.terminal.phone }
+        ensures edition { OnOk result (self.new.edition ≡ edition_by self.old.edition event) }
+        ensures present { TakesEdition event self.old.edition self.new.edition }
         ensures ok { IsScripted self.old → OnOk result (self.new.play
             ≡ play_after (settings_in self.old.identity) self.old.play event) }
         ensures played { IsPlayed self.old.identity self.old.edition self.old.play event →
@@ -118,7 +128,8 @@ impl World {
 
     /// How many fixes the terminal recorded, at most 2^64 - 1.
     pub fn recorded(&self) -> u64
-        ensures { result ≡ at_most_u64 (length self.now.play.held.recorded) }
+        ensures count { result ≡ at_most_u64 (length self.now.play.held.recorded) }
+        ensures held { self.now.play.held.recorded ≡ self.now.play.world.terminal.recorded }
     {
         self.played.recorded()
     }

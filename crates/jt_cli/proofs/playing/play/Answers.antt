@@ -1,3 +1,5 @@
+use Rattle.std.proofs.Common.{ap, ◌∙◌}
+use Rattle.jt_cli.specs.Script.{status_of}
 use Rattle.jt_cli.proofs.ScriptRuns.{is_done, is_read_fault, is_write_fault, not_usage, runs_script, runs_whole, without_links}
 use Rattle.jt_cli.proofs.playing.play.Goals as goal
 
@@ -27,3 +29,9 @@ returns-clause-not_usage g c = not_usage _ _ c.status_of.ensures
 
 pub returns-clause-without_links : goal.returns-clause-without_links
 returns-clause-without_links g c = without_links _ _ c.status_of.ensures
+
+pub returns-clause-read_still : goal.returns-clause-read_still
+returns-clause-read_still g c = λ other. c.rehearse.ensures.read_still (λ is. other (c.status_of.ensures ∙ ap status_of is))
+
+pub returns-clause-write_still : goal.returns-clause-write_still
+returns-clause-write_still g c = λ other. c.rehearse.ensures.write_still (λ is. other (c.status_of.ensures ∙ ap status_of is))

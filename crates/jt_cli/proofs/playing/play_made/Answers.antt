@@ -1,3 +1,5 @@
+use Rattle.std.proofs.Common.{ap, ◌∙◌}
+use Rattle.jt_cli.specs.Script.{status_of}
 use Rattle.jt_cli.proofs.ScriptRuns.{is_read_fault, is_write_fault, made_answers, made_kept, not_usage, without_links}
 use Rattle.jt_cli.proofs.playing.play_made.Goals as goal
 
@@ -18,3 +20,6 @@ returns-clause-not_usage g c = not_usage _ _ c.status_of.ensures
 
 pub returns-clause-without_links : goal.returns-clause-without_links
 returns-clause-without_links g c = without_links _ _ c.status_of.ensures
+
+pub returns-clause-write_still : goal.returns-clause-write_still
+returns-clause-write_still g c = λ other. c.make.ensures.write_still (λ is. other (c.status_of.ensures ∙ ap status_of is))

@@ -2,4 +2,4 @@ use Rattle.jt_gateway.proofs.Acting.{first_of}
 use Rattle.jt_gateway.proofs.gateway.first_world.Goals as goal
 
 pub returns-clause-is : goal.returns-clause-is
-returns-clause-is c = first_of c.law_rule.ensures.settings c.new.result c.new.ensures.new c.new.ensures.identity c.new.ensures.scripted c.new.ensures.reached
+returns-clause-is c = first_of c.new.result c.new.ensures.new c.new.ensures.identity c.new.ensures.edition

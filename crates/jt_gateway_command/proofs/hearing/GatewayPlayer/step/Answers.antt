@@ -8,9 +8,9 @@ returns-clause-steps c =
     subst (λ (old : GatewayScene). IsGateway old → Steps old c.args.event c.step.new.self c.step.result) c.self.view_is
     (λ g. record {
       ok = c.step.ensures.ok g;
-      room = c.step.ensures.room g;
-      full = c.step.ensures.full g;
-      no_line = c.step.ensures.no_line g;
-      same = λ number. c.step.ensures.same number g;
+      room = c.step.ensures.room;
+      full = c.step.ensures.full;
+      no_line = c.step.ensures.no_line;
+      same = c.step.ensures.same;
       entries = c.step.ensures.entries;
     })

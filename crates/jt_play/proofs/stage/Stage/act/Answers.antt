@@ -4,12 +4,15 @@ use Rattle.std.specs.Prelude.{reverse}
 use Rattle.std.proofs.lemmas.List.{append-nil}
 use Rattle.std.specs.List.{flat_map}
 use Rattle.jt_terminal_rule.specs.Rule.{rule}
+use Rattle.jt_terminal_rule.specs.declared.settings.Settings.{Settings}
 use Rattle.jt_play.proofs.Noting.{moment_after}
 use Rattle.jt_octets.specs.Reaching.{Leads}
-use Rattle.jt_play.specs.Holding.{Hears, IsClock, IsMoment, IsRunning, Numbered, lines_in, past_of, play_of, taken_on, told_of, wrote_last}
+use Rattle.jt_play.specs.Holding.{Hears, IsClock, IsMoment, IsRunning, Numbered, lines_in, past_of, phone_in, play_of, recorded_in, taken_on, told_of, wrote_last}
 use Rattle.jt_play.specs.Playing.{Play, meets}
 use Rattle.jt_play.proofs.Acting.{cut_acted, down_is, meets_leads, ok_of, still_running, whole_acted, wrote_running}
 use Rattle.jt_play.proofs.Worlds.{taken_wrote}
+use Rattle.jt_terminal_rule.specs.declared.state.Event.TheVariants.{Lost}
+use Rattle.jt_play.proofs.Recording.{event_cut, event_kept}
 use Rattle.jt_play.proofs.stage.Stage.act.Goals as goal
 
 pub invariant_of-self : goal.invariant_of-self
@@ -62,3 +65,31 @@ returns-clause-leads c =
     subst (λ (p : Play). Leads p.world (play_of c.event.new.self s.hub s.lines.items (past_of s.past.items) (told_of s.told.items) s.clock).world) c.self.view_is
     (cut_acted s.terminal s.hub s.lines.items (past_of s.past.items) (told_of s.told.items) s.clock c.self.invariant.0 c.args.event c.requires.silent c.event.new.self c.event.ensures.settings c.law_rule.ensures.cut
     short.done short.left short.parts short.held c.in-Err.ensures.down)
+
+-- what was recorded
+pub returns-then-send-clause-recorded : goal.returns-then-send-clause-recorded
+returns-then-send-clause-recorded c =
+    let t = c.self.inside.terminal in
+    event_kept t.state c.args.event t.vault.held c.event.new.self.vault.held c.in-Ok.ensures.vault ∙ ap recorded_in c.self.view_is
+
+pub returns-in-Ok-event-clause-recorded : goal.returns-in-Ok-event-clause-recorded
+returns-in-Ok-event-clause-recorded c =
+    let t = c.self.inside.terminal in
+    let mid = c.event.new.self in
+    event_kept mid.state Lost mid.vault.held c.event-in-Ok.new.self.vault.held (ok_of c.event-in-Ok.result (c.event-in-Ok.ensures.lost refl) c.event-in-Ok.ensures.vault)
+    ∙ (event_kept t.state c.args.event t.vault.held mid.vault.held c.in-Ok.ensures.vault ∙ ap recorded_in c.self.view_is)
+
+pub returns-clause-recorded : goal.returns-clause-recorded
+returns-clause-recorded c =
+    let t = c.self.inside.terminal in
+    event_cut t.state c.args.event t.vault.held c.event.new.self.vault.held c.in-Err.ensures.cut ∙ ap recorded_in c.self.view_is
+
+-- no event changes the phone
+pub returns-then-send-clause-phone : goal.returns-then-send-clause-phone
+returns-then-send-clause-phone c = ap (λ (s : Settings). s.phone) c.event.ensures.settings ∙ ap phone_in c.self.view_is
+
+pub returns-in-Ok-event-clause-phone : goal.returns-in-Ok-event-clause-phone
+returns-in-Ok-event-clause-phone c = ap (λ (s : Settings). s.phone) (c.event-in-Ok.ensures.settings ∙ c.event.ensures.settings) ∙ ap phone_in c.self.view_is
+
+pub returns-clause-phone : goal.returns-clause-phone
+returns-clause-phone c = ap (λ (s : Settings). s.phone) c.event.ensures.settings ∙ ap phone_in c.self.view_is

@@ -6,6 +6,8 @@ use Rattle.jt_play.proofs.stage.Stage.beat.Goals as goal
 pub loop-left-preserved : goal.loop-left-preserved
 loop-left-preserved c = record {
   leads = leads_both c.args.self.now.world c.loop-left.self.world c.act.new.self.world c.loop-left.invariant.leads c.act.ensures.leads;
+  recorded = c.act.ensures.recorded ∙ c.loop-left.invariant.recorded;
+  phone = c.act.ensures.phone ∙ c.loop-left.invariant.phone;
   rest = beats_next c.loop-left.left c.loop-left.self c.act.new.self c.loop-left-test.true (c.act.ensures.whole c.if-not-act.false) ∙ c.loop-left.invariant.rest;
 }
 

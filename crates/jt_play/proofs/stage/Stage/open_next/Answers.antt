@@ -6,13 +6,15 @@ use Rattle.jt_store.specs.Memory.{KeeperState, Stock}
 use Rattle.jt_terminal.specs.Line.{LineValue, StandsForLine}
 use Rattle.jt_terminal_steps.specs.Running.{TerminalValue}
 use Rattle.jt_octets.specs.Reaching.{Leads}
-use Rattle.jt_play.specs.Holding.{HasMoreRoom, Hears, IsClock, IsHearing, IsRunning, Numbered, first_line, lines_in, past_of, play_of, taken_on, told_of, wrote_last}
+use Rattle.jt_play.specs.Holding.{HasMoreRoom, Hears, IsClock, IsHearing, IsRunning, Numbered, first_line, lines_in, past_of, phone_in, play_of, recorded_in, taken_on, told_of, wrote_last}
 use Rattle.jt_play.specs.Playing.{Play, meets}
-use Rattle.jt_terminal_rule.specs.declared.state.Event.TheVariants.{Opened}
+use Rattle.jt_terminal_rule.specs.declared.settings.Settings.{Settings}
+use Rattle.jt_terminal_rule.specs.declared.state.Event.TheVariants.{Lost, Opened}
 use Rattle.jt_play.proofs.Acting.{down_is, ok_of, still_running, wrote_running}
 use Rattle.jt_play.proofs.Beginning.{cut_open, cut_opened, heard_from_new, more_running, open_quiet, opened_leads, room_running, taken_more, whole_opened}
 use Rattle.jt_play.proofs.Downward.{leads_none}
 use Rattle.jt_play.proofs.Worlds.{length_in, taken_wrote}
+use Rattle.jt_play.proofs.Recording.{event_cut, event_kept}
 use Rattle.jt_play.proofs.stage.Stage.open_next.Goals as goal
 
 -- not opened
@@ -132,3 +134,31 @@ returns-in-Ok-event-clause-leads c =
     (cut_opened s.terminal s.hub s.lines.items (past_of s.past.items) (told_of s.told.items) s.clock (length s.lines.items + 1) c.add_line.new.hub.reserved c.self.invariant.0 refl room.grew c.event-in-Ok.new.self (c.event-in-Ok.ensures.settings ∙ c.event.ensures.settings)
     (ok_of c.event-in-Ok.result ok c.event-in-Ok.ensures.vault ∙ (c.in-Ok.ensures.vault ∙ open_quiet s.terminal.state (Some s.terminal.vault.held)))
     (down_is c.event.new.self.state c.event-in-Ok.new.self.state (ok_of c.event-in-Ok.result ok c.event-in-Ok.ensures.state)))))
+
+-- what was recorded
+pub returns-then-send-clause-recorded : goal.returns-then-send-clause-recorded
+returns-then-send-clause-recorded c =
+    let t = c.self.inside.terminal in
+    event_kept t.state Opened t.vault.held c.event.new.self.vault.held c.in-Ok.ensures.vault ∙ ap recorded_in c.self.view_is
+
+pub returns-in-Ok-event-clause-recorded : goal.returns-in-Ok-event-clause-recorded
+returns-in-Ok-event-clause-recorded c =
+    let t = c.self.inside.terminal in
+    let mid = c.event.new.self in
+    event_kept mid.state Lost mid.vault.held c.event-in-Ok.new.self.vault.held (ok_of c.event-in-Ok.result (c.event-in-Ok.ensures.lost refl) c.event-in-Ok.ensures.vault)
+    ∙ (event_kept t.state Opened t.vault.held mid.vault.held c.in-Ok.ensures.vault ∙ ap recorded_in c.self.view_is)
+
+pub returns-clause-recorded : goal.returns-clause-recorded
+returns-clause-recorded c =
+    let t = c.self.inside.terminal in
+    event_cut t.state Opened t.vault.held c.event.new.self.vault.held c.in-Err.ensures.cut ∙ ap recorded_in c.self.view_is
+
+-- the phone stays
+pub returns-then-send-clause-phone : goal.returns-then-send-clause-phone
+returns-then-send-clause-phone c = ap (λ (s : Settings). s.phone) c.event.ensures.settings ∙ ap phone_in c.self.view_is
+
+pub returns-in-Ok-event-clause-phone : goal.returns-in-Ok-event-clause-phone
+returns-in-Ok-event-clause-phone c = ap (λ (s : Settings). s.phone) (c.event-in-Ok.ensures.settings ∙ c.event.ensures.settings) ∙ ap phone_in c.self.view_is
+
+pub returns-clause-phone : goal.returns-clause-phone
+returns-clause-phone c = ap (λ (s : Settings). s.phone) c.event.ensures.settings ∙ ap phone_in c.self.view_is

@@ -1,20 +1,23 @@
-use Rattle.std.proofs.Common.{ℕ, ◌+◌, ◌<◌, ◌≤◌, ◌≡◌, List, [], length, set, Some, ap, sym, refl, ◌∙◌, subst}
+use Rattle.std.proofs.Common.{ℕ, ◌+◌, ◌<◌, ◌≤◌, ◌≡◌, List, [], ◌∷◌, length, set, Some, ap, sym, refl, ◌∙◌, subst}
 use Rattle.std.specs.Prelude.{not}
 use Rattle.std.specs.List.{flat_map}
 use Rattle.std.proofs.lemmas.Bool.{false≢true}
 use Rattle.std.proofs.lemmas.List.{append-nil}
 use Rattle.jt_store.specs.Memory.{Stock}
 use Rattle.jt_terminal_rule.specs.Rule.{Ruled, sends}
+use Rattle.jt_terminal_rule.specs.declared.settings.Settings.{Settings}
 use Rattle.jt_terminal_steps.specs.Running.{holds_after}
 use Rattle.jt_octets.proofs.Views.{StreamLaws}
 use Rattle.jt_octets.specs.Reaching.{Leads}
 use Rattle.jt_octets.specs.World.{line_at, with_one_taken}
-use Rattle.jt_play.specs.Holding.{IsRunning, Numbered, lines_in, past_of, play_of, taken_on, told_of, wrote_last}
+use Rattle.jt_play.specs.Holding.{IsRunning, Numbered, lines_in, past_of, phone_in, play_of, recorded_in, taken_on, told_of, wrote_last}
 use Rattle.jt_play.specs.Playing.{Play, reads_one}
 use Rattle.jt_play.proofs.Acting.{down_is, ok_of, still_running, wrote_running}
 use Rattle.jt_play.proofs.Reading.{cut_read, cut_told, cut_unread, ears_short, hears_on, is_next, mid_running, none_is, octet_leads, ruled, taken_mid, tells, told_cut, told_noted_now, whole_read}
 use Rattle.jt_play.proofs.Rounds.{heard_next}
 use Rattle.jt_play.proofs.Worlds.{taken_wrote}
+use Rattle.jt_terminal_rule.specs.declared.state.Event.TheVariants.{Lost}
+use Rattle.jt_play.proofs.Recording.{event_kept, octets_cut, octets_kept}
 use Rattle.jt_play.proofs.stage.Stage.read_at.Goals as goal
 
 pub feed-requires : goal.feed-requires
@@ -164,3 +167,43 @@ returns-else-accepted-clause-leads c =
     (ap told_of c.in_ok-push.ensures.items
     ∙ cut_told s.terminal s.hub s.lines.items (past_of s.past.items) s.told.items s.clock c.args.place c.next-octet.result c.pass-else-accepted.new.self facts streams c.feed.new.terminal c.feed.ensures.settings c.law_rule.ensures.cut c.law_rule.ensures.heard_cut short.done short.left parts short.held c.in-Err.ensures.down c.accepted-accepted.result counted
     (λ e. c.if-accepted.false (c.accepted.ensures ∙ (ap (λ (v : Stock). v.held.accepted) c.vault-in-Err.ensures ∙ (e ∙ sym counted))))))
+
+-- what was recorded
+pub returns-then-send-clause-recorded : goal.returns-then-send-clause-recorded
+returns-then-send-clause-recorded c =
+    let s = c.self.inside in
+    let seen = taken_on (lines_in s.lines.items) in
+    octets_kept s.terminal.state seen (c.next-octet.result ∷ []) s.terminal.vault.held c.feed.new.terminal.vault.held (c.in-Ok.ensures.vault seen (c.self.invariant.1 c.if-not-self.false).stands) ∙ ap recorded_in c.self.view_is
+
+pub returns-in-Ok-event-clause-recorded : goal.returns-in-Ok-event-clause-recorded
+returns-in-Ok-event-clause-recorded c =
+    let s = c.self.inside in
+    let seen = taken_on (lines_in s.lines.items) in
+    let mid = c.feed.new.terminal in
+    event_kept mid.state Lost mid.vault.held c.event.new.self.vault.held (ok_of c.event.result (c.event.ensures.lost refl) c.event.ensures.vault)
+    ∙ (octets_kept s.terminal.state seen (c.next-octet.result ∷ []) s.terminal.vault.held mid.vault.held (c.in-Ok.ensures.vault seen (c.self.invariant.1 c.if-not-self.false).stands) ∙ ap recorded_in c.self.view_is)
+
+pub returns-then-accepted-clause-recorded : goal.returns-then-accepted-clause-recorded
+returns-then-accepted-clause-recorded c =
+    let s = c.self.inside in
+    let seen = taken_on (lines_in s.lines.items) in
+    octets_cut s.terminal.state seen (c.next-octet.result ∷ []) s.terminal.vault.held c.feed.new.terminal.vault.held (c.in-Err.ensures.cut seen (c.self.invariant.1 c.if-not-self.false).stands) ∙ ap recorded_in c.self.view_is
+
+pub returns-else-accepted-clause-recorded : goal.returns-else-accepted-clause-recorded
+returns-else-accepted-clause-recorded c =
+    let s = c.self.inside in
+    let seen = taken_on (lines_in s.lines.items) in
+    octets_cut s.terminal.state seen (c.next-octet.result ∷ []) s.terminal.vault.held c.feed.new.terminal.vault.held (c.in-Err.ensures.cut seen (c.self.invariant.1 c.if-not-self.false).stands) ∙ ap recorded_in c.self.view_is
+
+-- the phone stays
+pub returns-then-send-clause-phone : goal.returns-then-send-clause-phone
+returns-then-send-clause-phone c = ap (λ (s : Settings). s.phone) c.feed.ensures.settings ∙ ap phone_in c.self.view_is
+
+pub returns-in-Ok-event-clause-phone : goal.returns-in-Ok-event-clause-phone
+returns-in-Ok-event-clause-phone c = ap (λ (s : Settings). s.phone) (c.event.ensures.settings ∙ c.feed.ensures.settings) ∙ ap phone_in c.self.view_is
+
+pub returns-then-accepted-clause-phone : goal.returns-then-accepted-clause-phone
+returns-then-accepted-clause-phone c = ap (λ (s : Settings). s.phone) c.feed.ensures.settings ∙ ap phone_in c.self.view_is
+
+pub returns-else-accepted-clause-phone : goal.returns-else-accepted-clause-phone
+returns-else-accepted-clause-phone c = ap (λ (s : Settings). s.phone) c.feed.ensures.settings ∙ ap phone_in c.self.view_is

@@ -7,6 +7,8 @@ use Rattle.jt_play.proofs.stage.Stage.read_many.Goals as goal
 pub loop-left-preserved : goal.loop-left-preserved
 loop-left-preserved c = record {
   leads = leads_both c.args.self.now.world c.loop-left.self.world c.read_next.new.self.world c.loop-left.invariant.leads c.read_next.ensures.leads;
+  recorded = c.read_next.ensures.recorded ∙ c.loop-left.invariant.recorded;
+  phone = c.read_next.ensures.phone ∙ c.loop-left.invariant.phone;
   rest = reads_next c.loop-left.left c.loop-left.self c.read_next.new.self c.loop-left-test.true (reads_true memory.the_row.Denot c.loop-left.self c.read_next.new.self c.in-Ok-true.field-0 c.in-Ok-true.field-0-test c.in-Ok-true.ensures.whole) ∙ c.loop-left.invariant.rest;
 }
 

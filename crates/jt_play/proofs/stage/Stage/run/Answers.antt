@@ -12,6 +12,8 @@ round-requires c = record { reached = still_reached c.args.self.now.world c.loop
 pub loop-alloc-preserved : goal.loop-alloc-preserved
 loop-alloc-preserved c = record {
   leads = leads_both c.args.self.now.world c.loop-alloc.self.world c.round.new.self.world c.loop-alloc.invariant.leads c.round.ensures.leads;
+  recorded = c.round.ensures.recorded ∙ c.loop-alloc.invariant.recorded;
+  phone = c.round.ensures.phone ∙ c.loop-alloc.invariant.phone;
   went = went_more (meets c.args.self.now (Tick c.args.self.now.clock)) c.loop-alloc.self c.round.new.self c.loop-alloc.invariant.went (sym c.moves.ensures ∙ c.loop-alloc-test.true) (c.round.ensures.whole c.if-not-round.false);
 }
 

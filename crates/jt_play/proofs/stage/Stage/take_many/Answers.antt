@@ -17,6 +17,8 @@ loop-left-preserved c =
     let went = takes_true memory.the_row.Denot c.loop-left.self c.take_next.new.self c.args.place c.in-Ok-true.field-0 c.in-Ok-true.field-0-test c.in-Ok-true.ensures.whole in
     record {
       leads = leads_both c.args.self.now.world c.loop-left.self.world c.take_next.new.self.world c.loop-left.invariant.leads c.take_next.ensures.leads;
+      recorded = c.take_next.ensures.recorded ∙ c.loop-left.invariant.recorded;
+      phone = c.take_next.ensures.phone ∙ c.loop-left.invariant.phone;
       count = c.take_next.ensures.count ∙ c.loop-left.invariant.count;
       rest = takes_next c.loop-left.left c.loop-left.self c.take_next.new.self c.args.place c.loop-left-test.true went ∙ c.loop-left.invariant.rest;
       same = same_on c.args.self.now c.loop-left.self c.take_next.new.self c.args.place c.loop-left.invariant.same went.1;

@@ -1,12 +1,15 @@
 use Rattle.std.proofs.Common.{◌≡◌, ◌↔◌, true, false, ap, ◌∙◌, subst}
-use Rattle.std.specs.Prelude.{Err}
+use Rattle.std.specs.Prelude.{Err, OnOk}
 use Rattle.jt_value.specs.declared.limits.TheConstants.{FIX_LIMIT}
 use Rattle.jt_value.specs.declared.phone.Edition.{Edition}
 use Rattle.jt_play.specs.declared.error.WorldError.TheVariants as refused
-use Rattle.jt_play.specs.Scripts.{Names, Scene}
+use Rattle.jt_play.specs.Scripts.{Names, Scene, TakesEdition, TakesPhone, edition_by}
+use Rattle.jt_play.specs.Holding.{phone_in, recorded_in}
+use Rattle.jt_play.specs.Laws.{RecordsAtMost}
 use Rattle.jt_play.specs.Playing.{Play, finds_full, is_opened}
 use Rattle.jt_play.proofs.Scripting.{step_ok, step_played, step_scripted}
 use Rattle.jt_play.proofs.Scenes.{no_line_is, own_history, same_refused, scene_on}
+use Rattle.jt_play.proofs.Worlds.{on_ok}
 use Rattle.jt_play.proofs.world.World.step.Goals as goal
 
 pub step-done-requires-clause-own : goal.step-done-requires-clause-own
@@ -49,3 +52,15 @@ returns-clause-same c error is other =
     let play = same_refused c.answer.result c.step-done.result (c.step-done.new.self ≡ s.stage) c.answer.ensures.no_line c.answer.ensures.full c.step-done.ensures.same error is other in
     let edition = same_refused c.answer.result c.step-done.result (c.step-done.new.edition ≡ s.edition) c.answer.ensures.no_line c.answer.ensures.full c.step-done.ensures.edition error is other in
     ap (λ (p : Play). record { play = p; identity = s.identity; edition = c.step-done.new.edition }) play ∙ (ap (λ (e : Edition). record { play = s.stage; identity = s.identity; edition = e }) edition ∙ c.self.view_is)
+
+pub returns-clause-recorded : goal.returns-clause-recorded
+returns-clause-recorded c = subst (λ (v : Scene). RecordsAtMost c.args.event (recorded_in v.play) (recorded_in c.step-done.new.self)) c.self.view_is c.step-done.ensures.recorded
+
+pub returns-clause-edition : goal.returns-clause-edition
+returns-clause-edition c = subst (λ (v : Scene). OnOk c.answer.result (c.step-done.new.edition ≡ edition_by v.edition c.args.event)) c.self.view_is (on_ok c.answer.result c.step-done.ensures.next c.answer.ensures.done)
+
+pub returns-clause-present : goal.returns-clause-present
+returns-clause-present c = subst (λ (v : Scene). TakesEdition c.args.event v.edition c.step-done.new.edition) c.self.view_is c.step-done.ensures.present
+
+pub returns-clause-phone : goal.returns-clause-phone
+returns-clause-phone c = subst (λ (v : Scene). TakesPhone v.identity v.edition c.args.event (phone_in v.play) (phone_in c.step-done.new.self)) c.self.view_is c.step-done.ensures.phone

@@ -12,4 +12,4 @@ returns c =
     let counts = c.counts-recorded in
     let tally = c.tally-rows in
     subst (λ (v : Scene). ◌≡◌ {A = WorldTotals} (record { recorded = counts.result.0; accepted = counts.result.1; rows = tally.result.rows; stored = tally.result.fixes }) (totals_of v.play)) c.self.view_is
-    (totals_are s.stage (key_of s.identity.e2013.phone) counts.result.0 counts.result.1 tally.result (c.self.invariant.same E2013) c.self.invariant.reached counts.ensures.0 counts.ensures.1 tally.ensures)
+    (totals_are s.stage (key_of s.identity.e2013.phone) counts.result.0 counts.result.1 tally.result (c.self.invariant.same E2013) c.self.invariant.reached counts.ensures.counts.0 counts.ensures.counts.1 tally.ensures)
