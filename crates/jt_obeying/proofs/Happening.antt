@@ -22,7 +22,7 @@ use Rattle.jt_order.specs.declared.rules.Ruling.TheVariants.{Again}
 use Rattle.jt_delivery.specs.World.{Setting}
 use Rattle.jt_obeying.specs.Orders.{Performing, no_tables, performed_over, tables_behind}
 use Rattle.jt_obeying.specs.World.{OrderWorld, Answer, OtherMessage, OrderMessage, OtherAnswer}
-use Rattle.jt_obeying.specs.Steps.{Event, Issues, Opens, Says, Takes, Offers, Hears, Breaks, Loses, RestartsTerminal, Cuts, RestartsPlatform, Answered, TellsResult, TellsNothing, May, ruling_on, log_by, result_by, without_line, after_passing, after_ruling, after}
+use Rattle.jt_obeying.specs.Steps.{Event, Issues, Opens, Says, Takes, Offers, Hears, Misses, Loses, RestartsTerminal, Cuts, RestartsPlatform, Answered, TellsResult, TellsNothing, May, ruling_on, log_by, result_by, without_line, after_passing, after_ruling, after}
 use Rattle.jt_obeying.specs.Reaching.{empty}
 use Rattle.jt_obeying.specs.Claim.{IsReachedWith, OrderIsObeyed, SomeOrderIsObeyed, SomeOrderIsSentAgain, SomeOrderOutlastsAFault, SomeOrderComesAgain, TwoOrdersAreObeyed}
 use Rattle.jt_obeying.proofs.Hearing.{again}
@@ -330,11 +330,14 @@ module _ (phone : Phone) (register : Register) (setting : Setting) (performing :
     ((record { in_use = refl; first = refl }, refl), ((record { in_use = refl; first = refl }, refl), tt)),
   )
 
-  abbrev faulty_world : OrderWorld
-  faulty_world = without_line (after_ruling sent_world (OrderMessage 0) [])
+  abbrev missed_world : OrderWorld
+  missed_world = after_ruling sent_world (OrderMessage 0) []
 
-  breaks : faulty_world ≡ after sent_world (Breaks (OrderMessage 0 ∷ []) [])
-  breaks = ap (λ (b : Bool). without_line (if b then after_passing sent_world (OrderMessage 0) [] else after_ruling sent_world (OrderMessage 0) [])) (sym readable)
+  misses : missed_world ≡ after sent_world (Misses (OrderMessage 0) [])
+  misses = ap (λ (b : Bool). if b then after_passing sent_world (OrderMessage 0) [] else missed_world) (sym readable)
+
+  abbrev faulty_world : OrderWorld
+  faulty_world = without_line missed_world
 
   -- the phone is let in on a second line, and the order is sent again
   abbrev anew_events : List Event
@@ -403,17 +406,17 @@ module _ (phone : Phone) (register : Register) (setting : Setting) (performing :
     to = after_append after start first_events sent_events;
   }
 
-  leads_kept : Leads May after faulty_world kept_world
+  leads_kept : Leads May after missed_world kept_world
   leads_kept = record {
-    events = anew_events ++ kept_events;
-    may = may_append May after faulty_world anew_events kept_events may_anew may_keep;
+    events = Loses ∷ (anew_events ++ kept_events);
+    may = (tt, may_append May after faulty_world anew_events kept_events may_anew may_keep);
     to = after_append after faulty_world anew_events kept_events;
   }
 
   leads_over : Leads May after start kept_world
   leads_over = leads_both May after start sent_world kept_world leads_sent
-      (leads_both May after sent_world faulty_world kept_world
-      (leads_one May after sent_world faulty_world (Breaks (OrderMessage 0 ∷ []) []) (record { in_use = refl; first = refl }) breaks) leads_kept)
+      (leads_both May after sent_world missed_world kept_world
+      (leads_one May after sent_world missed_world (Misses (OrderMessage 0) []) (record { in_use = refl; first = refl }) misses) leads_kept)
 
   obeyed_over : OrderIsObeyed performing first_edition order kept_world
   obeyed_over = record {

@@ -13,10 +13,10 @@ use Rattle.jt_order.specs.declared.rules.Ruling.{Ruling}
 use Rattle.jt_order.specs.declared.rules.Ruling.TheVariants.{Again, Performs}
 use Rattle.jt_obeying.specs.Orders.{no_tables, tables_behind, orders_in, results_in, order_at, result_at, last_performed, ruling}
 use Rattle.jt_obeying.specs.World.{Answer, Down, OrderMessage, OtherAnswer, Line, OrderWorld}
-use Rattle.jt_obeying.specs.Steps.{Hears, Breaks, Passes, says, reads, performed_at, log_by, tables_by, result_by, world_by, ruling_on, has_refused_body, after_passing, after_ruling, after_without_response, after_all_without_response, after}
+use Rattle.jt_obeying.specs.Steps.{Hears, Misses, Passes, says, reads, performed_at, log_by, tables_by, result_by, world_by, ruling_on, has_refused_body, after_passing, after_ruling, after}
 use Rattle.jt_obeying.specs.Record.{orders_among, answers_among, Rise, Stands}
-use Rattle.jt_obeying.proofs.Lists.{orders_push, results_push, length_results, result_new, tables_push, are_results_push, rise_lower, put_same, first_among}
-use Rattle.jt_obeying.proofs.Lines.{line_read, line_answered, line_more, placed_kept, lose_kept}
+use Rattle.jt_obeying.proofs.Lists.{orders_push, results_push, length_results, result_new, tables_push, are_results_push, rise_lower, first_among}
+use Rattle.jt_obeying.proofs.Lines.{line_read, line_answered, line_more, placed_kept}
 
 -- ---- which rule applies
 
@@ -194,26 +194,6 @@ unanswered_kept : (w : OrderWorld) (d : Down) (q : List Down) → Stands w → w
 unanswered_kept w d q v using first true is = passing_kept w d q v using first
 unanswered_kept w d q v using first false is = ruling_kept w d q v using first is
 
-still_using : (w : OrderWorld) (d : Down) (q : List Down) → w.using ≡ true → (passes : Bool) → (unanswered_by w d q passes).using ≡ true
-still_using w d q using true = using
-still_using w OtherAnswer q using false = using
-still_using w (OrderMessage m) q using false = using
-
-abbrev Leaves : List Down → OrderWorld → Type 0
-Leaves q w = (w.lines w.count).unread ≡ q
-
-leaves_rest : (w : OrderWorld) (d : Down) (q : List Down) (passes : Bool) → Leaves q (unanswered_by w d q passes)
-leaves_rest w d q true = ap (λ (z : Line). z.unread) (put_same w.lines w.count (reads (w.lines w.count) d q))
-leaves_rest w OtherAnswer q false = ap (λ (z : Line). z.unread) (put_same w.lines w.count (reads (w.lines w.count) OtherAnswer q))
-leaves_rest w (OrderMessage m) q false = ap (λ (z : Line). z.unread) (put_same w.lines w.count (reads (w.lines w.count) (OrderMessage m) q))
-
-all_unanswered_kept : (messages rest : List Down) (w : OrderWorld) → Stands w → w.using ≡ true → (w.lines w.count).unread ≡ messages ++ rest → Stands (after_all_without_response w messages rest)
-all_unanswered_kept [] rest w v using first = v
-all_unanswered_kept (d ∷ more) rest w v using first = all_unanswered_kept more rest (after_without_response w d (more ++ rest))
-    (unanswered_kept w d (more ++ rest) v using first (has_refused_body w d) refl)
-    (still_using w d (more ++ rest) using (has_refused_body w d))
-    (leaves_rest w d (more ++ rest) (has_refused_body w d))
-
 -- ---- the events
 
 pub hear_kept : (w : OrderWorld) (d : Down) (q : List Down) → Stands w → w.using ≡ true → (w.lines w.count).unread ≡ d ∷ q → has_refused_body w d ≡ false
@@ -224,5 +204,5 @@ hear_kept w OtherAnswer q v using first readable = passing_kept w OtherAnswer q 
 pub pass_kept : (w : OrderWorld) (d : Down) (q : List Down) → Stands w → w.using ≡ true → (w.lines w.count).unread ≡ d ∷ q → Stands (after w (Passes d q))
 pass_kept w d q v using first = passing_kept w d q v using first
 
-pub break_kept : (w : OrderWorld) (messages rest : List Down) → Stands w → w.using ≡ true → (w.lines w.count).unread ≡ messages ++ rest → Stands (after w (Breaks messages rest))
-break_kept w messages rest v using first = lose_kept (after_all_without_response w messages rest) (all_unanswered_kept messages rest w v using first)
+pub miss_kept : (w : OrderWorld) (d : Down) (q : List Down) → Stands w → w.using ≡ true → (w.lines w.count).unread ≡ d ∷ q → Stands (after w (Misses d q))
+miss_kept w d q v using first = unanswered_kept w d q v using first (has_refused_body w d) refl

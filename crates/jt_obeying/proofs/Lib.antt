@@ -11,7 +11,7 @@
 --
 -- A ruling is a variable until its premise is known, and a whole record that goes by it is stuck in every field:
 -- each field has its own function (log_by, tables_by, refused_by, result_by), so that the other fields compute
--- and runs prove by refl. For the same reason an if stands in Breaks alone, and a run over it is put together
+-- and runs prove by refl. For the same reason an if stands in Misses alone, and a run over it is put together
 -- of two (leads_one, leads_both).
 --
 -- Open: no run with a fenced session or a serial past 65,535 is shown. Definitions

@@ -8,12 +8,12 @@ use Rattle.jt_delivery.specs.World.{Setting}
 use mathlib.Core.List.{IsPrefix}
 use Rattle.jt_obeying.specs.Orders.{Performing, results_in, orders_in}
 use Rattle.jt_obeying.specs.World.{OrderWorld}
-use Rattle.jt_obeying.specs.Steps.{Event, Issues, Opens, Says, Takes, Offers, Hears, Breaks, Passes, Loses, RestartsTerminal, Cuts, RestartsPlatform, May, after}
+use Rattle.jt_obeying.specs.Steps.{Event, Issues, Opens, Says, Takes, Offers, Hears, Misses, Passes, Loses, RestartsTerminal, Cuts, RestartsPlatform, May, after}
 use Rattle.jt_obeying.specs.Reaching.{empty, Reached}
 use Rattle.jt_obeying.specs.Record.{Stands}
 use Rattle.jt_obeying.specs.Claim.{Obeyed, EachReachedIsObeyed, EachIssuedIsOrder, NoneIsRefused, EachIsSentInTurn, OneIsUnderWay, EventsKeepIt}
 use Rattle.jt_obeying.proofs.Lines.{new_ok, issue_kept, open_kept, say_kept, offer_kept, lose_kept, begin_kept}
-use Rattle.jt_obeying.proofs.Hearing.{hear_kept, break_kept, pass_kept}
+use Rattle.jt_obeying.proofs.Hearing.{hear_kept, miss_kept, pass_kept}
 use Rattle.jt_obeying.proofs.Turning.{take_kept, cut_kept, restart_kept}
 
 step_kept : (w : OrderWorld) (event : Event) → Stands w → May w event → Stands (after w event)
@@ -24,7 +24,7 @@ step_kept w (Takes number message rest outcome telling) v m = take_kept w number
 step_kept w (Offers number) v m = offer_kept w number v m
 step_kept w (Hears message rest) v m = hear_kept w message rest v m.0.in_use m.0.first m.1
 step_kept w (Passes message rest) v m = pass_kept w message rest v m.0.in_use m.0.first
-step_kept w (Breaks messages rest) v m = break_kept w messages rest v m.in_use m.first
+step_kept w (Misses message rest) v m = miss_kept w message rest v m.in_use m.first
 step_kept w Loses v m = lose_kept w v
 step_kept w (RestartsTerminal edition) v m = begin_kept w edition v
 step_kept w (Cuts number) v m = cut_kept w number v
@@ -59,11 +59,11 @@ reached_stands w r = subst Stands r.leads.to
 front : {A : Type 0} (n : ℕ) (xs ys : List A) → xs ≡ take n ys → IsPrefix xs ys
 front {A} n xs ys e = (drop n ys, ap (λ (z : List A). z ++ drop n ys) e ∙ take-append-drop n ys)
 
-stands_obeyed : (w : OrderWorld) → Stands w → Obeyed w
+pub stands_obeyed : (w : OrderWorld) → Stands w → Obeyed w
 stands_obeyed w v = record {
   performed = front (length w.log) (orders_in w.log) w.issued v.performed;
   answered = v.answered_performed;
-  results = front (length w.results) w.results (results_in w.log) v.results;
+  results_are = front (length w.results) w.results (results_in w.log) v.results;
   by_tables = v.by_tables;
   tables = v.tables;
 }

@@ -7,6 +7,8 @@ use Rattle.jt_register.specs.declared.register.Register.{Register}
 use Rattle.jt_platform.specs.History.{holder, registration}
 use Rattle.jt_platform.specs.Allowed.{IsOfFleet}
 use Rattle.jt_order.specs.Orders.{OrderOf, IsOrder}
+use Rattle.jt_order.specs.declared.performed.Performed.{Performed}
+use Rattle.jt_terminal_answers.specs.Performing.{HeldTables}
 use Rattle.jt_delivery.specs.World.{Setting}
 use mathlib.Core.List.{IsPrefix}
 use Rattle.jt_obeying.specs.Orders.{Performing, order_at, orders_in, results_in, no_tables, tables_behind, tables_of, performed_over}
@@ -15,17 +17,21 @@ use Rattle.jt_obeying.specs.Steps.{Event, May, after}
 use Rattle.jt_obeying.specs.Reaching.{Reached, empty}
 use Rattle.jt_obeying.specs.Record.{AreResults, IsOne, under_way, Stands}
 
--- the orders of a world were obeyed
-pub record Obeyed (w : OrderWorld) : Type 0 where
+-- these orders were obeyed: they were issued, those in the log were performed, and these results were answered
+pub record AreObeyed (performing : Performing) (issued : List OrderOf) (results : List ℕ) (log : List Performed) (held : HeldTables) : Type 0 where
   -- the orders performed are the first that were issued, each once and in order
-  pub performed : IsPrefix (orders_in w.log) w.issued
+  pub performed : IsPrefix (orders_in log) issued
   -- each order that was answered was performed, and the answered results are those of the log
-  pub answered : length w.results ≤ length w.log
-  pub results : IsPrefix w.results (results_in w.log)
+  pub answered : length results ≤ length log
+  pub results_are : IsPrefix results (results_in log)
   -- each order in the log has a body that is not refused, and its result is the one over the tables behind those before it
-  pub by_tables : AreResults w.performing no_tables w.log
+  pub by_tables : AreResults performing no_tables log
   -- the tables are those that the performed orders with result 0 leave
-  pub tables : w.tables ≡ tables_of w.performing no_tables w.log
+  pub tables : held ≡ tables_of performing no_tables log
+
+-- the orders of a world were obeyed
+abbrev pub Obeyed : OrderWorld → Type 0
+Obeyed w = AreObeyed w.performing w.issued w.results w.log w.tables
 
 -- so they were in every world that is reached
 abbrev pub EachReachedIsObeyed : Type 0

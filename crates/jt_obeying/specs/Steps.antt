@@ -57,9 +57,9 @@ pub data Event : Type 0 where
   Hears : Down → List Down → Event
   -- the terminal reads an order whose body it refuses, and passes over it; and those are left
   Passes : Down → List Down → Event
-  -- The terminal reads these messages, and those are left. Orders among them may be performed, but none is responded to, since the vault,
-  -- the log or memory failed behind them, or the terminal was stopped; and no line is in use any more.
-  Breaks : (messages rest : List Down) → Event
+  -- The terminal reads this message, and those are left. An order may be performed by the three rules, but is not responded to, since the
+  -- vault, the log or memory failed behind it, or the terminal was stopped.
+  Misses : Down → List Down → Event
   -- no line is in use any more
   Loses : Event
   -- the terminal starts again, in this edition, and makes its tables from its log
@@ -144,10 +144,10 @@ abbrev pub has_refused_body : OrderWorld → Down → Bool
 has_refused_body w (OrderMessage place) = w.performing.refuses w.edition (order_at w.issued place)
 has_refused_body w OtherAnswer = false
 
--- it reads the first messages that wait on the line in use
-pub record MayRead (w : OrderWorld) (messages rest : List Down) : Type 0 where
+-- it reads the first message that waits on the line in use
+pub record MayRead (w : OrderWorld) (message : Down) (rest : List Down) : Type 0 where
   pub in_use : w.using ≡ true
-  pub first : (w.lines w.count).unread ≡ messages ++ rest
+  pub first : (w.lines w.count).unread ≡ message ∷ rest
 
 -- ---- which event may come
 
@@ -158,9 +158,9 @@ May w Opens = Unit {0}
 May w Says = w.using ≡ true
 May w (Takes number message rest outcome telling) = MayTake w number message rest × MayAnswer w number message outcome × MayTell w number message outcome telling
 May w (Offers number) = MayOffer w number
-May w (Hears message rest) = MayRead w (message ∷ []) rest × (has_refused_body w message ≡ false)
-May w (Passes message rest) = MayRead w (message ∷ []) rest × (has_refused_body w message ≡ true)
-May w (Breaks messages rest) = MayRead w messages rest
+May w (Hears message rest) = MayRead w message rest × (has_refused_body w message ≡ false)
+May w (Passes message rest) = MayRead w message rest × (has_refused_body w message ≡ true)
+May w (Misses message rest) = MayRead w message rest
 May w Loses = Unit {0}
 May w (RestartsTerminal edition) = Unit {0}
 May w (Cuts number) = IsOpened w.count number × ((w.lines number).is_open ≡ true)
@@ -265,11 +265,6 @@ after_ruling w (OrderMessage place) rest = world_by w place (ruling_on w place) 
 abbrev pub after_without_response : OrderWorld → Down → List Down → OrderWorld
 after_without_response w message rest = if has_refused_body w message then after_passing w message rest else after_ruling w message rest
 
--- the same of messages one after another
-abbrev pub after_all_without_response : OrderWorld → (messages rest : List Down) → OrderWorld
-after_all_without_response w [] rest = w
-after_all_without_response w (message ∷ more) rest = after_all_without_response (after_without_response w message (more ++ rest)) more rest
-
 -- the world behind an event
 abbrev pub after : OrderWorld → Event → OrderWorld
 after w (Issues order) = record w { issued = w.issued ++ order ∷ [] }
@@ -284,7 +279,7 @@ after w (Takes number message rest outcome telling) = record w {
 after w (Offers number) = record w { lines = put w.lines number (sends_order (w.lines number) (length w.results)) }
 after w (Hears message rest) = after_hearing w message rest
 after w (Passes message rest) = after_passing w message rest
-after w (Breaks messages rest) = without_line (after_all_without_response w messages rest)
+after w (Misses message rest) = after_without_response w message rest
 after w Loses = without_line w
 after w (RestartsTerminal edition) = record w { using = false; edition = edition; tables = tables_of w.performing no_tables w.log }
 after w (Cuts number) = record w { history = entry number ask.Close say.Accepted ∷ w.history; lines = put w.lines number (closed_line (w.lines number)) }

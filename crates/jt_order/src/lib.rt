@@ -16,4 +16,4 @@ pub use mem_book::MemBook;
 pub use mem_log::MemLog;
 pub use order::{Order, OrderError, is_order};
 pub use performed::Performed;
-pub use rules::{Ruling, rule};
+pub use rules::{Ruling, rule, serial_of};

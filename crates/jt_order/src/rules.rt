@@ -17,8 +17,8 @@ pub enum Ruling {
     Refuses,
 }
 
-// The serial of a number.
-fn serial_of(number: u64) -> u16
+/// The serial of the order of a number, from 0: the number's last sixteen bits (this project's rule).
+pub fn serial_of(number: u64) -> u16
     ensures { result ≡ serial_of number }
 {
     (number % 65_536) as u16

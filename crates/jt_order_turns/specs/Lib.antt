@@ -1,3 +1,4 @@
 pub mod Headers
+pub mod Heard
 pub mod Turns
 pub mod Frames
