@@ -1,0 +1,7 @@
+//! Tests of sessions that send orders.
+#![tactic(auto)]
+
+#[cfg(test)]
+mod answering;
+#[cfg(test)]
+mod setting;
