@@ -1,0 +1,4 @@
+pub mod Faults
+pub mod Ledgers
+pub mod Terminals
+pub mod Feeding
