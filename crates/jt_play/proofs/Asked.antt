@@ -28,7 +28,7 @@ request_fine key m (message.Position x) same short = (same, short)
 request_fine key m (message.Batch x) same short = (same, short)
 request_fine key m other same short = (same, tt)
 
-asked_fine : IsNamedByItsPackets → (key : List ℕ) (s : State) (h : Header) (octets : List ℕ) (q : Request) → IsHeader h → key_of h.phone ≡ key → asks s (Frame h octets) ≡ Some q → IsOf key q × HasSerial q
+pub asked_fine : IsNamedByItsPackets → (key : List ℕ) (s : State) (h : Header) (octets : List ℕ) (q : Request) → IsHeader h → key_of h.phone ≡ key → asks s (Frame h octets) ≡ Some q → IsOf key q × HasSerial q
 asked_fine law key s h octets q good same e =
     let a = asked_of s h octets q e in
     let n = named_by law s h octets h.packet a.m good refl a.brought in

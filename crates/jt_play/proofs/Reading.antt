@@ -45,7 +45,7 @@ use Rattle.jt_play.proofs.Worlds.{length_in, line_in, sent_play, set_in, set_kee
 
 -- ---- what is told
 
-at_end : {A : Type 0} (xs : List A) (x y : A) → set (xs ++ x ∷ []) (length xs) y ≡ xs ++ y ∷ []
+pub at_end : {A : Type 0} (xs : List A) (x y : A) → set (xs ++ x ∷ []) (length xs) y ≡ xs ++ y ∷ []
 at_end [] x y = refl
 at_end (z ∷ xs) x y = ap (λ rest. z ∷ rest) (at_end xs x y)
 
@@ -66,11 +66,11 @@ told_cut told pushed cut x count pushed_is count_is cut_is =
 
 -- ---- what the terminal does where it hears nothing opens no line either
 
-none_opens : (s : State) (o : Option Heard) → NoneOpens (rule_at s o).steps
+pub none_opens : (s : State) (o : Option Heard) → NoneOpens (rule_at s o).steps
 none_opens s None = tt
 none_opens s (Some x) = heard_keeps s x
 
-none_behind : (steps : List Step) → NoneOpens steps → NoneOpens (behind_first steps)
+pub none_behind : (steps : List Step) → NoneOpens steps → NoneOpens (behind_first steps)
 none_behind [] none = tt
 none_behind (rule_of.Changes Accepts ∷ steps) none = none
 none_behind (rule_of.Changes (Notes fix) ∷ steps) none = none
@@ -82,15 +82,15 @@ none_behind (rule_of.Opens ∷ steps) none = absurd none
 none_behind (rule_of.Loses ∷ steps) none = none
 
 -- what is told does not hang on whether the terminal is ready
-named_still : (m : Machine) (just : Option Acknowledgement) → unit_named_by (step.hears m just) just ≡ unit_named_by m just
+pub named_still : (m : Machine) (just : Option Acknowledgement) → unit_named_by (step.hears m just) just ≡ unit_named_by m just
 named_still m None = refl
 named_still m (Some ack) = refl
 
-heard_accepted : (m : Machine) (just : Option Acknowledgement) → (step.hears m just).accepted ≡ m.accepted
+pub heard_accepted : (m : Machine) (just : Option Acknowledgement) → (step.hears m just).accepted ≡ m.accepted
 heard_accepted m None = refl
 heard_accepted m (Some ack) = refl
 
-heard_phone : (m : Machine) (just : Option Acknowledgement) → (step.hears m just).phone ≡ m.phone
+pub heard_phone : (m : Machine) (just : Option Acknowledgement) → (step.hears m just).phone ≡ m.phone
 heard_phone m None = refl
 heard_phone m (Some ack) = refl
 
@@ -184,7 +184,7 @@ module _ (t : TerminalValue Stock) (hub : HubValue KeeperState) (lines : List Nu
   pub octet_there : octet ≡ octet_of wire
   octet_there = facts.octet_is ∙ ap octet_of (sym wire_is)
 
-  came : Brought (taken_of wire) (octet ∷ []) (completed_item wire)
+  pub came : Brought (taken_of wire) (octet ∷ []) (completed_item wire)
   came = subst (λ (o : ℕ). Brought (taken_of wire) (o ∷ []) (completed_item wire)) (sym octet_there) (brought wire (completed_item wire) left_there behind)
 
   abbrev o : Option Heard
@@ -213,7 +213,7 @@ module _ (t : TerminalValue Stock) (hub : HubValue KeeperState) (lines : List Nu
   x_line : x.line ≡ record (newest w) { down = with_one_taken wire }
   x_line = ap (λ (n : Numbered). n.line) facts.x_is ∙ ap (λ (line : Line). record line { down = with_one_taken line.down }) (sym newest_is)
 
-  lines_mid : lines_in mid ≡ set w.lines (newest_place w.lines) (record (newest w) { down = with_one_taken wire })
+  pub lines_mid : lines_in mid ≡ set w.lines (newest_place w.lines) (record (newest w) { down = with_one_taken wire })
   lines_mid = set_in lines place x ∙ (ap (λ (n : ℕ). set w.lines n x.line) (sym (newest_at w.lines place facts.last)) ∙ ap (λ (line : Line). set w.lines (newest_place w.lines) line) x_line)
 
   some : 0 < length w.lines

@@ -48,7 +48,7 @@ serial_prop (ask.Deregister phone) = Unit-prop
 serial_prop (ask.Other phone id) = Unit-prop
 serial_prop ask.Close = Unit-prop
 
-fine_prop : (w : World) (place : ℕ) → IsProp (AsksFine w place)
+pub fine_prop : (w : World) (place : ℕ) → IsProp (AsksFine w place)
 fine_prop w place = Π_prop (λ s. Π_prop (λ q. Π_prop (λ e. ×_prop (of_prop (key_of w.terminal.phone) q) (serial_prop q))))
 
 pub asks_fine : EachReachedAsks → (w : World) → ∥ Reached w ∥₁ → (place : ℕ) → place < length w.lines → (line_at w.lines place).up.taken < length (line_at w.lines place).up.octets → AsksFine w place
@@ -77,7 +77,7 @@ asked_is key shelf (ask.Deregister phone) of short = tt
 asked_is key shelf (ask.Other phone id) of short = tt
 asked_is key shelf ask.Close of short = tt
 
-reply_is : AnswersTell → HistoriesTell → (w : World) (place : ℕ) → w.keeper ≡ shelf_of (key_of w.terminal.phone) w.began w.history → AreOf (key_of w.terminal.phone) w.history → (q : Request) (r : Reply) → IsOf (key_of w.terminal.phone) q × HasSerial q
+pub reply_is : AnswersTell → HistoriesTell → (w : World) (place : ℕ) → w.keeper ≡ shelf_of (key_of w.terminal.phone) w.began w.history → AreOf (key_of w.terminal.phone) w.history → (q : Request) (r : Reply) → IsOf (key_of w.terminal.phone) q × HasSerial q
     → Allowed (opening_of w) w.history (suc place) q r → r ≡ reply_to w place q
 reply_is answers histories w place kept own q r fine allowed =
     let key = key_of w.terminal.phone in
@@ -97,7 +97,7 @@ plain_end (say.ListFull l) e = refl
 plain_end say.StoreFault e = absurd (false≢true (sym e))
 plain_end say.Memory e = absurd (false≢true (sym e))
 
-plain_of : (way : Way) → is_short (end_by way) ≡ false → IsPlain way
+pub plain_of : (way : Way) → is_short (end_by way) ≡ false → IsPlain way
 plain_of (Goes None) e = tt
 plain_of (Goes (Some r)) e = plain_end r e
 plain_of (Stops None) e = absurd (false≢true (sym e))

@@ -51,7 +51,7 @@ fn copy_settings(alloc: Global, settings: &Settings) -> Result<Settings, Memory>
 
 impl Identity {
     // The settings in an edition, once more.
-    pub(crate) fn settings(&self, alloc: Global, edition: Edition) -> Result<Settings, Memory>
+    pub fn settings(&self, alloc: Global, edition: Edition) -> Result<Settings, Memory>
         ensures { IfOk result (λ settings. settings ≡ settings_in self.now edition) }
     {
         match edition {

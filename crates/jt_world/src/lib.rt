@@ -12,4 +12,5 @@ pub use jt_play::{WorldError, WorldEvent};
 pub use laws::{law_make, law_world};
 pub use making::make;
 pub use rehearsing::{Rehearsed, rehearse};
+pub use settings::{fleet, identity, secret};
 pub use world::World;

@@ -36,7 +36,7 @@ fn terminal(alloc: Global) -> Result<Octets, Memory>
 }
 
 /// The secret of each hub.
-pub(crate) fn secret(alloc: Global) -> Result<Octets, Memory>
+pub fn secret(alloc: Global) -> Result<Octets, Memory>
     ensures { IfOk result (λ octets. octets ≡ the_secret) }
 {
     Ok(Octets::from_vec(Vec::from_slice(alloc, b"12")?))
@@ -51,7 +51,7 @@ fn alone(alloc: Global, octets: Octets) -> Result<Seq<Octets>, Memory>
 }
 
 /// The fleet of each hub: the plate and the terminal id of the terminal.
-pub(crate) fn fleet(alloc: Global) -> Result<Fleet, Memory>
+pub fn fleet(alloc: Global) -> Result<Fleet, Memory>
     ensures { IfOk result (λ fleet. fleet ≡ the_setting.fleet) }
 {
     Ok(Fleet {
@@ -68,7 +68,7 @@ fn settings(alloc: Global, edition: Edition) -> Result<Settings, Memory>
 }
 
 /// The terminal in both editions.
-pub(crate) fn identity(alloc: Global) -> Result<Identity, Memory>
+pub fn identity(alloc: Global) -> Result<Identity, Memory>
     ensures is { IfOk result (λ identity. identity ≡ the_identity) }
     ensures first { IfOk result (λ identity. AreSettings identity.e2013) }
     ensures second { IfOk result (λ identity. AreSettings identity.e2019) }
