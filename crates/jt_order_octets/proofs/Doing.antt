@@ -51,6 +51,7 @@ rest_follows w recorded units accepted code auths ready reach partial told f goo
   good = good;
   in_use = f.in_use;
   none_refused = f.none_refused;
+  of_phone = f.of_phone;
 }
 
 -- ---- a message is written on the line in use
@@ -76,6 +77,7 @@ module _ (keep : EventsKeepIt) where
     good = f.good;
     in_use = f.in_use;
     none_refused = f.none_refused;
+    of_phone = f.of_phone;
   }
 
   -- ---- a unit
@@ -158,6 +160,7 @@ module _ (keep : EventsKeepIt) where
     good = f.good;
     in_use = λ u. (omega arith, ap (λ (b : Bool). if b then w.base.terminal.phone else f.phones (suc f.count)) (eq-eqb (suc f.count) (suc f.count) refl));
     none_refused = f.none_refused;
+    of_phone = f.of_phone;
   }
 
   opens_follow : (w : OrderWorld) → Follows w → Follows (after w (Does step.Opens))
@@ -181,6 +184,7 @@ module _ (keep : EventsKeepIt) where
     good = f.good;
     in_use = λ u. absurd (false≢true u);
     none_refused = f.none_refused;
+    of_phone = f.of_phone;
   }
 
   loses_follow : (w : OrderWorld) → Follows w → Follows (after w (Does step.Loses))
@@ -205,6 +209,7 @@ module _ (keep : EventsKeepIt) where
     good = f.good;
     in_use = λ u. absurd (false≢true u);
     none_refused = f.none_refused;
+    of_phone = f.of_phone;
   }
 
   restarts_follow : (w : OrderWorld) (phone : Phone) → Follows w → MayStep w.base.terminal None (step.Restarts phone) → Follows (after w (Does (step.Restarts phone)))

@@ -5,6 +5,7 @@ use Rattle.std.proofs.lemmas.Bool.{eq-eqb, ne_eqb}
 use Rattle.jt_value.specs.Sameness.{key_of}
 use Rattle.jt_value.specs.declared.phone.Phone.{Phone}
 use Rattle.jt_header.specs.Content.{IsPhone}
+use Rattle.jt_platform.specs.Laws.{AreOf}
 use Rattle.jt_session.specs.AnswerLaw.{IsStateOf}
 use Rattle.jt_order.specs.Orders.{OrderOf}
 use Rattle.jt_obeying.proofs.Lists.{none_among, first_among, among_cases}
@@ -101,6 +102,7 @@ pub record Follows (w : OrderWorld) : Type 0 where
   -- the line in use has the present phone
   pub in_use : w.base.terminal.using ≡ true → (0 < count) × (phones count ≡ w.base.terminal.phone)
   pub none_refused : w.refused ≡ []
+  pub of_phone : AreOf key w.base.history
 
 -- ---- what a line stands for, in other words
 

@@ -142,6 +142,7 @@ module _ (keep : EventsKeepIt) (laws : HearingLaws) (w : OrderWorld) (f : Follow
     good = f.good;
     in_use = f.in_use;
     none_refused = f.none_refused;
+    of_phone = f.of_phone;
   }
     where
       number : f.count ≡ suc at
@@ -178,6 +179,7 @@ module _ (keep : EventsKeepIt) (laws : HearingLaws) (w : OrderWorld) (f : Follow
       good = f.good;
       in_use = f.in_use;
       none_refused = f.none_refused;
+      of_phone = f.of_phone;
     }
 
     reads_other : b.t ≡ OtherAnswer → is_order_id b.m.0.id ≡ false → (takes responds : Bool) → Follows (after_read w (heard_at (item_of_msg b.m)) takes responds)
@@ -257,6 +259,7 @@ module _ (keep : EventsKeepIt) (laws : HearingLaws) (w : OrderWorld) (f : Follow
         good = f.good;
         in_use = f.in_use;
         none_refused = f.none_refused;
+        of_phone = f.of_phone;
       }
       order_done false log tables result le stands = record {
         key = f.key;
@@ -272,6 +275,7 @@ module _ (keep : EventsKeepIt) (laws : HearingLaws) (w : OrderWorld) (f : Follow
         good = f.good;
         in_use = f.in_use;
         none_refused = f.none_refused;
+        of_phone = f.of_phone;
       }
 
       module _ (m : Message) (read : (body h.edition h.id).read octets 0 ≡ Ok m) where

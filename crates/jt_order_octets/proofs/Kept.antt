@@ -6,17 +6,21 @@ use Rattle.jt_value.specs.Sameness.{key_of}
 use Rattle.jt_value.specs.declared.phone.Phone.{Phone}
 use Rattle.jt_header.specs.Content.{IsPhone}
 use Rattle.jt_position.specs.Fixes.{FixesAre}
+use Rattle.jt_platform.specs.Laws.{AreOf}
+use Rattle.jt_stream.specs.Unplaced.{Unplaced}
 use Rattle.jt_delivery.specs.World.{Setting}
 use Rattle.jt_obeying.proofs.Obeyed.{stands_obeyed}
 use Rattle.jt_obeying.specs.Claim.{EventsKeepIt}
 use Rattle.jt_obeying.specs.Performing.{terminal_performing}
 use Rattle.jt_obeying.specs.World.{new_line}
 use Rattle.jt_octets.proofs.Meanings.{good_none}
-use Rattle.jt_octets.proofs.Views.{StreamLaws}
+use Rattle.jt_octets.proofs.Views.{Brings, Direction, StreamLaws, direction_moved, item_of_msg}
+use Rattle.jt_octets.specs.World.{completed_item, line_at, with_one_taken}
 use Rattle.jt_order_octets.specs.World.{OrderWorld, empty, sent_at}
 use Rattle.jt_order_octets.specs.Steps.{Event, Issues, Does, Up, Offers, Down, Cut, RestartPlatform, MayCome, after}
 use Rattle.jt_order_octets.specs.Reaching.{Reached}
-use Rattle.jt_order_octets.specs.Claim.{EachReachedIsObeyed, NoneIsRefused, EachIssuedIsOrder, EachIsSentInTurn}
+use Rattle.jt_order_octets.specs.Claim.{EachReachedIsObeyed, NoneIsRefused, EachIssuedIsOrder, EachIsSentInTurn, EachReachedIsOfThePhone, EachItemIsOfThePhone, IsFrameOf, OneIsUnanswered}
+use Rattle.jt_order_octets.proofs.Meanings.{UpTag, tag_key}
 use Rattle.jt_order_octets.proofs.Following.{Follows, as_messages, last_among}
 use Rattle.jt_order_octets.proofs.Doing.{does_follow}
 use Rattle.jt_order_octets.proofs.Taking.{TakingLaws, take_follows}
@@ -55,6 +59,7 @@ empty_follows keep phone setting good = record {
   good = good_none;
   in_use = λ u. absurd (false≢true u);
   none_refused = refl;
+  of_phone = tt;
 }
 
 all_follow : Below → (w : OrderWorld) (events : List Event) → Follows w → MayAll MayCome after w events → Follows (after_all after w events)
@@ -75,6 +80,9 @@ none_refused below w r = (reached_follows below w r).none_refused
 pub each_issued : Below → EachIssuedIsOrder
 each_issued below w r = (reached_follows below w r).stands.orders
 
+pub one_unanswered : Below → OneIsUnanswered
+one_unanswered below w r = (reached_follows below w r).stands.one_more
+
 -- on no line but those that were opened an order was sent
 none_past : {A : Type 0} (xs : List (Option A)) (place : ℕ) → length xs ≤ place → get_or xs place None ≡ None
 none_past {A} [] place le = refl
@@ -93,3 +101,27 @@ in_turn_of w f place n e = by (cases_lt place f.count)
 
 pub in_turn : Below → EachIsSentInTurn
 in_turn below w r place n e = in_turn_of w (reached_follows below w r) place n e
+
+-- all that the present hub was asked is of the terminal's phone
+pub history_of : Below → EachReachedIsOfThePhone
+history_of below w r = let f = reached_follows below w r in subst (λ (key : List ℕ). AreOf key w.base.history) (sym f.key_is) f.of_phone
+
+-- and so is each item that a session is about to take
+pub items_of : Below → EachItemIsOfThePhone
+items_of below w r place within left item e =
+    by (direction_moved (UpTag f.key w.issued) below.streams (line_at w.base.lines place).up (f.lines_are (suc place)).gone (f.lines_are (suc place)).waiting (f.lines place (omega (arith, within, f.count_is))).up left)
+  where
+    f : Follows w
+    f = reached_follows below w r
+
+    none : ◌≡◌ {A = Option Unplaced} None (Some item) → ⊥
+    none h = cc
+
+    some : (x y : Unplaced) → ◌≡◌ {A = Option Unplaced} (Some x) (Some y) → x ≡ y
+    some x y h = cc
+
+    by : ((completed_item (line_at w.base.lines place).up ≡ None) × Direction (UpTag f.key w.issued) (with_one_taken (line_at w.base.lines place).up) (f.lines_are (suc place)).gone (f.lines_are (suc place)).waiting)
+        ⊎ Brings (UpTag f.key w.issued) (line_at w.base.lines place).up (f.lines_are (suc place)).gone (f.lines_are (suc place)).waiting
+        → IsFrameOf (key_of w.base.terminal.phone) item
+    by (inl nothing) = absurd (none (sym nothing.0 ∙ e))
+    by (inr b) = subst (IsFrameOf (key_of w.base.terminal.phone)) (some (item_of_msg b.m) item (sym b.item ∙ e)) (b.is.header, tag_key f.key w.issued b.m b.t b.tag ∙ sym f.key_is)

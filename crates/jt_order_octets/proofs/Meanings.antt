@@ -51,6 +51,11 @@ abbrev pub UpTag : List ℕ → List OrderOf → Msg → Up → Type 0
 UpTag key issued m (Answer place result) = (key_of m.0.phone ≡ key) × IsResponseTo issued place result m
 UpTag key issued m OtherMessage = (key_of m.0.phone ≡ key) × IsOther m
 
+-- the message is of the terminal's phone
+pub tag_key : (key : List ℕ) (issued : List OrderOf) (m : Msg) (t : Up) → UpTag key issued m t → key_of m.0.phone ≡ key
+tag_key key issued m (Answer place result) tag = tag.0
+tag_key key issued m OtherMessage tag = tag.0
+
 -- ---- from the session
 
 -- the order of a place, on a session whose first frame had a header of this phone

@@ -68,6 +68,7 @@ module _ (keep : EventsKeepIt) where
     good = f.good;
     in_use = f.in_use;
     none_refused = f.none_refused;
+    of_phone = f.of_phone;
   }
 
   -- ---- an order is sent
@@ -161,6 +162,7 @@ module _ (keep : EventsKeepIt) where
       good = f.good;
       in_use = f.in_use;
       none_refused = f.none_refused;
+      of_phone = f.of_phone;
     })
 
     frame_is : octets.oldest_frame w (first_read w place) ≡ frame_of_msg m
@@ -188,6 +190,7 @@ module _ (keep : EventsKeepIt) where
     good = f.good;
     in_use = f.in_use;
     none_refused = f.none_refused;
+    of_phone = (tt, f.of_phone);
   }
     where
       within : place < f.count
@@ -211,4 +214,5 @@ module _ (keep : EventsKeepIt) where
     good = f.good;
     in_use = f.in_use;
     none_refused = f.none_refused;
+    of_phone = tt;
   }

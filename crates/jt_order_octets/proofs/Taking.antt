@@ -9,7 +9,8 @@ use Rattle.jt_store.specs.Verdicts.{alone}
 use Rattle.jt_subpacket.specs.Joining.{IsNamedByItsPackets}
 use Rattle.jt_platform.specs.declared.request.Entry.{Entry}
 use Rattle.jt_platform.specs.declared.request.Request.{Request}
-use Rattle.jt_platform.specs.Laws.{shelf_of}
+use Rattle.jt_platform.specs.declared.request.Request.TheVariants as ask
+use Rattle.jt_platform.specs.Laws.{AreOf, IsOf, shelf_of}
 use Rattle.jt_session.specs.Talk.{State, Way, Talked, at_state, turn_on, asks, frame_said, IsReplied}
 use Rattle.jt_session.specs.Sessions.{MayGo, entries_on}
 use Rattle.jt_session.specs.AnswerLaw.{IsStateOf}
@@ -28,7 +29,7 @@ use Rattle.jt_octets.proofs.Views.{Msg, StreamLaws, Brings, Direction, direction
 use Rattle.jt_order_octets.specs.World.{OrderWorld, sent_at}
 use Rattle.jt_order_octets.specs.Steps.{Telling, Tells, TellsNothing, BookFails}
 use Rattle.jt_order_octets.specs.Steps as octets
-use Rattle.jt_order_octets.proofs.Meanings.{UpTag, DownTag, carries}
+use Rattle.jt_order_octets.proofs.Meanings.{UpTag, DownTag, carries, tag_key}
 use Rattle.jt_order_octets.proofs.Following.{LineMeans, Follows, as_messages, last_among, top_is, both_put, one_put}
 use Rattle.jt_order_octets.proofs.Turning.{SessionLaws, IsSaid, IsTurn, turns, allowed_to}
 use Rattle.jt_order_octets.proofs.Telling.{IsTold, told_as}
@@ -61,6 +62,28 @@ over_of k b e = ap (λ (o : Bool). is_none (if o then None else Some k.state)) e
     by true = refl
     by false = refl
 
+-- ---- what was asked
+
+-- a request of the world of messages is of its phone
+request_of : (key : List ℕ) (t : Up) (q : Request) → events.IsRequest key t q → IsOf key q
+request_of key (messages.Answer place result) (ask.Other phone id) is = is.0
+request_of key (messages.Answer place result) (ask.Register phone register) is = absurd is
+request_of key (messages.Answer place result) (ask.Auth phone code) is = absurd is
+request_of key (messages.Answer place result) (ask.Unit phone serial id body) is = absurd is
+request_of key (messages.Answer place result) (ask.Deregister phone) is = absurd is
+request_of key (messages.Answer place result) ask.Close is = absurd is
+request_of key messages.OtherMessage (ask.Register phone register) is = is
+request_of key messages.OtherMessage (ask.Auth phone code) is = is
+request_of key messages.OtherMessage (ask.Unit phone serial id body) is = is
+request_of key messages.OtherMessage (ask.Other phone id) is = is
+request_of key messages.OtherMessage (ask.Deregister phone) is = absurd is
+request_of key messages.OtherMessage ask.Close is = absurd is
+
+asked_of : (number : ℕ) (t : Up) (outcome : Outcome) (mw : messages.OrderWorld) → events.MayAnswer mw number t outcome → (h : List Entry) → AreOf mw.key h → AreOf mw.key (entries number outcome ++ h)
+asked_of number t (events.Answered q r list) mw may h are = (request_of mw.key t q may.0, are)
+asked_of number t (events.Quiet list) mw may h are = are
+asked_of number t events.Stopped mw may h are = are
+
 -- ---- an octet completes nothing
 
 -- the book is told nothing of it
@@ -87,6 +110,7 @@ module _ (keep : EventsKeepIt) (streams : StreamLaws) (laws : TakingLaws) where
     good = f.good;
     in_use = f.in_use;
     none_refused = f.none_refused;
+    of_phone = f.of_phone;
   }
     where
       old : LineMeans f.key (f.phones (suc place)) w.issued (line_at w.base.lines place) (sent_at w place) (f.lines_are (suc place))
@@ -139,11 +163,7 @@ module _ (keep : EventsKeepIt) (streams : StreamLaws) (laws : TakingLaws) where
     old = f.lines place within
 
     own_key : key_of b.m.0.phone ≡ f.key
-    own_key = by b.t b.tag
-      where
-        by : (t : Up) → UpTag f.key w.issued b.m t → key_of b.m.0.phone ≡ f.key
-        by (messages.Answer place result) tag = tag.0
-        by messages.OtherMessage tag = tag.0
+    own_key = tag_key f.key w.issued b.m b.t b.tag
 
     fine : IsStateOf f.key s
     fine = subst (λ (o : Option State). IfSome o (IsStateOf f.key)) is old.fine
@@ -175,15 +195,8 @@ module _ (keep : EventsKeepIt) (streams : StreamLaws) (laws : TakingLaws) where
       highest = old.highest;
     }
 
-    -- the world of messages after it, with the entries, the key and the results as the octets have them
-    stands_by : (told : Telling) (t : IsTold mw (suc place) b.t outcome told) (keys : List ℕ) (list : List Entry) → f.key ≡ keys → entries (suc place) outcome ≡ list
-        → Stands (record mw { results = octets.results_after w.results told; keeper = shelf_of keys w.base.keeper list; history = list ++ w.base.history; lines = put f.lines_are (suc place) next })
-    stands_by told t keys list a e =
-        subst (λ (q : List ℕ). Stands (record mw { results = octets.results_after w.results told; keeper = shelf_of q w.base.keeper list; history = list ++ w.base.history; lines = put f.lines_are (suc place) next })) a
-        (subst (λ (z : List Entry). Stands (record mw { results = octets.results_after w.results told; keeper = shelf_of f.key w.base.keeper z; history = z ++ w.base.history; lines = put f.lines_are (suc place) next })) e
-        (subst (λ (rs : List ℕ). Stands (record mw { results = rs; keeper = shelf_of f.key w.base.keeper (entries (suc place) outcome); history = entries (suc place) outcome ++ w.base.history; lines = put f.lines_are (suc place) next })) t.gained
-        (keep.keeps mw (Takes (suc place) b.t b.more outcome t.telling) f.stands
-        (laws.steps mw (suc place) b.t b.more s (item_of_msg b.m) way t.telling may_take carried replied (allowed_to mw (suc place) asked way may_go) t.may))))
+    may_come : (told : Telling) (t : IsTold mw (suc place) b.t outcome told) → events.May mw (Takes (suc place) b.t b.more outcome t.telling)
+    may_come told t = laws.steps mw (suc place) b.t b.more s (item_of_msg b.m) way t.telling may_take carried replied (allowed_to mw (suc place) asked way may_go) t.may
       where
         may_take : events.MayTake mw (suc place) b.t b.more
         may_take = record {
@@ -192,6 +205,15 @@ module _ (keep : EventsKeepIt) (streams : StreamLaws) (laws : TakingLaws) where
           going = sym old.over ∙ ap is_none is;
           first = b.first;
         }
+
+    -- the world of messages after it, with the entries, the key and the results as the octets have them
+    stands_by : (told : Telling) (t : IsTold mw (suc place) b.t outcome told) (keys : List ℕ) (list : List Entry) → f.key ≡ keys → entries (suc place) outcome ≡ list
+        → Stands (record mw { results = octets.results_after w.results told; keeper = shelf_of keys w.base.keeper list; history = list ++ w.base.history; lines = put f.lines_are (suc place) next })
+    stands_by told t keys list a e =
+        subst (λ (q : List ℕ). Stands (record mw { results = octets.results_after w.results told; keeper = shelf_of q w.base.keeper list; history = list ++ w.base.history; lines = put f.lines_are (suc place) next })) a
+        (subst (λ (z : List Entry). Stands (record mw { results = octets.results_after w.results told; keeper = shelf_of f.key w.base.keeper z; history = z ++ w.base.history; lines = put f.lines_are (suc place) next })) e
+        (subst (λ (rs : List ℕ). Stands (record mw { results = rs; keeper = shelf_of f.key w.base.keeper (entries (suc place) outcome); history = entries (suc place) outcome ++ w.base.history; lines = put f.lines_are (suc place) next })) t.gained
+        (keep.keeps mw (Takes (suc place) b.t b.more outcome t.telling) f.stands (may_come told t))))
 
     told_is : (told : Telling) → octets.MayTell w place (Some (item_of_msg b.m)) way told → IsTold mw (suc place) b.t outcome told
     told_is told tell = told_as laws.told w place mw b.m b.t s carried (λ lt. (f.stands.orders (length w.results) lt).id)
@@ -217,6 +239,7 @@ module _ (keep : EventsKeepIt) (streams : StreamLaws) (laws : TakingLaws) where
       good = f.good;
       in_use = f.in_use;
       none_refused = f.none_refused;
+      of_phone = subst (λ (list : List Entry). AreOf f.key (list ++ w.base.history)) (sym turn.entries_are) (asked_of (suc place) b.t outcome mw (may_come told (told_is told tell)).1 w.base.history f.of_phone);
     }
 
   take_by : (w : OrderWorld) (place : ℕ) (way : Way) (told : Telling) (f : Follows w) → plain.MayTake w.base place way → (o : Option State) → (line_at w.base.lines place).session ≡ o
