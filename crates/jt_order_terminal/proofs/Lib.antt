@@ -7,6 +7,6 @@
 -- variants, and each drop of it multiplies the goals behind it: so one is dropped in hear_message and in perform_known alone, behind one call.
 mod Causes
 mod Committing
-mod Doing
+pub mod Doing
 mod Feeding
 mod Items

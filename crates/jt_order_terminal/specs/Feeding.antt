@@ -6,7 +6,7 @@ use Rattle.jt_store.specs.Tables.{WhereKnown}
 use Rattle.jt_store.specs.Vaults.{Held}
 use Rattle.jt_terminal_rule.specs.declared.state.State.{State}
 use Rattle.jt_terminal_rule.specs.declared.state.GiveUp.{GiveUp}
-use Rattle.jt_terminal_steps.specs.Running.{CutShort, holds_after}
+use Rattle.jt_terminal_steps.specs.Running.{CutShort, IsSound, holds_after}
 use Rattle.jt_terminal.specs.Feeding.{Brings}
 use Rattle.jt_order.specs.declared.performed.Performed.{Performed}
 use Rattle.jt_order_terminal.specs.Ledgers.{IsLedgerOf, Ledger}
@@ -31,6 +31,10 @@ scene state ledger held log said = record { state = state; ledger = ledger; held
 -- where the ledger was that of the log, it still is
 abbrev pub KeepsLedger : Ledger → Ledger → Option (List Performed) → Option (List Performed) → Type 0
 KeepsLedger ledger ledger_now log log_now = WhereKnown log (λ performed. IsLedgerOf performed ledger) → WhereKnown log_now (λ performed. IsLedgerOf performed ledger_now)
+
+-- where the wrapped terminal was in order and agreed with its vault, it still is and does
+abbrev pub KeepsSound : Option Held → State → Option Held → State → Type 0
+KeepsSound held s held_now s_now = IsSound held s → IsSound held_now s_now
 
 -- an order was responded to, and what is kept of the log, the log and the frames are so
 pub record HasResponded (d : Done) (ledger_now : Ledger) (log log_now : Option (List Performed)) (frames frames_now : List (List ℕ)) : Type 0 where

@@ -1,11 +1,13 @@
 -- What contracts see of an order terminal, and what it does at the items of its line (this project's own). To be believed.
-use Rattle.std.specs.Prelude.{◌≡◌, ℕ, ◌+◌, ◌-◌, ◌^◌, ◌==◌, ◌≤◌, List, [], ◌∷◌, ◌++◌, length, drop, Bool, true, false, Option, None, Some, Result, Ok, Err, IsErrOf, if◌then◌else◌}
+use Rattle.std.specs.Prelude.{◌≡◌, ℕ, ◌+◌, ◌-◌, ◌^◌, ◌==◌, ◌≤◌, ◌⊎◌, List, [], ◌∷◌, ◌++◌, length, drop, Bool, true, false, Option, None, Some, Result, Ok, Err, IsErrOf, if◌then◌else◌}
 use Rattle.std.specs.Option.{option_to_list}
 use Rattle.jt_value.specs.Octets.{AreOctets}
 use Rattle.jt_value.specs.Counts.{Rose}
 use Rattle.jt_escape.specs.Scan.{State as Splitting}
 use Rattle.jt_escape.specs.Splitter.{StandsFor}
 use Rattle.jt_header.specs.declared.header.Header.{Header}
+use Rattle.jt_store.specs.declared.error.StoreError.{StoreError}
+use Rattle.jt_store.specs.declared.error.StoreError.TheVariants as store
 use Rattle.jt_stream.specs.Unplaced.{Unplaced, items}
 use Rattle.jt_codec.specs.declared.message.Message.{Message}
 use Rattle.jt_terminal_rule.specs.declared.state.State.{State}
@@ -146,3 +148,11 @@ pub record StandsForLine (stream : Splitting) (seen : List ℕ) : Type 0 where
 abbrev pub IsNoMessage : Event → Type 0
 IsNoMessage (Received h m) = ⊥
 IsNoMessage event = Unit {0}
+
+-- What a call says of a vault and a log that it asks one after the other: no count of faults falls, Failed comes only where one of them rose, and
+-- every other answer, so Memory too, only where both stood still. Full never comes.
+pub record HasEitherCause {T : Type 0} (vault vault_now log log_now : ℕ) (result : Result T StoreError) : Type 0 where
+  pub later : (vault ≤ vault_now) × (log ≤ log_now)
+  pub failed : IsErrOf result store.Failed → Rose vault vault_now ⊎ Rose log log_now
+  pub still : ¬ IsErrOf result store.Failed → (vault_now ≡ vault) × (log_now ≡ log)
+  pub never_full : (limit : ℕ) → ¬ IsErrOf result (store.Full limit)

@@ -14,7 +14,7 @@ ghost use Rattle.jt_terminal_steps.specs.AfterError.{AreSameParams};
 ghost use Rattle.jt_terminal_steps.specs.Running.{CutShort, IsSame, holds_after};
 ghost use Rattle.jt_terminal.specs.Feeding.{message_at};
 ghost use Rattle.jt_order_terminal.specs.declared.fault.OrderFault.TheVariants as faults;
-ghost use Rattle.jt_order_terminal.specs.Feeding.{HasBegun, HasDone, HasFed, HasFedFront, KeepsLedger, WasCut, scene};
+ghost use Rattle.jt_order_terminal.specs.Feeding.{HasBegun, HasDone, HasFed, HasFedFront, KeepsLedger, KeepsSound, WasCut, scene};
 ghost use Rattle.jt_order_turns.specs.Heard.{heard_at, heard_in, heard_read};
 ghost use Rattle.jt_order_terminal.specs.Terminals.{HasFaultCause, does_at};
 
@@ -59,6 +59,8 @@ fn hear_other<V: Vault>(
         (rule.rule terminal.old.state (Received header message)).steps
         (V.holds terminal.old.vault) (V.holds terminal.new.vault)) }
     ensures same { IsSame terminal.old.state terminal.new.state }
+    ensures sound { KeepsSound (V.holds terminal.old.vault) terminal.old.state
+        (V.holds terminal.new.vault) terminal.new.state }
     ensures params { AreSameParams terminal.old.state terminal.new.state }
     ensures limit { V.limit terminal.new.vault ≡ V.limit terminal.old.vault }
     ensures never_log { result ≢ Err faults.Log }
@@ -131,6 +133,8 @@ fn hear_message<V: Vault, G: OrderLog>(
         (G.holds log.old) (G.holds log.new)) }
     ensures keeps { KeepsLedger ledger.old ledger.new (G.holds log.old) (G.holds log.new) }
     ensures same { IsSame terminal.old.state terminal.new.state }
+    ensures sound { KeepsSound (V.holds terminal.old.vault) terminal.old.state
+        (V.holds terminal.new.vault) terminal.new.state }
     ensures params { AreSameParams terminal.old.state terminal.new.state }
     ensures limit { V.limit terminal.new.vault ≡ V.limit terminal.old.vault }
     ensures vault_cause { HasFaultCause faults.Vault
@@ -171,6 +175,8 @@ fn hear_frame<V: Vault, G: OrderLog>(
         (G.holds log.old) (G.holds log.new)) }
     ensures keeps { KeepsLedger ledger.old ledger.new (G.holds log.old) (G.holds log.new) }
     ensures same { IsSame terminal.old.state terminal.new.state }
+    ensures sound { KeepsSound (V.holds terminal.old.vault) terminal.old.state
+        (V.holds terminal.new.vault) terminal.new.state }
     ensures params { AreSameParams terminal.old.state terminal.new.state }
     ensures limit { V.limit terminal.new.vault ≡ V.limit terminal.old.vault }
     ensures vault_cause { HasFaultCause faults.Vault
@@ -212,6 +218,8 @@ fn hear_last<V: Vault, G: OrderLog>(
         (G.holds log.old) (G.holds log.new)) }
     ensures keeps { KeepsLedger ledger.old ledger.new (G.holds log.old) (G.holds log.new) }
     ensures same { IsSame terminal.old.state terminal.new.state }
+    ensures sound { KeepsSound (V.holds terminal.old.vault) terminal.old.state
+        (V.holds terminal.new.vault) terminal.new.state }
     ensures params { AreSameParams terminal.old.state terminal.new.state }
     ensures limit { V.limit terminal.new.vault ≡ V.limit terminal.old.vault }
     ensures vault_cause { HasFaultCause faults.Vault
@@ -252,6 +260,8 @@ fn hear_item<V: Vault, G: OrderLog>(
     ensures far { stream.new.splitter.place ≤ stream.old.splitter.place + length octets.now }
     ensures keeps { KeepsLedger ledger.old ledger.new (G.holds log.old) (G.holds log.new) }
     ensures same { IsSame terminal.old.state terminal.new.state }
+    ensures sound { KeepsSound (V.holds terminal.old.vault) terminal.old.state
+        (V.holds terminal.new.vault) terminal.new.state }
     ensures params { AreSameParams terminal.old.state terminal.new.state }
     ensures limit { V.limit terminal.new.vault ≡ V.limit terminal.old.vault }
     ensures vault_cause { HasFaultCause faults.Vault
@@ -295,6 +305,8 @@ pub(crate) fn hear<V: Vault, G: OrderLog>(
     ensures place { stream.new.splitter.place ≤ stream.old.splitter.place + length octets.now }
     ensures keeps { KeepsLedger ledger.old ledger.new (G.holds log.old) (G.holds log.new) }
     ensures same { IsSame terminal.old.state terminal.new.state }
+    ensures sound { KeepsSound (V.holds terminal.old.vault) terminal.old.state
+        (V.holds terminal.new.vault) terminal.new.state }
     ensures params { AreSameParams terminal.old.state terminal.new.state }
     ensures limit { V.limit terminal.new.vault ≡ V.limit terminal.old.vault }
     ensures vault_cause { HasFaultCause faults.Vault

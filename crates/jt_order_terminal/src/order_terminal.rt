@@ -1,17 +1,19 @@
 //! A terminal that performs orders.
 
-ghost use Rattle.std.specs.Prelude.{◌≡◌, ◌≢◌, ◌≤◌, ◌<◌, ◌+◌, ◌^◌, ◌++◌, ℕ, List, [], None, Some, Err, false, true, length, IfErr, IfOk, OnErr, OnOk, IsOk};
-ghost use Rattle.jt_store.specs.Tables.{WhereKnown};
+ghost use Rattle.std.specs.Prelude.{◌≡◌, ◌≢◌, ◌≤◌, ◌<◌, ◌+◌, ◌^◌, ◌++◌, ℕ, List, [], None, Some, Err, false, true, length, IfErr, IfOk, OnErr, OnOk, IsErrOf, IsOk};
+ghost use Rattle.jt_store.specs.Tables.{HasCause, IsSteady, Reads, WhereKnown};
+ghost use Rattle.jt_store.specs.declared.error.StoreError.TheVariants as store;
 ghost use Rattle.jt_terminal_rule.specs.Machines.{is_up};
+ghost use Rattle.jt_terminal_rule.specs.Messages.{AreSettings};
 ghost use Rattle.jt_terminal_rule.specs.Rule as rule;
 ghost use Rattle.jt_terminal_rule.specs.Waits.{IsLate};
 ghost use Rattle.jt_terminal_rule.specs.declared.state.Event.TheVariants.{Lost, Opened, Tick};
 ghost use Rattle.jt_terminal_rule.specs.declared.state.GiveUp.TheVariants.{TimedOut};
 ghost use Rattle.jt_terminal_steps.specs.AfterError.{AreSameParams, AreSameTables, CutLists, lists_of};
-ghost use Rattle.jt_terminal_steps.specs.Running.{CutShort, IsDown, IsEvent, IsRefused, IsSame, IsSound, holds_after, time_after};
+ghost use Rattle.jt_terminal_steps.specs.Running.{CutShort, IsDown, IsEvent, IsRefused, IsSame, IsSound, IsStarted, holds_after, time_after};
 ghost use Rattle.jt_order_terminal.specs.Ledgers.{IsLedgerOf};
 ghost use Rattle.jt_order_terminal.specs.declared.fault.OrderFault.TheVariants as faults;
-ghost use Rattle.jt_order_terminal.specs.Terminals.{CommitsFirst, HasFaultCause, IsNoMessage, StandsForLine, does_at_octets, log_with};
+ghost use Rattle.jt_order_terminal.specs.Terminals.{CommitsFirst, HasEitherCause, HasFaultCause, IsNoMessage, StandsForLine, does_at_octets, log_with};
 
 use crate::fault::{OrderFault, fault_of};
 use crate::hearing::hear;
@@ -20,7 +22,7 @@ use crate::saying::Said;
 use jt_order::OrderLog;
 use jt_store::{StoreError, Vault};
 use jt_stream::{Stream, law_front};
-use jt_terminal::{Actions, Event, Terminal};
+use jt_terminal::{Actions, Event, Settings, Terminal};
 use jt_value::Memory;
 use std::alloc::Global;
 use std::marker::Model;
@@ -77,6 +79,22 @@ fn lose<V: Vault>(alloc: Global, terminal: &mut Terminal<V>)
     let _lost = terminal.event(alloc, Event::Lost);
 }
 
+// What is kept of the orders that a log has, which it keeps.
+fn load_ledger<G: OrderLog>(alloc: Global, log: &mut G) -> Result<Ledger, StoreError>
+    ensures answer { Reads (G.holds log.old) (G.holds log.new)
+        (λ held ledger. IsLedgerOf held ledger) result }
+    ensures cause { HasCause (G.faults log.old) (G.faults log.new) result }
+    ensures steady { IsSteady (G.may_fail log.old) (G.may_fail log.new) result }
+{
+    match log.load(alloc) {
+        Ok(performed) => match Ledger::of(alloc, performed.as_slice()) {
+            Ok(ledger) => Ok(ledger),
+            Err(Memory) => Err(StoreError::Memory),
+        },
+        Err(error) => Err(error),
+    }
+}
+
 impl<V: Vault, G: OrderLog> OrderTerminal<V, G> {
     /// An order terminal over what its log loads: its tables are those that the performed orders with result 0 leave, one after
     /// another, and none of them changes the times of the wrapped terminal. It keeps the allocator that it is given. An Err has
@@ -99,17 +117,14 @@ impl<V: Vault, G: OrderLog> OrderTerminal<V, G> {
             × IsRefused (G.faults log) (G.faults refused.1) (G.may_fail log)
             (G.may_fail refused.1) refused.2) }
     {
-        match log.load(alloc) {
-            Ok(performed) => match Ledger::of(alloc, performed.as_slice()) {
-                Ok(ledger) => Ok(OrderTerminal {
-                    alloc,
-                    terminal,
-                    log,
-                    stream: Stream::new(),
-                    ledger,
-                }),
-                Err(Memory) => Err((terminal, log, StoreError::Memory)),
-            },
+        match load_ledger(alloc, &mut log) {
+            Ok(ledger) => Ok(OrderTerminal {
+                alloc,
+                terminal,
+                log,
+                stream: Stream::new(),
+                ledger,
+            }),
             Err(error) => Err((terminal, log, error)),
         }
     }
@@ -150,8 +165,14 @@ impl<V: Vault, G: OrderLog> OrderTerminal<V, G> {
             self.old.ledger seen octets.now in OnErr result (CutShort done.steps
             (V.holds self.old.terminal.vault) (V.holds self.new.terminal.vault)) }
         ensures down { OnErr result (IsDown self.new.terminal.state) }
+        // Behind a fault it agrees with its vault, and else where it did before.
         ensures sound { OnErr result
             (IsSound (V.holds self.new.terminal.vault) self.new.terminal.state) }
+        ensures stays_sound { IsSound (V.holds self.old.terminal.vault) self.old.terminal.state →
+            IsSound (V.holds self.new.terminal.vault) self.new.terminal.state }
+        // What it keeps of the log, its tables among it, is that of the orders that the log has.
+        ensures ledger { WhereKnown (G.holds self.new.log)
+            (λ held. IsLedgerOf held self.new.ledger) }
         ensures same { IsSame self.old.terminal.state self.new.terminal.state }
         // No order reaches the wrapped terminal, whose times and parameters stay.
         ensures params { AreSameParams self.old.terminal.state self.new.terminal.state }
@@ -222,6 +243,8 @@ impl<V: Vault, G: OrderLog> OrderTerminal<V, G> {
         ensures params { AreSameParams self.old.terminal.state self.new.terminal.state }
         ensures lost { event ≡ Lost → IsOk result }
         ensures log { (self.new.log ≡ self.old.log) × (self.new.ledger ≡ self.old.ledger) }
+        ensures ledger { WhereKnown (G.holds self.new.log)
+            (λ held. IsLedgerOf held self.new.ledger) }
         ensures opened { event ≡ Opened → StandsForLine self.new.stream []
             × (self.new.stream.place ≡ 0) }
         ensures same { event ≢ Opened → self.new.stream ≡ self.old.stream }
@@ -238,11 +261,62 @@ impl<V: Vault, G: OrderLog> OrderTerminal<V, G> {
         }
     }
 
-    /// The log, which is lent.
+    /// Whether a line is in use.
+    pub fn is_up(&self) -> bool
+        ensures { result ≡ is_up self.now.terminal.state.phase }
+    {
+        self.terminal.is_up()
+    }
+
+    /// Starts anew in place, without a line, over what vault and log load and with these settings. After an error the terminal is as
+    /// before. Failed comes only where the vault's or the log's count of faults rose, Memory only where both stood still, and Full
+    /// never.
+    pub fn restart(&mut self, settings: Settings) -> Result<(), StoreError>
+        requires { AreSettings settings }
+        ensures ok { OnOk result (IsStarted settings (V.holds self.old.terminal.vault)
+            self.new.terminal.state) }
+        ensures err { OnErr result ((self.new.terminal.state ≡ self.old.terminal.state)
+            × (self.new.ledger ≡ self.old.ledger) × (self.new.stream ≡ self.old.stream)) }
+        ensures holds { (V.holds self.new.terminal.vault ≡ V.holds self.old.terminal.vault)
+            × (G.holds self.new.log ≡ G.holds self.old.log) }
+        ensures stream { OnOk result (StandsForLine self.new.stream []
+            × (self.new.stream.place ≡ 0)) }
+        // What it keeps of the log, its tables among it, is that of the orders that the log has.
+        ensures ledger { WhereKnown (G.holds self.new.log)
+            (λ held. IsLedgerOf held self.new.ledger) }
+        ensures sound { OnOk result
+            (IsSound (V.holds self.new.terminal.vault) self.new.terminal.state) }
+        ensures limit { V.limit self.new.terminal.vault ≡ V.limit self.old.terminal.vault }
+        ensures cause { HasEitherCause
+            (V.faults self.old.terminal.vault) (V.faults self.new.terminal.vault)
+            (G.faults self.old.log) (G.faults self.new.log) result }
+        ensures vault_steady { V.may_fail self.old.terminal.vault ≡ false →
+            V.may_fail self.new.terminal.vault ≡ false }
+        ensures log_steady { G.may_fail self.old.log ≡ false → G.may_fail self.new.log ≡ false }
+        ensures steady { V.may_fail self.old.terminal.vault ≡ false →
+            G.may_fail self.old.log ≡ false → ¬ IsErrOf result store.Failed }
+    {
+        let ledger = load_ledger(self.alloc, &mut self.log)?;
+        self.terminal.restart(self.alloc, settings)?;
+        self.ledger = ledger;
+        self.stream = Stream::new();
+        Ok(())
+    }
+
+    /// The log, which is lent. What the terminal keeps of it is that of the orders that it has.
     pub fn log(&self) -> &G
-        ensures { result.now ≡ self.now.log }
+        ensures log { result.now ≡ self.now.log }
+        ensures ledger { WhereKnown (G.holds self.now.log)
+            (λ held. IsLedgerOf held self.now.ledger) }
     {
         &self.log
+    }
+
+    /// The vault, which is lent.
+    pub fn vault(&self) -> &V
+        ensures { result.now ≡ self.now.terminal.vault }
+    {
+        self.terminal.vault()
     }
 
     /// The vault and the log, with no memory taken.

@@ -2,7 +2,7 @@
 
 ghost use Rattle.std.specs.Prelude.{◌≡◌, ◌≤◌};
 
-use crate::setting::{Performer, expect_frame, open, start};
+use crate::setting::{Performer, expect_frame, open, start, start_anew};
 use jt_order::{MemLog, Performed};
 use jt_store::MemVault;
 use jt_value::Seq;
@@ -49,6 +49,21 @@ fn an_order_is_performed_once_also_over_a_restart(rt: HostRuntime) {
     perform(&rt, &mut terminal);
     let (vault, log) = terminal.into_parts();
     let mut terminal = start(&rt, alloc, vault, log);
+    open(&rt, &mut terminal);
+    expect_frame(&rt, &mut terminal, TEXT, RESPONSE);
+    expect_one(&rt, terminal.log().performed());
+    drop(terminal);
+}
+
+#[test]
+fn so_it_is_where_the_terminal_starts_anew_in_place(rt: HostRuntime) {
+    let alloc = rt.alloc();
+    let vault = MemVault::new(alloc, 1000, Seq::new(alloc));
+    let log = MemLog::new(alloc, Seq::new(alloc));
+    let mut terminal = start(&rt, alloc, vault, log);
+    open(&rt, &mut terminal);
+    perform(&rt, &mut terminal);
+    start_anew(&rt, alloc, &mut terminal);
     open(&rt, &mut terminal);
     expect_frame(&rt, &mut terminal, TEXT, RESPONSE);
     expect_one(&rt, terminal.log().performed());

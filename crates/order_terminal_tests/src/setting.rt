@@ -59,6 +59,13 @@ pub fn start(rt: &impl Abort, alloc: Global, vault: MemVault, log: MemLog) -> Pe
         .expect(rt, "there is memory")
 }
 
+/// The order terminal starts anew in place: no line is in use.
+pub fn start_anew(rt: &impl Abort, alloc: Global, terminal: &mut Performer) {
+    assert!(rt; terminal.is_up());
+    assert!(rt; terminal.restart(settings(rt, alloc)).is_ok());
+    assert!(rt; !terminal.is_up());
+}
+
 /// A line is opened: the terminal writes one frame.
 pub fn open(rt: &impl Abort, terminal: &mut Performer)
     ensures { terminal.new.stream.place ≡ 0 }
