@@ -16,7 +16,7 @@ use Rattle.jt_view.specs.declared.command.Report.TheVariants.{View, Check}
 use Rattle.jt_script.specs.EventLines.{number_in}
 use Rattle.jt_cli.specs.Words.{count_in, task_named, task_of, task_valued, telling}
 use Rattle.jt_cli.specs.declared.task.Task.{Task}
-use Rattle.jt_cli.specs.declared.task.Task.TheVariants.{Tell, Rehearse, Make, Fence, Gateway}
+use Rattle.jt_cli.specs.declared.task.Task.TheVariants.{Tell, Rehearse, Make, Fence, Gateway, Orders}
 
 abbrev pub report_word : Report → List ℕ
 report_word View = codes "view"
@@ -35,6 +35,7 @@ words_of_task Rehearse = codes "rehearse" ∷ []
 words_of_task (Make count) = codes "make" ∷ decimal count ∷ []
 words_of_task Fence = codes "fence" ∷ []
 words_of_task Gateway = codes "gateway" ∷ []
+words_of_task Orders = codes "orders" ∷ []
 
 -- the number of fixes is one of those that may be made
 abbrev pub IsInRange : Task → Type 0
@@ -43,6 +44,7 @@ IsInRange Rehearse = Unit {0}
 IsInRange (Make count) = (1 ≤ count) × (count ≤ 20000)
 IsInRange Fence = Unit {0}
 IsInRange Gateway = Unit {0}
+IsInRange Orders = Unit {0}
 
 abbrev pub AreNoTask : List (List ℕ) → Type 0
 AreNoTask words = (task : Task) → IsInRange task → words ≢ words_of_task task
@@ -72,6 +74,7 @@ told Rehearse within = refl
 told (Make count) within = rw (in_range count within.0 within.1) refl
 told Fence within = refl
 told Gateway within = refl
+told Orders within = refl
 
 pub asks_of : (task : Task) (words : List (List ℕ)) → IsInRange task → words ≡ words_of_task task → task_of words ≡ Some task
 asks_of task words within are = rw are (told task within)
@@ -105,8 +108,10 @@ named_back word task =
     (bytes_eq-Decides word (codes "rehearse")) (refl, tt)
     (one (bytes_eq word (codes "fence")) word (codes "fence") Fence _ task []
     (bytes_eq-Decides word (codes "fence")) (refl, tt)
-    (one (bytes_eq word (codes "gateway")) word (codes "gateway") Gateway (telling Octets word) task []
-    (bytes_eq-Decides word (codes "gateway")) (refl, tt) (telling_back Octets word task)))
+    (one (bytes_eq word (codes "gateway")) word (codes "gateway") Gateway _ task []
+    (bytes_eq-Decides word (codes "gateway")) (refl, tt)
+    (one (bytes_eq word (codes "orders")) word (codes "orders") Orders (telling Octets word) task []
+    (bytes_eq-Decides word (codes "orders")) (refl, tt) (telling_back Octets word task))))
 
 -- what a word writes that is such a number
 written_back : (b : Bool) (word : List ℕ) (n count : ℕ) → Decides b (word ≡ decimal n) → (c : Bool)

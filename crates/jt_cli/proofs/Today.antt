@@ -24,7 +24,7 @@ use Rattle.jt_cli.proofs.OldWords.{AreNoTask, IsInRange, words_of, words_of_task
 use Rattle.jt_cli.specs.declared.outside.Outside.{Outside}
 use Rattle.jt_cli.specs.declared.outside.Ended.{Ended}
 use Rattle.jt_cli.specs.declared.task.Task.{Task}
-use Rattle.jt_cli.specs.declared.task.Task.TheVariants.{Tell, Rehearse, Make, Fence, Gateway}
+use Rattle.jt_cli.specs.declared.task.Task.TheVariants.{Tell, Rehearse, Make, Fence, Gateway, Orders}
 use Rattle.jt_cli.proofs.StatusesOfRuns.{of_answers, of_fault}
 
 alone_watch : (s : Status) → (s ≡ status.Done) ⊎ (s ≡ status.Refused) ⊎ IsFault s → IsAlone s
@@ -44,18 +44,19 @@ without_links status.NetFault alone = alone
 without_links status.Unsent alone = alone
 without_links status.Memory alone = tt
 
-without_links_gateway : (s : Status) → (s ≡ status.Done) ⊎ (s ≡ status.Refused) ⊎ (s ≡ status.StoreFault) ⊎ IsFault s → IsWithoutLinks s
-without_links_gateway s (inl done) = subst IsWithoutLinks (sym done) tt
-without_links_gateway s (inr (inl refused)) = subst IsWithoutLinks (sym refused) tt
-without_links_gateway s (inr (inr (inl full))) = subst IsWithoutLinks (sym full) tt
-without_links_gateway s (inr (inr (inr fault))) = without_links s (of_fault s fault)
+without_links_script : (s : Status) → (s ≡ status.Done) ⊎ (s ≡ status.Refused) ⊎ (s ≡ status.StoreFault) ⊎ IsFault s → IsWithoutLinks s
+without_links_script s (inl done) = subst IsWithoutLinks (sym done) tt
+without_links_script s (inr (inl refused)) = subst IsWithoutLinks (sym refused) tt
+without_links_script s (inr (inr (inl full))) = subst IsWithoutLinks (sym full) tt
+without_links_script s (inr (inr (inr fault))) = without_links s (of_fault s fault)
 
 without_links_of : (task : Task) (left left_now old now : Option (List ℕ)) (s : Status) → Acts task left left_now old now s → IsWithoutLinks s
 without_links_of (Tell command) left left_now old now s acts = without_links s acts.alone
 without_links_of Rehearse left left_now old now s acts = acts.without_links
 without_links_of (Make count) left left_now old now s acts = acts.without_links
 without_links_of Fence left left_now old now s acts = without_links s (alone_watch s acts.ends)
-without_links_of Gateway left left_now old now s acts = without_links_gateway s acts.ends
+without_links_of Gateway left left_now old now s acts = without_links_script s acts.ends
+without_links_of Orders left left_now old now s acts = without_links_script s acts.ends
 
 abbrev pub IsRehearsal : Task → Type 0
 IsRehearsal (Tell command) = ⊥
@@ -63,6 +64,7 @@ IsRehearsal Rehearse = Unit {0}
 IsRehearsal (Make count) = Unit {0}
 IsRehearsal Fence = ⊥
 IsRehearsal Gateway = Unit {0}
+IsRehearsal Orders = Unit {0}
 
 alone_of : (task : Task) (left left_now old now : Option (List ℕ)) (s : Status) → (IsRehearsal task → ⊥) → Acts task left left_now old now s → IsAlone s
 alone_of (Tell command) left left_now old now s other acts = acts.alone
@@ -70,6 +72,7 @@ alone_of Rehearse left left_now old now s other acts = absurd (other tt)
 alone_of (Make count) left left_now old now s other acts = absurd (other tt)
 alone_of Fence left left_now old now s other acts = alone_watch s acts.ends
 alone_of Gateway left left_now old now s other acts = absurd (other tt)
+alone_of Orders left left_now old now s other acts = absurd (other tt)
 
 -- on Done a task read its source to the end, but for the one that reads none
 abbrev pub IsMake : Task → Type 0
@@ -78,6 +81,7 @@ IsMake Rehearse = ⊥
 IsMake (Make count) = Unit {0}
 IsMake Fence = ⊥
 IsMake Gateway = ⊥
+IsMake Orders = ⊥
 
 end_of : (task : Task) (left left_now old now : Option (List ℕ)) (s : Status) → (IsMake task → ⊥) → Acts task left left_now old now s → s ≡ status.Done → IsAtEnd left_now
 end_of (Tell command) left left_now old now s other acts = acts.to_the_end
@@ -85,6 +89,7 @@ end_of Rehearse left left_now old now s other acts = acts.to_the_end
 end_of (Make count) left left_now old now s other acts = absurd (other tt)
 end_of Fence left left_now old now s other acts = acts.to_the_end
 end_of Gateway left left_now old now s other acts = acts.to_the_end
+end_of Orders left left_now old now s other acts = acts.to_the_end
 
 alone_store : (s : Status) → IsAlone s → s ≡ status.StoreFault → ⊥
 alone_store s alone e = subst IsAlone e alone

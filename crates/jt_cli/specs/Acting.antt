@@ -4,6 +4,7 @@ use Rattle.std.specs.Io.KnownBytes.{Appends, IsAtEnd}
 use Rattle.jt_value.specs.declared.limits.TheConstants.{FIX_LIMIT, INPUT_LIMIT}
 use Rattle.jt_fence_command.specs.Running.{Watches}
 use Rattle.jt_gateway_command.specs.Running.{RunsGateway}
+use Rattle.jt_order_command.specs.Running.{RunsOrders}
 use Rattle.jt_world.specs.Claim.{KeptWhole}
 use Rattle.jt_world.specs.Made.{made, made_reply}
 use Rattle.jt_world.specs.Rehearsal.{FullAt, rehearsal, script_reply, world_of}
@@ -15,7 +16,7 @@ use Rattle.jt_cli.specs.Script.{RunsScript}
 use Rattle.jt_cli.specs.Statuses.{IsAlone, IsWithoutLinks}
 use Rattle.jt_view.specs.declared.command.Command.{Command}
 use Rattle.jt_cli.specs.declared.task.Task.{Task}
-use Rattle.jt_cli.specs.declared.task.Task.TheVariants.{Tell, Rehearse, Make, Fence, Gateway}
+use Rattle.jt_cli.specs.declared.task.Task.TheVariants.{Tell, Rehearse, Make, Fence, Gateway, Orders}
 use Rattle.jt_input.specs.declared.status.Status.{Status}
 use Rattle.jt_input.specs.declared.status.Status.TheVariants.{Done, ReadFault, WriteFault, StoreFault}
 
@@ -77,3 +78,4 @@ Acts Rehearse left left_now old now status = Plays left left_now old now status
 Acts (Make count) left left_now old now status = MakesScript count left left_now old now status
 Acts Fence left left_now old now status = Watches left left_now old now status
 Acts Gateway left left_now old now status = RunsGateway left left_now old now status
+Acts Orders left left_now old now status = RunsOrders left left_now old now status

@@ -29,6 +29,7 @@ task_named word =
     if bytes_eq word (codes "rehearse") then Some tasks.Rehearse
     else if bytes_eq word (codes "fence") then Some tasks.Fence
     else if bytes_eq word (codes "gateway") then Some tasks.Gateway
+    else if bytes_eq word (codes "orders") then Some tasks.Orders
     else telling Octets word
 
 -- the number from 1 to 20,000 that a word writes in decimal digits

@@ -14,6 +14,7 @@ use crate::usage::push_usage_line;
 use jt_fence_command::fence;
 use jt_gateway_command::gateway;
 use jt_input::Status;
+use jt_order_command::orders;
 use jt_outside::{Clock, Dial, Sink, Source, write_all};
 use jt_store::{Keeper, Vault};
 use jt_value::Seq;
@@ -61,6 +62,7 @@ fn act<S: Source, K: Sink>(alloc: Global, source: &mut S, sink: &mut K, task: Ta
         Task::Make(count) => play_made(alloc, sink, count),
         Task::Fence => fence(alloc, source, sink),
         Task::Gateway => gateway(alloc, source, sink),
+        Task::Orders => orders(alloc, source, sink),
     }
 }
 

@@ -19,9 +19,9 @@ use std::alloc::Global;
 /// Does what the words say, which are those after the program's name and no words of `platform`. It needs no threads and no
 /// runtime; it takes one so that it stands for `run`.
 ///
-/// The commands are `view` and `check`, each with or without `--hex`, `rehearse`, `make` with a number, `fence`, `gateway`, `report`
-/// with its options, and `relay` with a phone. All other words are answered the usage line, and then nothing is read. Of the source
-/// at most 2^40 octets are viewed or checked, and of a script, of a track or of fixes at most 10,000,000 lines of at most 4,096
+/// The commands are `view` and `check`, each with or without `--hex`, `rehearse`, `make` with a number, `fence`, `gateway`, `orders`,
+/// `report` with its options, and `relay` with a phone. All other words are answered the usage line, and then nothing is read. Of the
+/// source at most 2^40 octets are viewed or checked, and of a script, of a track or of fixes at most 10,000,000 lines of at most 4,096
 /// octets are heard.
 pub fn run_alone<R, S: Source, K: Sink, D: Dial, L, C: Clock, P: Keeper, V: Vault>(
     _rt: &R,

@@ -19,6 +19,8 @@ pub enum Task {
     Fence,
     /// Plays the script of a gateway: the word is `gateway`.
     Gateway,
+    /// Plays a script of orders: the word is `orders`.
+    Orders,
 }
 
 // The most fixes of a script that is made.
@@ -64,6 +66,9 @@ fn named(word: &str) -> Option<Task>
     }
     if word == "gateway" {
         return Some(Task::Gateway);
+    }
+    if word == "orders" {
+        return Some(Task::Orders);
     }
     telling(Encoding::Octets, word)
 }

@@ -80,8 +80,8 @@ where
 /// Does what the words say, which are those after the program's name.
 ///
 /// The commands are `view` and `check`, each with or without `--hex`, `rehearse`, `make` with its
-/// number of fixes, `fence`, `gateway`, `platform` with its port and its number of sessions, `report` with its
-/// options, and `relay` with a phone. All other words are answered the usage line, and then nothing is
+/// number of fixes, `fence`, `gateway`, `orders`, `platform` with its port and its number of sessions, `report`
+/// with its options, and `relay` with a phone. All other words are answered the usage line, and then nothing is
 /// read. Of the source at most 2^40 octets are viewed or checked, and of a script, of a track, of a
 /// fleet or of fixes at most 10,000,000 lines of at most 4,096 octets are heard.
 ///

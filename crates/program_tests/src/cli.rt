@@ -11,7 +11,8 @@ use jt_value::{CodecError, Memory, Octets, Refusal, Seq, Why};
 use std::alloc::{AllocError, Global};
 use std::process::Abort;
 
-const USAGE: &str = "usage: jt808 view|check|rehearse|make|platform|report|fence|relay|gateway\n";
+const USAGE: &str =
+    "usage: jt808 view|check|rehearse|make|platform|report|fence|relay|gateway|orders\n";
 
 const HEARTBEAT: &[u8] = b"\x7e\x00\x02\x00\x00\x01\x39\x12\x34\x56\x78\x00\x00\x32\x7e";
 
@@ -665,6 +666,8 @@ fn words_of_tasks(rt: HostRuntime) {
         (&["make", "1"], Some(Task::Make(1))),
         (&["make", "20000"], Some(Task::Make(20_000))),
         (&["fence"], Some(Task::Fence)),
+        (&["orders"], Some(Task::Orders)),
+        (&["orders", "--hex"], None),
         (&[], None),
         (&[""], None),
         (&["views"], None),

@@ -3,7 +3,8 @@ use jt_cli::Status;
 use std::alloc::Global;
 use std::process::Abort;
 
-const USAGE: &str = "usage: jt808 view|check|rehearse|make|platform|report|fence|relay|gateway\n";
+const USAGE: &str =
+    "usage: jt808 view|check|rehearse|make|platform|report|fence|relay|gateway|orders\n";
 
 #[test]
 fn one_fix(rt: HostRuntime) {

@@ -1,0 +1,6 @@
+pub mod Lines
+pub mod Texts
+pub mod Script
+pub mod Beyond
+pub mod Hearing
+pub mod Running
