@@ -71,7 +71,7 @@ copied_is (Err error) a b is e = is
 
 -- ---- the phone has the same digits for ever
 
-heard_phone : (m : Machine) (just : Option Acknowledgement) (takes : Bool) → (accepting (step.hears m just) takes).phone ≡ m.phone
+pub heard_phone : (m : Machine) (just : Option Acknowledgement) (takes : Bool) → (accepting (step.hears m just) takes).phone ≡ m.phone
 heard_phone m None true = refl
 heard_phone m None false = refl
 heard_phone m (Some ack) true = refl

@@ -57,7 +57,7 @@ edition_after edition (e ∷ events) = edition_after (edition_by edition e) even
 abbrev pub TakesEdition : WorldEvent → Edition → Edition → Type 0
 TakesEdition e old now = (now ≡ old) ⊎ (now ≡ edition_by old e)
 
--- It has the phone of before, or its phone of that edition, as where it started anew.
+-- It has the phone of before, or its phone of the edition that the event sets or leaves, as where it started anew.
 abbrev pub TakesPhone : Identity → Edition → WorldEvent → Phone → Phone → Type 0
 TakesPhone identity edition e old now = (now ≡ old) ⊎ (now ≡ (settings_in identity (edition_by edition e)).phone)
 

@@ -50,7 +50,7 @@ fn copy_settings(alloc: Global, settings: &Settings) -> Result<Settings, Memory>
 }
 
 impl Identity {
-    // The settings in an edition, once more.
+    /// A copy of the settings in an edition. Memory comes where memory ran out.
     pub fn settings(&self, alloc: Global, edition: Edition) -> Result<Settings, Memory>
         ensures { IfOk result (λ settings. settings ≡ settings_in self.now edition) }
     {

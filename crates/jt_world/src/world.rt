@@ -66,10 +66,11 @@ impl World {
     }
 
     /// A line of a script, and the entries that it made, in order. After each answer the world is
-    /// one to which steps lead, and the terminal recorded the line's fix or nothing, and has the phone
-    /// and the edition of before or those in which the line lets it start anew. After Ok it is the one
-    /// that the line defines, if lines of a script alone led to the one before; of each line but `run`
-    /// and the terminal's restart that holds whatever happened before.
+    /// one to which steps lead, and its terminal recorded the line's fix or nothing. The terminal has
+    /// the edition of before or the one that the line sets, and the phone of before or its phone of the
+    /// edition that the line sets or leaves. After Ok the world is the one that the line defines, if
+    /// lines of a script alone led to the one before; of each line but `run` and the terminal's restart
+    /// that holds whatever happened before.
     ///
     /// NoLine comes exactly where the line that is named was not opened, and Full where as many
     /// fixes as the limit are not accepted and one is to be recorded; the world is then as before.
