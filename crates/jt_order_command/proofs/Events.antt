@@ -1,5 +1,5 @@
 -- What an event of a script of orders does, whatever lines follow.
-use Rattle.std.proofs.Common.{◌≡◌, ◌≢◌, ◌↔◌, ℕ, ◌+◌, ◌^◌, Bool, true, false, not, if◌then◌else◌, List, ◌++◌, Result, Ok, Err, IfOk, OnOk, refl, sym, ap, subst, ◌∙◌, inl, inr, length, drop}
+use Rattle.std.proofs.Common.{◌≡◌, ◌≢◌, ◌↔◌, ℕ, ◌+◌, ◌^◌, Bool, true, false, not, if◌then◌else◌, List, ◌++◌, Result, Ok, Err, IfOk, refl, sym, ap, subst, ◌∙◌, inl, inr, length, drop}
 use Rattle.std.proofs.lemmas.Bool.{cases_Bool}
 use Rattle.jt_value.specs.declared.memory.Memory.{Memory}
 use Rattle.jt_input.specs.Lines.{Outcome, bad_outcome, printing}
@@ -8,8 +8,6 @@ use Rattle.jt_input.specs.declared.hearer.Heard.TheVariants as heard
 use Rattle.jt_input.specs.declared.status.Status.TheVariants as status
 use Rattle.jt_terminal_rule.specs.declared.settings.Settings.{Settings}
 use Rattle.jt_terminal_rule.specs.declared.state.Event.TheVariants as terminal
-use Rattle.jt_order.specs.declared.book.TheConstants.{ORDER_LIMIT}
-use Rattle.jt_order.specs.declared.performed.Performed.{Performed}
 use Rattle.jt_order_octets.specs.World.{OrderWorld}
 use Rattle.jt_order_play.specs.Playing.{ComesTo, OrderPlay, RunsTo, finds_full, is_opened, meets, moves, names_no_line, play_after, runs}
 use Rattle.jt_order_play.specs.Scripts.{Names, OrderScene}
@@ -19,7 +17,7 @@ use Rattle.jt_order_play.specs.declared.error.OrderWorldError.{OrderWorldError}
 use Rattle.jt_order_play.specs.declared.error.OrderWorldError.TheVariants as refused
 use Rattle.jt_order_play.proofs.Composing.{rounds_past}
 use Rattle.jt_order_command.specs.Hearing.{Does, GoesOn, IsBad, IsFull, Refuses, Steps}
-use Rattle.jt_order_command.specs.Script.{after_line, moving_outcome, full_outcome, moves_yet, scene_after}
+use Rattle.jt_order_command.specs.Script.{after_line, round_limit_outcome, full_outcome, passes_round_limit, scene_after}
 use Rattle.jt_order_command.specs.Texts.{event_text, full_line, orders_text}
 use Rattle.jt_order_command.specs.declared.reading.OrderLine.TheVariants.{Event}
 
@@ -30,7 +28,7 @@ runs_is : (p now : OrderPlay) → RunsTo p now → now ≡ runs p
 unfolding runs
 runs_is p now to = rounds_past to.count (2 ^ 64) (meets p (terminal.Tick p.clock)) now to.few to.is to.still
 
-comes : (settings : Settings) (p : OrderPlay) (e : OrderEvent) (now : OrderPlay) → ComesTo settings p e now → (now ≡ play_after settings p e) × (moves_yet p e ≡ false)
+comes : (settings : Settings) (p : OrderPlay) (e : OrderEvent) (now : OrderPlay) → ComesTo settings p e now → (now ≡ play_after settings p e) × (passes_round_limit p e ≡ false)
 comes settings p (line.Issue order) now is = (is, refl)
 comes settings p line.Open now is = (is, refl)
 comes settings p (line.Up number count) now is = (is, refl)
@@ -106,21 +104,21 @@ module _ (s : OrderScene) (event : OrderEvent) (number : ℕ) (next : OrderScene
   if_named no_line full endless =
       if no_line then bad_outcome s number
       else if full then full_outcome s
-      else if endless then moving_outcome s
+      else if endless then round_limit_outcome s
       else done
 
-  after_done : names_no_line s.play.world event ≡ false → finds_full s.play.world event ≡ false → moves_yet s.play event ≡ false → after_line s number next (Event event) ≡ done
+  after_done : names_no_line s.play.world event ≡ false → finds_full s.play.world event ≡ false → passes_round_limit s.play event ≡ false → after_line s number next (Event event) ≡ done
   after_done opened room ends =
-      ap (λ (b : Bool). if_named b (finds_full s.play.world event) (moves_yet s.play event)) opened
-      ∙ (ap (λ (b : Bool). if_named false b (moves_yet s.play event)) room ∙ ap (λ (b : Bool). if_named false false b) ends)
+      ap (λ (b : Bool). if_named b (finds_full s.play.world event) (passes_round_limit s.play event)) opened
+      ∙ (ap (λ (b : Bool). if_named false b (passes_round_limit s.play event)) room ∙ ap (λ (b : Bool). if_named false false b) ends)
 
   after_bad : names_no_line s.play.world event ≡ true → after_line s number next (Event event) ≡ bad_outcome s number
-  after_bad shut = ap (λ (b : Bool). if_named b (finds_full s.play.world event) (moves_yet s.play event)) shut
+  after_bad shut = ap (λ (b : Bool). if_named b (finds_full s.play.world event) (passes_round_limit s.play event)) shut
 
   after_full : names_no_line s.play.world event ≡ false → finds_full s.play.world event ≡ true → after_line s number next (Event event) ≡ full_outcome s
   after_full opened full =
-      ap (λ (b : Bool). if_named b (finds_full s.play.world event) (moves_yet s.play event)) opened
-      ∙ ap (λ (b : Bool). if_named false b (moves_yet s.play event)) full
+      ap (λ (b : Bool). if_named b (finds_full s.play.world event) (passes_round_limit s.play event)) opened
+      ∙ ap (λ (b : Bool). if_named false b (passes_round_limit s.play event)) full
 
 -- what happened behind so many that were performed and so many that were answered
 abbrev pub behind : ℕ → ℕ → OrderWorld → List ℕ

@@ -1,7 +1,7 @@
 -- How a world of orders hears a line of a script.
 use Rattle.std.proofs.Common.{◌≡◌, ℕ, ◌+◌, Bool, if◌then◌else◌, IsTrue, List, [], ◌∷◌, ◌++◌, Result, Ok, Err, IfOk, None, refl, sym, ap, subst, ◌∙◌, append-nil}
 use Rattle.jt_input.specs.Answer.{EndsEarly}
-use Rattle.jt_input.specs.Lines.{Closes, Hears, Outcome}
+use Rattle.jt_input.specs.Lines.{Closes, Hears}
 use Rattle.jt_input.specs.Text.{is_within}
 use Rattle.jt_input.specs.declared.hearer.Heard.{Heard}
 use Rattle.jt_input.specs.declared.hearer.Heard.TheVariants as heard

@@ -8,7 +8,7 @@ use Rattle.jt_input.specs.Lines.{HasClosed, HasHeard, Outcome, answer_of, bad_ou
 use Rattle.jt_input.specs.Text.{lines_of}
 use Rattle.jt_input.specs.declared.status.Status.{Status}
 use Rattle.jt_input.specs.declared.status.Status.TheVariants as status
-use Rattle.jt_order_octets.specs.Claim.{EachReachedIsObeyed, NoneIsRefused, OneIsUnanswered}
+use Rattle.jt_order_octets.specs.Claim.{EachReachedIsObeyed, NoneIsRefused, AtMostOneIsAhead}
 use Rattle.jt_order_octets.specs.Reaching.{Leads, Reached}
 use Rattle.jt_order_octets.specs.World.{OrderWorld, empty}
 use Rattle.jt_order_play.specs.Playing.{finds_full, names_no_line}
@@ -16,7 +16,7 @@ use Rattle.jt_order_play.specs.Scripts.{OrderScene}
 use Rattle.jt_order_play.proofs.Standing.{leads_both}
 use Rattle.jt_order_command.specs.Lines.{meaning}
 use Rattle.jt_order_command.specs.Running.{IsTaken, ObeyedWhole, RunsOrders}
-use Rattle.jt_order_command.specs.Script.{after_line, moving_outcome, first_scene, full_outcome, moves_yet, order_reply, outcome_of, scene_after, world_of}
+use Rattle.jt_order_command.specs.Script.{after_line, round_limit_outcome, first_scene, full_outcome, passes_round_limit, order_reply, outcome_of, scene_after, world_of}
 use Rattle.jt_order_command.specs.Texts.{event_text}
 use Rattle.jt_order_command.specs.declared.reading.OrderLine.{OrderLine}
 use Rattle.jt_order_command.specs.declared.reading.OrderLine.TheVariants.{Passed, Event, Bad}
@@ -50,11 +50,11 @@ plain_line Bad s number next later = inr (inl refl)
 plain_line (Event event) s number next later =
     let done = scene_after s event in
     let on = printing (event_text s.play.world done.play.world) (next done) in
-    let ran = if moves_yet s.play event then moving_outcome s else on in
+    let ran = if passes_round_limit s.play event then round_limit_outcome s else on in
     let full = if finds_full s.play.world event then full_outcome s else ran in
     plain_if (names_no_line s.play.world event) (bad_outcome s number) full (inr (inl refl))
     (plain_if (finds_full s.play.world event) (full_outcome s) ran (inr (inr (inl refl)))
-    (plain_if (moves_yet s.play event) (moving_outcome s) on (inr (inr (inr tt))) (later done)))
+    (plain_if (passes_round_limit s.play event) (round_limit_outcome s) on (inr (inr (inr tt))) (later done)))
 
 plain : (lines : List (List ℕ)) (number : ℕ) → EndsPlainly (λ s. outcome_of s number lines)
 plain [] number = λ s. inl refl
@@ -77,7 +77,7 @@ still_reached old new leads reached = record {
 
 -- ---- the run
 
-module _ (each : EachReachedIsObeyed) (none : NoneIsRefused) (single : OneIsUnanswered) (hearer : OrderScene) (bad : Option ℕ) where
+module _ (each : EachReachedIsObeyed) (none : NoneIsRefused) (single : AtMostOneIsAhead) (hearer : OrderScene) (bad : Option ℕ) where
   abbrev pub Holds : List ℕ → Type 0
   Holds script = HasClosed outcome_of first_scene hearer bad script × Reached hearer.play.world
 

@@ -1,5 +1,5 @@
 -- What a world of orders does with a line. Steps for the proofs; no public clause cites them.
-use Rattle.std.specs.Prelude.{◌≡◌, ◌≢◌, ◌↔◌, ℕ, Bool, true, false, List, ◌++◌, Result, Ok, Err, IfOk, OnOk}
+use Rattle.std.specs.Prelude.{◌≡◌, ◌≢◌, ◌↔◌, ℕ, true, false, List, ◌++◌, Result, Ok, Err, IfOk, OnOk}
 use Rattle.jt_value.specs.declared.memory.Memory.{Memory}
 use Rattle.jt_input.specs.Lines.{Outcome, bad_outcome, printing}
 use Rattle.jt_input.specs.declared.hearer.Heard.{Heard}

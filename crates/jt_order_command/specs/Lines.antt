@@ -13,7 +13,6 @@ use Rattle.jt_script.specs.declared.reading.EventLine.TheVariants as script
 use Rattle.jt_script.specs.declared.world_event.WorldEvent.{WorldEvent}
 use Rattle.jt_script.specs.declared.world_event.WorldEvent.TheVariants as line
 use Rattle.jt_order.specs.Orders.{is_order_id}
-use Rattle.jt_order_play.specs.declared.event.OrderEvent.{OrderEvent}
 use Rattle.jt_order_play.specs.declared.event.OrderEvent.TheVariants as asked
 use Rattle.jt_order_command.specs.declared.reading.OrderLine.{OrderLine}
 use Rattle.jt_order_command.specs.declared.reading.OrderLine.TheVariants.{Passed, Event, Bad}
@@ -80,12 +79,12 @@ rehearsal_of script.Bad = Bad
 
 -- ---- lines
 
-abbrev pub begins : List ℕ → List ℕ → Bool
-begins front line = bytes_eq (take (length front) line) front
+abbrev pub has_front : List ℕ → List ℕ → Bool
+has_front front line = bytes_eq (take (length front) line) front
 
 -- what a line says
 unfoldable pub order_says : List ℕ → OrderLine
-order_says line = if begins (codes "issue ") line then issue_of (words (drop 6 line)) else rehearsal_of (says line)
+order_says line = if has_front (codes "issue ") line then issue_of (words (drop 6 line)) else rehearsal_of (says line)
 
 -- the line of this number: beyond the limits of a text input it is bad
 unfoldable pub meaning : ℕ → List ℕ → OrderLine

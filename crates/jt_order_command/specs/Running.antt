@@ -17,8 +17,7 @@ pub record ObeyedWhole (w : OrderWorld) : Type 0 where
   pub reached : Reached w
   pub obeyed : Obeyed w
   pub none_refused : w.refused ≡ []
-  -- at most one order is performed and not yet answered: so it is of each world on the way, and what is printed stands in the order in which
-  -- it happened
+  -- at most one order is performed and not yet answered
   pub one : length w.log ≤ suc (length w.results)
 
 -- each whole line of a script that begins so was heard, none of them ended it, and this is printed of them, whatever follows

@@ -26,10 +26,10 @@ first_scene = record { play = first_play (the_settings E2013) the_setting; ident
 abbrev pub scene_after : OrderScene → OrderEvent → OrderScene
 scene_after s event = record s { play = play_after s.identity.e2013 s.play event }
 
--- behind 2^64 rounds an octet moves yet
-abbrev pub moves_yet : OrderPlay → OrderEvent → Bool
-moves_yet p line.Run = moves (runs p)
-moves_yet p other = false
+-- the event is a `run` of which an octet would move yet behind 2^64 rounds
+abbrev pub passes_round_limit : OrderPlay → OrderEvent → Bool
+passes_round_limit p line.Run = moves (runs p)
+passes_round_limit p other = false
 
 -- ---- what comes of lines
 
@@ -37,18 +37,18 @@ moves_yet p other = false
 abbrev pub full_outcome : OrderScene → Outcome OrderScene
 full_outcome s = record { left = s; text = full_line ORDER_LIMIT; bad = None; status = StoreFault }
 
--- the script ends with this world: behind its `run` an octet moves yet, which is told as want of memory
-abbrev pub moving_outcome : OrderScene → Outcome OrderScene
-moving_outcome s = record { left = s; text = []; bad = None; status = Memory }
+-- the script ends with this world: its `run` passes the limit of rounds, which is told as want of memory
+abbrev pub round_limit_outcome : OrderScene → Outcome OrderScene
+round_limit_outcome s = record { left = s; text = []; bad = None; status = Memory }
 
 -- A line is passed over, leads to the next world, or ends the script: as the bad line of this number, also where it names a line of
--- communication that was not opened, where the book is full, or where behind its `run` an octet moves yet.
+-- communication that was not opened, where the book is full, or where its `run` passes the limit of rounds.
 abbrev pub after_line : OrderScene → ℕ → (OrderScene → Outcome OrderScene) → OrderLine → Outcome OrderScene
 after_line s number next Passed = next s
 after_line s number next (Event event) =
     if names_no_line s.play.world event then bad_outcome s number
     else if finds_full s.play.world event then full_outcome s
-    else if moves_yet s.play event then moving_outcome s
+    else if passes_round_limit s.play event then round_limit_outcome s
     else printing (event_text s.play.world (scene_after s event).play.world) (next (scene_after s event))
 after_line s number next Bad = bad_outcome s number
 

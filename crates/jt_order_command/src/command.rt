@@ -38,7 +38,7 @@ fn play_by<S: Source, K: Sink>(
 /// for each that is answered, as it happens, and at its end how far the orders came. Refused says that a line is bad, which is printed:
 /// it is outside all forms, its order is refused, or it names a line of communication that was not opened. StoreFault says that the
 /// book was full, which is printed. ReadFault, WriteFault and Memory cut the text short; Memory comes also at a `run` of which an octet
-/// would move yet behind 2^64 rounds. The forms and texts are this project's own.
+/// would move yet behind 2^64 - 1 rounds. The forms and texts are this project's own.
 pub fn orders<S: Source, K: Sink>(alloc: Global, source: &mut S, sink: &mut K) -> Status
     ensures runs { RunsOrders (S.left source.old) (S.left source.new)
         (K.written sink.old) (K.written sink.new) result }

@@ -17,10 +17,10 @@ use Rattle.jt_subpacket.specs.Partials.{Partial}
 use Rattle.jt_session.specs.Law.{IsUnitId}
 use Rattle.jt_delivery.specs.World.{row_at, number_at}
 use Rattle.jt_terminal_rule.specs.Messages.{header_of, frame_of, version_of}
-use Rattle.jt_terminal_rule.specs.Steps.{Machine, TerminalStep, MayStep, MaySay, auths_by}
+use Rattle.jt_terminal_rule.specs.Steps.{TerminalStep, MayStep, auths_by}
 use Rattle.jt_terminal_rule.specs.Steps as step
 use Rattle.jt_obeying.specs.Claim.{EventsKeepIt}
-use Rattle.jt_obeying.specs.World.{Up, OtherMessage, put}
+use Rattle.jt_obeying.specs.World.{OtherMessage, put}
 use Rattle.jt_obeying.specs.World as messages
 use Rattle.jt_obeying.specs.Steps as events
 use Rattle.jt_octets.specs.World.{Line, line_at, new_line, newest_place, written}

@@ -31,9 +31,9 @@ use Rattle.jt_obeying.specs.Claim.{EventsKeepIt}
 use Rattle.jt_obeying.specs.Orders.{no_tables, order_at, ruling}
 use Rattle.jt_obeying.specs.Performing.{reading_outcome}
 use Rattle.jt_obeying.specs.Record.{Stands}
-use Rattle.jt_obeying.specs.World.{Up, Answer, Down, OrderMessage, OtherAnswer, put}
+use Rattle.jt_obeying.specs.World.{Answer, Down, OrderMessage, OtherAnswer, put}
 use Rattle.jt_obeying.specs.World as messages
-use Rattle.jt_obeying.specs.Steps.{Hears, Passes, Misses, has_refused_body, reads, says, ruling_on, log_by, tables_by, refused_by, result_by, world_by}
+use Rattle.jt_obeying.specs.Steps.{Hears, Passes, Misses, has_refused_body, reads, says, ruling_on, tables_by, result_by, world_by}
 use Rattle.jt_obeying.specs.Steps as events
 use Rattle.jt_order_turns.specs.Headers.{order_header, answer_header, answer_frame}
 use Rattle.jt_order_turns.specs.Heard.{Heard, Ordered, Other, Nothing, heard_at, heard_in, heard_read}
@@ -43,7 +43,7 @@ use Rattle.jt_octets.specs.World.{Line, line_at, newest_place, newest, with_one_
 use Rattle.jt_octets.specs.Steps.{accepting, writing}
 use Rattle.jt_octets.proofs.Views.{Msg, IsMessage, StreamLaws, Brings, Direction, direction_moved, item_of_msg, frame_of_msg}
 use Rattle.jt_order_octets.specs.World.{OrderWorld, sent_at}
-use Rattle.jt_order_octets.specs.Steps.{MayRead, heard_if, heard_next, response_of, with_one_read, with_response, performed_at, log_by_ruling, tables_by_ruling, refused_by_ruling, result_by_ruling, after_order, after_read}
+use Rattle.jt_order_octets.specs.Steps.{MayRead, heard_if, with_one_read, with_response, performed_at, after_order, after_read}
 use Rattle.jt_order_octets.specs.Steps as steps
 use Rattle.jt_order_octets.proofs.Meanings.{UpTag, DownTag, IsOrderOf}
 use Rattle.jt_order_octets.proofs.Following.{LineMeans, AllMean, Follows, as_messages, means_by, one_put, put_at, put_twice}

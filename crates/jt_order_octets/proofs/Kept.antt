@@ -19,7 +19,7 @@ use Rattle.jt_octets.specs.World.{completed_item, line_at, with_one_taken}
 use Rattle.jt_order_octets.specs.World.{OrderWorld, empty, sent_at}
 use Rattle.jt_order_octets.specs.Steps.{Event, Issues, Does, Up, Offers, Down, Cut, RestartPlatform, MayCome, after}
 use Rattle.jt_order_octets.specs.Reaching.{Reached}
-use Rattle.jt_order_octets.specs.Claim.{EachReachedIsObeyed, NoneIsRefused, EachIssuedIsOrder, EachIsSentInTurn, EachReachedIsOfThePhone, EachItemIsOfThePhone, IsFrameOf, OneIsUnanswered}
+use Rattle.jt_order_octets.specs.Claim.{EachReachedIsObeyed, NoneIsRefused, EachIssuedIsOrder, EachIsSentInTurn, EachReachedIsOfThePhone, EachItemIsOfThePhone, IsFrameOf, AtMostOneIsAhead}
 use Rattle.jt_order_octets.proofs.Meanings.{UpTag, tag_key}
 use Rattle.jt_order_octets.proofs.Following.{Follows, as_messages, last_among}
 use Rattle.jt_order_octets.proofs.Doing.{does_follow}
@@ -80,8 +80,8 @@ none_refused below w r = (reached_follows below w r).none_refused
 pub each_issued : Below → EachIssuedIsOrder
 each_issued below w r = (reached_follows below w r).stands.orders
 
-pub one_unanswered : Below → OneIsUnanswered
-one_unanswered below w r = (reached_follows below w r).stands.one_more
+pub at_most_one_ahead : Below → AtMostOneIsAhead
+at_most_one_ahead below w r = (reached_follows below w r).stands.one_more
 
 -- on no line but those that were opened an order was sent
 none_past : {A : Type 0} (xs : List (Option A)) (place : ℕ) → length xs ≤ place → get_or xs place None ≡ None

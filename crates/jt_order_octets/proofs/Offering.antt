@@ -21,7 +21,7 @@ use Rattle.jt_octets.specs.Steps.{shut}
 use Rattle.jt_octets.specs.Steps as plain
 use Rattle.jt_octets.proofs.Views.{Msg, IsMessage, StreamLaws, direction_written, frame_of_msg}
 use Rattle.jt_order_octets.specs.World.{OrderWorld, sent_at, first_read}
-use Rattle.jt_order_octets.specs.Steps.{after, with_order}
+use Rattle.jt_order_octets.specs.Steps.{after, with_order_written}
 use Rattle.jt_order_octets.specs.Steps as octets
 use Rattle.jt_order_octets.proofs.Written.{IsFirst, first_is}
 use Rattle.jt_order_octets.proofs.Meanings.{DownTag}
@@ -132,7 +132,7 @@ module _ (keep : EventsKeepIt) where
     now_sent : get_or sents place None ≡ Some n
     now_sent = get_or-set_same w.sent place (Some n) None (omega (arith, within, f.sent_is))
 
-    here : LineMeans f.key p w.issued (with_order line (frame_of_msg m)) (get_or sents place None) next
+    here : LineMeans f.key p w.issued (with_order_written line (frame_of_msg m)) (get_or sents place None) next
     here = record {
       own = old.own;
       up = old.up;
@@ -146,8 +146,8 @@ module _ (keep : EventsKeepIt) where
       highest = λ k there. (ok.sent k there).1;
     }
 
-    offered : (frame : List ℕ) → frame ≡ frame_of_msg m → Follows (record w { base = record w.base { lines = set w.base.lines place (with_order line frame) }; sent = sents })
-    offered frame e = subst (λ (z : List ℕ). Follows (record w { base = record w.base { lines = set w.base.lines place (with_order line z) }; sent = sents })) (sym e) (record {
+    offered : (frame : List ℕ) → frame ≡ frame_of_msg m → Follows (record w { base = record w.base { lines = set w.base.lines place (with_order_written line frame) }; sent = sents })
+    offered frame e = subst (λ (z : List ℕ). Follows (record w { base = record w.base { lines = set w.base.lines place (with_order_written line z) }; sent = sents })) (sym e) (record {
       key = f.key;
       count = f.count;
       lines_are = put f.lines_are (suc place) next;
@@ -155,9 +155,9 @@ module _ (keep : EventsKeepIt) where
       stands = keep.keeps mw (Offers (suc place)) f.stands may_offer;
       key_is = f.key_is;
       phone = f.phone;
-      count_is = length-set w.base.lines place (with_order line (frame_of_msg m)) ∙ f.count_is;
+      count_is = length-set w.base.lines place (with_order_written line (frame_of_msg m)) ∙ f.count_is;
       sent_is = length-set w.sent place (Some n) ∙ f.sent_is;
-      lines = both_put f.key f.phones w.issued w.base.lines (sent_at w) (λ q. get_or sents q None) f.lines_are f.count place (suc place) (with_order line (frame_of_msg m)) next may.opened refl f.lines
+      lines = both_put f.key f.phones w.issued w.base.lines (sent_at w) (λ q. get_or sents q None) f.lines_are f.count place (suc place) (with_order_written line (frame_of_msg m)) next may.opened refl f.lines
           (λ q apart. get_or-set_other w.sent place q (Some n) None apart) here;
       good = f.good;
       in_use = f.in_use;

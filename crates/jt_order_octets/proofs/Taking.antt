@@ -19,7 +19,7 @@ use Rattle.jt_obeying.specs.Claim.{EventsKeepIt}
 use Rattle.jt_obeying.specs.Record.{Stands}
 use Rattle.jt_obeying.specs.World.{Up, Down, OtherAnswer, put, opening}
 use Rattle.jt_obeying.specs.World as messages
-use Rattle.jt_obeying.specs.Steps.{Outcome, Takes, answers_written, ends, entries, line_after_message, results_after}
+use Rattle.jt_obeying.specs.Steps.{Outcome, Takes, ends, entries, line_after_message, results_after}
 use Rattle.jt_obeying.specs.Steps as events
 use Rattle.jt_order_turns.specs.Turns.{AnswersAreTold, TurnsAreSteps, Carries, as_answers, outcome_of}
 use Rattle.jt_octets.specs.World.{Line, Wire, line_at, with_one_taken, written, completed_item, opening_of}

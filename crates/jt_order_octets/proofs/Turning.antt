@@ -16,7 +16,7 @@ use Rattle.jt_session.specs.Sessions.{MayGo, entries_on}
 use Rattle.jt_session.specs.AnswerLaw.{IsStateOf, IsAnswer, AnswersAre}
 use Rattle.jt_session.proofs.Hubs.{reply_room}
 use Rattle.jt_order.specs.Orders.{is_order_id}
-use Rattle.jt_obeying.specs.World.{OtherAnswer, opening}
+use Rattle.jt_obeying.specs.World.{opening}
 use Rattle.jt_obeying.specs.World as messages
 use Rattle.jt_obeying.specs.Steps.{answers_written, ends, entries}
 use Rattle.jt_delivery.specs.Steps as steps

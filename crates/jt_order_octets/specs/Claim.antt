@@ -33,8 +33,8 @@ abbrev pub EachIsSentInTurn : Type 0
 EachIsSentInTurn = (w : OrderWorld) → Reached w → (place n : ℕ) → sent_at w place ≡ Some n → (n < length w.issued) × (n ≤ length w.results)
 
 -- at most one order is performed and not yet answered: so each is performed, and then answered, before the next is performed
-abbrev pub OneIsUnanswered : Type 0
-OneIsUnanswered = (w : OrderWorld) → Reached w → length w.log ≤ suc (length w.results)
+abbrev pub AtMostOneIsAhead : Type 0
+AtMostOneIsAhead = (w : OrderWorld) → Reached w → length w.log ≤ suc (length w.results)
 
 -- what the present hub was asked is of the terminal's phone: so its keeper has something for that phone alone
 abbrev pub EachReachedIsOfThePhone : Type 0

@@ -177,7 +177,8 @@ results_after results (Tells result) = results ++ result ∷ []
 results_after results TellsNothing = results
 results_after results BookFails = results
 
--- A session whose phone's session is live and holds that phone sends the oldest order that is not answered, if it did not send it before.
+-- A session that is live for the phone of its first frame, and holds it, sends the oldest order that is not answered, if it did not send that
+-- order last.
 pub record MayOffer (w : OrderWorld) (place : ℕ) : Type 0 where
   pub opened : place < length w.base.lines
   pub is_open : (line_at w.base.lines place).is_open ≡ true
@@ -193,12 +194,12 @@ abbrev pub oldest_frame : OrderWorld → Option Header → List ℕ
 oldest_frame w None = []
 oldest_frame w (Some first) = order_frame first (length w.results) (order_at w.issued (length w.results))
 
-abbrev pub with_order : Line → List ℕ → Line
-with_order line octets = record line { down = written line.down octets }
+abbrev pub with_order_written : Line → List ℕ → Line
+with_order_written line octets = record line { down = written line.down octets }
 
 abbrev pub after_offer : OrderWorld → ℕ → OrderWorld
 after_offer w place = record w {
-  base = record w.base { lines = set w.base.lines place (with_order (line_at w.base.lines place) (oldest_frame w (first_read w place))) };
+  base = record w.base { lines = set w.base.lines place (with_order_written (line_at w.base.lines place) (oldest_frame w (first_read w place))) };
   sent = set w.sent place (Some (length w.results));
 }
 

@@ -1,6 +1,6 @@
 //! The law of the world of orders over octets.
 
-ghost use Rattle.jt_order_octets.specs.Claim.{EachIsSentInTurn, EachIssuedIsOrder, EachItemIsOfThePhone, EachReachedIsObeyed, EachReachedIsOfThePhone, NoneIsRefused, OneIsUnanswered};
+ghost use Rattle.jt_order_octets.specs.Claim.{EachIsSentInTurn, EachIssuedIsOrder, EachItemIsOfThePhone, EachReachedIsObeyed, EachReachedIsOfThePhone, NoneIsRefused, AtMostOneIsAhead};
 
 /// In every world that is reached the orders performed are the first of those issued, each once and in order; what was answered was
 /// performed, with the results of the log; what was issued are orders; the terminal responded to none with 1 for its serial alone; and
@@ -11,7 +11,7 @@ pub fn law_order_world()
     ensures none_refused { NoneIsRefused }
     ensures issued { EachIssuedIsOrder }
     ensures in_turn { EachIsSentInTurn }
-    ensures one { OneIsUnanswered }
+    ensures one { AtMostOneIsAhead }
     ensures phone { EachReachedIsOfThePhone }
     ensures items { EachItemIsOfThePhone }
 {

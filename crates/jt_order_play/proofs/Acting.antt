@@ -14,7 +14,7 @@ use Rattle.jt_terminal_rule.specs.declared.state.Event.{Event as TerminalEvent}
 use Rattle.jt_terminal_rule.specs.Rule.{Ruled, Step, down, response, rule, sends}
 use Rattle.jt_terminal_rule.specs.Law.{AreSteps, RuleIsCutInSteps, RuleTakesSteps, changes_then_loss}
 use Rattle.jt_terminal_rule.specs.Machines.{as_steps, held_after, machine_of}
-use Rattle.jt_terminal_rule.specs.Steps.{Machine, MayRun, TerminalStep, machine_after, machine_run}
+use Rattle.jt_terminal_rule.specs.Steps.{Machine, MayRun, machine_run}
 use Rattle.jt_terminal_rule.specs.Steps as step
 use Rattle.jt_terminal_steps.specs.Running.{IsDown, IsSound, holds_after}
 use Rattle.jt_order.specs.Books.{Book}
@@ -29,7 +29,7 @@ use Rattle.jt_play.proofs.Cutting.{down_same, quiet_world}
 use Rattle.jt_order_octets.specs.World.{OrderWorld}
 use Rattle.jt_order_octets.specs.Reaching.{Leads}
 use Rattle.jt_order_play.specs.Playing.{OrderPlay, done, meets}
-use Rattle.jt_order_play.specs.Holding.{Hears, IsStage, OrderLine, order_play_of, plain_lines, sent_on, wrote_last}
+use Rattle.jt_order_play.specs.Holding.{Hears, IsStage, LineOfOrders, order_play_of, plain_lines, sent_on, wrote_last}
 use Rattle.jt_order_play.proofs.Naming.{event_names, quiet_names, steps_fine}
 use Rattle.jt_play.proofs.Acting.{held_is, machine_down}
 use Rattle.jt_play.proofs.Acting as acting
@@ -40,7 +40,7 @@ use Rattle.jt_order_play.proofs.Doing.{bare, done_bare, done_is, done_leads, pla
 
 -- ---- an event
 
-module _ (t : OrderTerminalValue Stock LogStock) (hears : Bool) (hub : HubValue KeeperState) (book : Book) (issued : ℕ) (lines : List OrderLine) (past : List Entry) (told : List ℕ) (clock : ℕ) (stage : IsStage t hears hub book issued lines clock)
+module _ (t : OrderTerminalValue Stock LogStock) (hears : Bool) (hub : HubValue KeeperState) (book : Book) (issued : ℕ) (lines : List LineOfOrders) (past : List Entry) (told : List ℕ) (clock : ℕ) (stage : IsStage t hears hub book issued lines clock)
     (e : TerminalEvent) (silent : response e ≡ None) (no_message : IsNoMessage e) (now : OrderTerminalValue Stock LogStock) (same : now.terminal.state.settings ≡ t.terminal.state.settings) (same_log : now.log ≡ t.log) (same_ledger : now.ledger ≡ t.ledger) where
   abbrev p : OrderPlay
   p = order_play_of t hub book lines past told clock
@@ -59,7 +59,7 @@ module _ (t : OrderTerminalValue Stock LogStock) (hears : Bool) (hub : HubValue 
   world_on b = record p.world { base = b }
 
   -- another terminal, whose log and tables are the same, and lines on which the same was sent
-  pub world_of : (lines_now : List OrderLine) → sent_on lines_now ≡ sent_on lines → (order_play_of now hub book lines_now past told clock).world ≡ world_on (bare (play_of now.terminal hub (plain_lines lines_now) past told clock).world)
+  pub world_of : (lines_now : List LineOfOrders) → sent_on lines_now ≡ sent_on lines → (order_play_of now hub book lines_now past told clock).world ≡ world_on (bare (play_of now.terminal hub (plain_lines lines_now) past told clock).world)
   world_of lines_now sent =
       ap (λ (s : List (Option ℕ)). record (order_play_of now hub book lines_now past told clock).world { sent = s }) sent
       ∙ (ap (λ (g : LogStock). record p.world { base = bare (play_of now.terminal hub (plain_lines lines_now) past told clock).world; log = g.performed; tables = now.ledger.tables }) same_log
@@ -104,7 +104,7 @@ module _ (t : OrderTerminalValue Stock LogStock) (hears : Bool) (hub : HubValue 
     pub meets_leads : Leads p.world (meets p e).world
     meets_leads = done_leads p.world (as_steps m r.steps) steps.may (steps_fine m r.steps (event_names t.terminal.state e no_message))
 
-    pub whole_acted : (lines_now : List OrderLine) → now.terminal.state ≡ r.state → Some now.terminal.vault.held ≡ holds_after r.steps (Some t.terminal.vault.held)
+    pub whole_acted : (lines_now : List LineOfOrders) → now.terminal.state ≡ r.state → Some now.terminal.vault.held ≡ holds_after r.steps (Some t.terminal.vault.held)
         → lines_now ≡ wrote_last lines (flat_map (λ (frame : List ℕ). frame) (sends t.terminal.state.settings r.steps)) → order_play_of now hub book lines_now past told clock ≡ meets p e
     whole_acted lines_now state_is held_now lines_are =
         let octets = flat_map (λ (frame : List ℕ). frame) (sends t.terminal.state.settings r.steps) in

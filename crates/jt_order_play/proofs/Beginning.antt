@@ -37,7 +37,7 @@ use Rattle.jt_order_octets.specs.World.{OrderWorld}
 use Rattle.jt_order_octets.specs.Reaching.{Leads}
 use Rattle.jt_order_octets.specs.Steps.{Does, after}
 use Rattle.jt_order_play.specs.Playing.{OrderPlay, done, meets}
-use Rattle.jt_order_play.specs.Holding.{IsHearing, IsStage, OrderLine, first_order_line, order_play_of, plain_lines, sent_on, wrote_last}
+use Rattle.jt_order_play.specs.Holding.{IsHearing, IsStage, LineOfOrders, first_order_line, order_play_of, plain_lines, sent_on, wrote_last}
 use Rattle.jt_order_play.proofs.Doing.{bare, done_bare, done_is, done_leads, plain_wrote, sent_wrote}
 use Rattle.jt_order_play.proofs.Naming.{event_names, steps_fine}
 use Rattle.jt_order_play.proofs.Standing.{leads_both, leads_one, plain_length}
@@ -50,19 +50,19 @@ opens_once : (s : State) (code : Option (List ℕ)) → NoneOpens (behind s code
 opens_once s None = tt
 opens_once s (Some code) = tt
 
-module _ (t : OrderTerminalValue Stock LogStock) (hears : Bool) (hub : HubValue KeeperState) (book : Book) (issued : ℕ) (lines : List OrderLine) (past : List Entry) (told : List ℕ) (clock number most : ℕ) (stage : IsStage t hears hub book issued lines clock)
+module _ (t : OrderTerminalValue Stock LogStock) (hears : Bool) (hub : HubValue KeeperState) (book : Book) (issued : ℕ) (lines : List LineOfOrders) (past : List Entry) (told : List ℕ) (clock number most : ℕ) (stage : IsStage t hears hub book issued lines clock)
     (number_is : number ≡ length lines + 1) (grew : hub.reserved ≤ most) where
   abbrev room : HubValue KeeperState
   room = record hub { reserved = most }
 
-  abbrev more : List OrderLine
+  abbrev more : List LineOfOrders
   more = lines ++ first_order_line number ∷ []
 
   plain_more : plain_lines more ≡ plain_lines lines ++ first_line number ∷ []
-  plain_more = map-append (λ (l : OrderLine). l.plain) lines (first_order_line number ∷ [])
+  plain_more = map-append (λ (l : LineOfOrders). l.plain) lines (first_order_line number ∷ [])
 
   sent_more : sent_on more ≡ sent_on lines ++ None ∷ []
-  sent_more = map-append (λ (l : OrderLine). l.sent) lines (first_order_line number ∷ [])
+  sent_more = map-append (λ (l : LineOfOrders). l.sent) lines (first_order_line number ∷ [])
 
   lines_more : lines_in (plain_lines more) ≡ lines_in (plain_lines lines) ++ new_line ∷ []
   lines_more = ap lines_in plain_more ∙ map-append (λ (n : Numbered). n.line) (plain_lines lines) (first_line number ∷ [])
@@ -148,7 +148,7 @@ module _ (t : OrderTerminalValue Stock LogStock) (hears : Bool) (hub : HubValue 
       opened_is = done_is w1 (behind t.terminal.state t.terminal.state.code) (opens_once t.terminal.state t.terminal.state.code) ∙ ap world_on (done_bare pp.world (as_steps m r.steps))
 
       -- whole
-      pub whole_opened : (lines_now : List OrderLine) → now.terminal.state ≡ r.state → Some now.terminal.vault.held ≡ holds_after r.steps (Some t.terminal.vault.held)
+      pub whole_opened : (lines_now : List LineOfOrders) → now.terminal.state ≡ r.state → Some now.terminal.vault.held ≡ holds_after r.steps (Some t.terminal.vault.held)
           → lines_now ≡ wrote_last more (flat_map (λ (frame : List ℕ). frame) (sends t.terminal.state.settings r.steps)) → order_play_of now room book lines_now past told clock ≡ meets p event.Opened
       whole_opened lines_now state_is held_now lines_are =
           let octets = flat_map (λ (frame : List ℕ). frame) (sends t.terminal.state.settings r.steps) in

@@ -18,10 +18,10 @@ use Rattle.jt_order_octets.specs.World.{OrderWorld}
 use Rattle.jt_order_octets.specs.Reaching.{Leads}
 use Rattle.jt_order_octets.specs.Steps.{Cut, after}
 use Rattle.jt_order_play.specs.Playing.{OrderPlay, cuts, with_world}
-use Rattle.jt_order_play.specs.Holding.{Hears, IsStage, OrderLine, blank, order_play_of, plain_lines, sent_on}
+use Rattle.jt_order_play.specs.Holding.{Hears, IsStage, LineOfOrders, blank, order_play_of, plain_lines, sent_on}
 use Rattle.jt_order_play.proofs.Standing.{get_or_again, leads_one, line_there, many_lines, plain_at, plain_length, plain_set, sent_set, sent_there}
 
-module _ (t : OrderTerminalValue Stock LogStock) (hears : Bool) (hub now : HubValue KeeperState) (book : Book) (issued : ℕ) (lines : List OrderLine) (past : List Entry) (told : List ℕ) (clock place : ℕ) (old x : OrderLine) (stage : IsStage t hears hub book issued lines clock)
+module _ (t : OrderTerminalValue Stock LogStock) (hears : Bool) (hub now : HubValue KeeperState) (book : Book) (issued : ℕ) (lines : List LineOfOrders) (past : List Entry) (told : List ℕ) (clock place : ℕ) (old x : LineOfOrders) (stage : IsStage t hears hub book issued lines clock)
     (lt : place < length lines) (at : old ≡ get_or lines place old) (opened : old.plain.line.is_open ≡ true) where
   abbrev p : OrderPlay
   p = order_play_of t hub book lines past told clock
@@ -33,7 +33,7 @@ module _ (t : OrderTerminalValue Stock LogStock) (hears : Bool) (hub now : HubVa
   plain_lt = subst (λ (n : ℕ). place < n) (sym (plain_length lines)) lt
 
   plain_is : old.plain ≡ get_or (plain_lines lines) place old.plain
-  plain_is = ap (λ (l : OrderLine). l.plain) old_is ∙ (sym (plain_at lines place) ∙ get_or_again (plain_lines lines) place old.plain plain_lt)
+  plain_is = ap (λ (l : LineOfOrders). l.plain) old_is ∙ (sym (plain_at lines place) ∙ get_or_again (plain_lines lines) place old.plain plain_lt)
 
   -- the hub has room for the Close, and the session made none
   pub owed : (number : ℕ) → number ≡ old.plain.number → IsOwed hub.history hub.reserved number
@@ -44,10 +44,10 @@ module _ (t : OrderTerminalValue Stock LogStock) (hears : Bool) (hub now : HubVa
   module _ (x_is : x ≡ record old { plain = record old.plain { line = shut old.plain.line } }) (entry : now.history ≡ hub.history ++ record { session = old.plain.number; request = ask.Close; reply = say.Accepted } ∷ [])
       (start : now.start ≡ hub.start) (fleet : now.fleet ≡ hub.fleet) (secret : now.secret ≡ hub.secret) (reserved : now.reserved ≡ hub.reserved) where
     shut_is : x.plain ≡ record old.plain { line = shut old.plain.line }
-    shut_is = ap (λ (l : OrderLine). l.plain) x_is
+    shut_is = ap (λ (l : LineOfOrders). l.plain) x_is
 
     sent_same : sent_on (set lines place x) ≡ sent_on lines
-    sent_same = sent_set lines place x ∙ (ap (λ (s : Option ℕ). set (sent_on lines) place s) (ap (λ (l : OrderLine). l.sent) x_is ∙ (ap (λ (l : OrderLine). l.sent) old_is ∙ sym (sent_there lines place))) ∙ set-get_or (sent_on lines) place None)
+    sent_same = sent_set lines place x ∙ (ap (λ (s : Option ℕ). set (sent_on lines) place s) (ap (λ (l : LineOfOrders). l.sent) x_is ∙ (ap (λ (l : LineOfOrders). l.sent) old_is ∙ sym (sent_there lines place))) ∙ set-get_or (sent_on lines) place None)
 
     cut_is : after p.world (Cut place) ≡ (order_play_of t now book (set lines place x) past told clock).world
     cut_is =

@@ -2,23 +2,22 @@
 use Rattle.std.proofs.Common.{ℕ, ◌≡◌, List, [], ◌∷◌, set, get_or, Option, None, refl, ap, sym, ◌∙◌}
 use Rattle.std.proofs.lemmas.List.{set-get_or}
 use Rattle.jt_store.specs.Vaults.{Notes, Forms, Accepts, Sets}
-use Rattle.jt_terminal_rule.specs.Rule.{Ruled, Step, down, response, rule, sends}
+use Rattle.jt_terminal_rule.specs.Rule.{Step, rule}
 use Rattle.jt_terminal_rule.specs.Rule as rule_of
 use Rattle.jt_terminal_rule.specs.Law.{changes_then_loss}
 use Rattle.jt_terminal_rule.specs.Machines.{as_step, as_steps}
-use Rattle.jt_terminal_rule.specs.Steps.{Machine, MayRun, TerminalStep, machine_after, machine_run}
+use Rattle.jt_terminal_rule.specs.Steps.{MayRun, TerminalStep}
 use Rattle.jt_terminal_rule.specs.Steps as step
 use Rattle.jt_octets.specs.World.{World}
-use Rattle.jt_play.specs.Holding.{IsNoOpening, IsRunning, Numbered, play_of, shelf_in}
+use Rattle.jt_play.specs.Holding.{Numbered}
 use Rattle.jt_play.specs.Holding as plain
-use Rattle.jt_play.specs.Playing.{Play}
 use Rattle.jt_play.specs.Playing as played
 use Rattle.jt_play.proofs.Opening.{NoneOpens}
 use Rattle.jt_order_octets.specs.World.{OrderWorld}
 use Rattle.jt_order_octets.specs.Reaching.{Leads}
 use Rattle.jt_order_octets.specs.Steps.{Does, after}
 use Rattle.jt_order_play.specs.Playing.{done}
-use Rattle.jt_order_play.specs.Holding.{OrderLine, blank, last_of, plain_lines, sent_on, wrote_last, wrote_on}
+use Rattle.jt_order_play.specs.Holding.{LineOfOrders, blank, last_of, plain_lines, sent_on, wrote_last, wrote_on}
 use Rattle.jt_order_play.proofs.Naming.{AreFine}
 use Rattle.jt_order_play.proofs.Standing.{leads_both, leads_none, leads_one, plain_at, plain_length, plain_set, sent_set, sent_there}
 
@@ -66,17 +65,17 @@ quiet_opens (rule_of.Loses ∷ steps) = quiet_opens steps
 
 -- ---- what the terminal writes
 
-last_is : (lines : List OrderLine) → last_of lines ≡ plain.last_of (plain_lines lines)
+last_is : (lines : List LineOfOrders) → last_of lines ≡ plain.last_of (plain_lines lines)
 last_is [] = refl
 last_is (l ∷ lines) = sym (plain_length lines)
 
-pub plain_wrote : (lines : List OrderLine) (octets : List ℕ) → plain_lines (wrote_last lines octets) ≡ plain.wrote_last (plain_lines lines) octets
+pub plain_wrote : (lines : List LineOfOrders) (octets : List ℕ) → plain_lines (wrote_last lines octets) ≡ plain.wrote_last (plain_lines lines) octets
 plain_wrote lines octets =
     plain_set lines (last_of lines) (wrote_on (get_or lines (last_of lines) blank) octets)
     ∙ (ap (λ (n : Numbered). set (plain_lines lines) (last_of lines) (plain.wrote_on n octets)) (sym (plain_at lines (last_of lines)))
     ∙ ap (λ (k : ℕ). set (plain_lines lines) k (plain.wrote_on (get_or (plain_lines lines) k plain.blank) octets)) (last_is lines))
 
-pub sent_wrote : (lines : List OrderLine) (octets : List ℕ) → sent_on (wrote_last lines octets) ≡ sent_on lines
+pub sent_wrote : (lines : List LineOfOrders) (octets : List ℕ) → sent_on (wrote_last lines octets) ≡ sent_on lines
 sent_wrote lines octets =
     sent_set lines (last_of lines) (wrote_on (get_or lines (last_of lines) blank) octets)
     ∙ (ap (λ (s : Option ℕ). set (sent_on lines) (last_of lines) s) (sym (sent_there lines (last_of lines))) ∙ set-get_or (sent_on lines) (last_of lines) None)

@@ -14,7 +14,7 @@ use Rattle.jt_terminal_rule.specs.declared.state.Event.TheVariants as event
 use Rattle.jt_terminal_rule.specs.declared.state.Event.{Event}
 use Rattle.jt_terminal_rule.specs.declared.state.GiveUp.TheVariants.{TimedOut}
 use Rattle.jt_terminal_rule.specs.Messages.{header_of}
-use Rattle.jt_terminal_rule.specs.Rule.{Ruled, Step, and_then, fill, fill_window, form_unit, gives_up, has_passed, heartbeat_if_silent, introduce, is_silent, on_beat, on_open, on_tick, or_stays, repeat_sending, rule, say_heartbeat, send_next, send_unit, stays, steps_again, watch_and_fill, window}
+use Rattle.jt_terminal_rule.specs.Rule.{Ruled, Step, and_then, fill, fill_window, form_unit, gives_up, has_passed, heartbeat_if_silent, introduce, is_silent, on_beat, on_tick, or_stays, repeat_sending, rule, say_heartbeat, send_next, send_unit, stays, steps_again, watch_and_fill, window}
 use Rattle.jt_terminal_rule.specs.Rule as rule_of
 use Rattle.jt_terminal_rule.specs.Law.{changes_then_loss}
 use Rattle.jt_terminal_rule.specs.Machines.{as_step, as_steps}

@@ -19,9 +19,9 @@ use Rattle.jt_order_session.specs.Sessions.{Offers as OffersBy, OffersTo, OrderS
 use Rattle.jt_octets.specs.World.{Line, line_at, new_line, taken_of}
 use Rattle.jt_play.specs.Holding.{line_of}
 use Rattle.jt_order_octets.specs.World.{OrderWorld, first_read, sent_at}
-use Rattle.jt_order_octets.specs.Steps.{MayOffer, oldest_frame, with_order}
+use Rattle.jt_order_octets.specs.Steps.{MayOffer, oldest_frame, with_order_written}
 use Rattle.jt_order_play.specs.Playing.{book_of, may_offer}
-use Rattle.jt_order_play.specs.Holding.{OffersOne, OrderLine, StandsIn}
+use Rattle.jt_order_play.specs.Holding.{OffersInWorld, LineOfOrders, StandsIn}
 
 -- ---- where a session is to offer it may
 
@@ -71,7 +71,7 @@ module _ (octets down down_now : List ℕ) (taken read : ℕ) (over is_open : Bo
   abbrev with_down : List ℕ → Seen → Line
   with_down out x = line_of octets taken out read over x is_open
 
-  abbrev line_now : OrderLine
+  abbrev line_now : LineOfOrders
   line_now = record { plain = record { number = now.session.number; line = with_down down_now now.session }; sent = now.sent }
 
   first_is : s.first ≡ first_read w place
@@ -91,7 +91,7 @@ module _ (octets down down_now : List ℕ) (taken read : ℕ) (over is_open : Bo
       ∙ (ap (λ (c : Bool). c && is_due (sent_at w place) (book_of w)) (sym holds_is) ∙ ap (λ (c : Bool). holds_phone s.session.number s.first h && c) (sym due_is))
 
   -- nothing was offered
-  stays : now.session ≡ s.session → now.sent ≡ s.sent → down_now ≡ down → (done : Bool) → (done ≡ true → may_offer w place ≡ false) → OffersOne w place line_now done
+  stays : now.session ≡ s.session → now.sent ≡ s.sent → down_now ≡ down → (done : Bool) → (done ≡ true → may_offer w place ≡ false) → OffersInWorld w place line_now done
   stays session sent out done quiet = record {
     offers = false;
     may = λ e. absurd (false≢true e);
@@ -107,7 +107,7 @@ module _ (octets down down_now : List ℕ) (taken read : ℕ) (over is_open : Bo
 
   -- the oldest order was
   goes : now.session ≡ s.session → (now.sent ≡ (if is_due s.sent b then Some (length b.results) else s.sent)) × (down_now ≡ down ++ frame_offered s b) → holds_phone s.session.number s.first h ≡ true → is_due s.sent b ≡ true → (done : Bool)
-      → OffersOne w place line_now done
+      → OffersInWorld w place line_now done
   goes session both holds due done = record {
     offers = true;
     may = λ e. may_offer_is w place st.within may;
@@ -131,18 +131,18 @@ module _ (octets down down_now : List ℕ) (taken read : ℕ) (over is_open : Bo
           ∙ (ap (λ (x : Book). down ++ frame_on s.first (length x.results) (order_at x.issued (length x.results))) (sym st.book_is)
           ∙ (ap (λ (f : Option Header). down ++ frame_on f (length w.results) (order_at w.issued (length w.results))) first_is ∙ ap (λ (f : List ℕ). down ++ f) (frame_is w (first_read w place)))))
 
-      line_is : with_order (line_at w.base.lines place) (oldest_frame w (first_read w place)) ≡ with_down down_now now.session
-      line_is = ap (λ (l : Line). with_order l (oldest_frame w (first_read w place))) st.is ∙ (ap (λ (d : List ℕ). with_down d s.session) (sym down_is) ∙ ap (with_down down_now) (sym session))
+      line_is : with_order_written (line_at w.base.lines place) (oldest_frame w (first_read w place)) ≡ with_down down_now now.session
+      line_is = ap (λ (l : Line). with_order_written l (oldest_frame w (first_read w place))) st.is ∙ (ap (λ (d : List ℕ). with_down d s.session) (sym down_is) ∙ ap (with_down down_now) (sym session))
 
-  pub offers_one : (answer : Result (Unit {0}) StoreError) (done : Bool) → (done ≡ true → IsOk answer) → OffersBy s now h (Some b) down down_now answer → OffersOne w place line_now done
+  pub offers_one : (answer : Result (Unit {0}) StoreError) (done : Bool) → (done ≡ true → IsOk answer) → OffersBy s now h (Some b) down down_now answer → OffersInWorld w place line_now done
   offers_one (Err error) done ok o = stays o.session o.err.0 o.err.1 done (λ e. absurd (false≢true (ok e)))
   offers_one (Ok x) done ok o = by (holds_phone s.session.number s.first h) refl o.ok
     where
-      by : (c : Bool) → holds_phone s.session.number s.first h ≡ c → OffersTo c s now.sent (Some b) down down_now → OffersOne w place line_now done
+      by : (c : Bool) → holds_phone s.session.number s.first h ≡ c → OffersTo c s now.sent (Some b) down down_now → OffersInWorld w place line_now done
       by false e to = stays o.session to.0 to.1 done (λ e-2. may_is ∙ ap (λ (c : Bool). c && is_due s.sent b) e)
       by true e to = due (is_due s.sent b) refl
         where
-          due : (c : Bool) → is_due s.sent b ≡ c → OffersOne w place line_now done
+          due : (c : Bool) → is_due s.sent b ≡ c → OffersInWorld w place line_now done
           due true f = goes o.session to.1 e f done
           due false f =
               stays o.session (to.1.0 ∙ ap (λ (c : Bool). if c then Some (length b.results) else s.sent) f)

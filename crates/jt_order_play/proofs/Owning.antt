@@ -27,8 +27,8 @@ use Rattle.jt_order_octets.specs.Claim.{EachItemIsOfThePhone, EachReachedIsOfThe
 use Rattle.jt_order_octets.specs.Reaching.{Reached}
 use Rattle.jt_order_octets.specs.Steps.{Offers, Telling, Up, after}
 use Rattle.jt_order_octets.specs.World.{OrderWorld}
-use Rattle.jt_order_play.specs.Playing.{OrderPlay, may_offer, offers_at, result_at, takes_octet, told_by, with_world}
-use Rattle.jt_order_play.specs.Holding.{IsStage, IsWhole, OrderLine, TakesOne, offered, order_play_of}
+use Rattle.jt_order_play.specs.Playing.{OrderPlay, may_offer, offers_at, result_of_next, takes_octet, told_by, with_world}
+use Rattle.jt_order_play.specs.Holding.{IsStage, IsWhole, LineOfOrders, TakesOne, offered, order_play_of}
 use Rattle.jt_order_play.proofs.Standing.{took_is}
 
 -- ---- worlds that are reached
@@ -74,15 +74,15 @@ octet_whole answers histories w place way telling offers kept own fine may whole
         let way_is : way ≡ way_at w.base place s item = plain_way w.base place s item way (λ q reply asked allowed. reply_is answers histories w.base place kept own q reply (fine s q asked) allowed) goes (plain_of way whole.short) in
         offered_is offers (after w (Up place way telling)) whole.offers_is
         ∙ (ap (λ (t : Telling). offers_at place (after w (Up place way t))) whole.told
-        ∙ (ap (λ (y : Way). offers_at place (after w (Up place y (told_by (result_at w place y))))) way_is
+        ∙ (ap (λ (y : Way). offers_at place (after w (Up place y (told_by (result_of_next w place y))))) way_is
         ∙ sym (ap (takes_octet w place) e)))
 
-module _ (t : OrderTerminalValue Stock LogStock) (hears : Bool) (hub : HubValue KeeperState) (book : Book) (issued : ℕ) (lines : List OrderLine) (past : List Entry) (told : List ℕ) (clock place : ℕ) (old : OrderLine) (stage : IsStage t hears hub book issued lines clock)
+module _ (t : OrderTerminalValue Stock LogStock) (hears : Bool) (hub : HubValue KeeperState) (book : Book) (issued : ℕ) (lines : List LineOfOrders) (past : List Entry) (told : List ℕ) (clock place : ℕ) (old : LineOfOrders) (stage : IsStage t hears hub book issued lines clock)
     (lt : place < length lines) (at : old ≡ get_or lines place old) where
   abbrev p : OrderPlay
   p = order_play_of t hub book lines past told clock
 
-  pub took_whole : (now : HubValue KeeperState) (book_now : Book) (x : OrderLine) (done : Bool) (r : TakesOne p.world place x (newest now.history) book_now done) → now.start ≡ hub.start → now.fleet ≡ hub.fleet → now.secret ≡ hub.secret
+  pub took_whole : (now : HubValue KeeperState) (book_now : Book) (x : LineOfOrders) (done : Bool) (r : TakesOne p.world place x (newest now.history) book_now done) → now.start ≡ hub.start → now.fleet ≡ hub.fleet → now.secret ≡ hub.secret
       → AnswersTell → HistoriesTell → AreOf (key_of t.terminal.state.settings.phone) (newest hub.history) → AsksFine p.world.base place → done ≡ true
       → order_play_of t now book_now (set lines place x) past told clock ≡ with_world p (takes_octet p.world place (line_at p.world.base.lines place).session)
   took_whole now book_now x done r start fleet secret answers histories own fine e =

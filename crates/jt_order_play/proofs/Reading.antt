@@ -58,7 +58,7 @@ use Rattle.jt_order_octets.specs.Reaching.{Leads, Reached}
 use Rattle.jt_order_octets.specs.Steps.{Down, MayRead, after, after_read, heard_next, response_of, with_one_read}
 use Rattle.jt_order_play.specs.declared.stage.Told.{Told}
 use Rattle.jt_order_play.specs.Playing.{OrderPlay, done, reads_one}
-use Rattle.jt_order_play.specs.Holding.{Hears, IsHearing, IsStage, OrderLine, ReadingLaws, blank, noted_at, order_play_of, plain_lines, sent_on, told_of, wrote_last}
+use Rattle.jt_order_play.specs.Holding.{Hears, IsHearing, IsStage, LineOfOrders, ReadingLaws, blank, noted_at, order_play_of, plain_lines, sent_on, told_places, wrote_last}
 use Rattle.jt_order_play.proofs.Answering.{fine_came}
 use Rattle.jt_order_play.proofs.Composing.{still_reached}
 use Rattle.jt_order_play.proofs.Doing.{bare, done_is, done_leads, plain_wrote, quiet_opens, sent_wrote}
@@ -71,17 +71,17 @@ use Rattle.jt_order_play.proofs.Standing.{leads_both, leads_one, many_lines, pla
 abbrev place_of : Told → ℕ
 place_of t = t.accepted + t.older
 
-told_more : (told : List Told) (t : Told) → told_of (told ++ t ∷ []) ≡ place_of t ∷ told_of told
+told_more : (told : List Told) (t : Told) → told_places (told ++ t ∷ []) ≡ place_of t ∷ told_places told
 told_more told t = ap (λ (places : List ℕ). reverse places) (map-append place_of told (t ∷ [])) ∙ reverse-append (map place_of told) (place_of t ∷ [])
 
 told_noted : (told : List Told) (x : Told) (accepted : ℕ) (place : Option ℕ)
-    → told_of (noted_at (told ++ x ∷ []) (length told) accepted (option_to_list place)) ≡ option_to_list (option_map (λ (older : ℕ). accepted + older) place) ++ told_of told
-told_noted told x accepted None = ap told_of (take-append_seam told (x ∷ []))
-told_noted told x accepted (Some older) = ap told_of (at_end told x (record { accepted = accepted; older = older })) ∙ told_more told (record { accepted = accepted; older = older })
+    → told_places (noted_at (told ++ x ∷ []) (length told) accepted (option_to_list place)) ≡ option_to_list (option_map (λ (older : ℕ). accepted + older) place) ++ told_places told
+told_noted told x accepted None = ap told_places (take-append_seam told (x ∷ []))
+told_noted told x accepted (Some older) = ap told_places (at_end told x (record { accepted = accepted; older = older })) ∙ told_more told (record { accepted = accepted; older = older })
 
-pub told_cut : (told pushed cut : List Told) (x : Told) (count : ℕ) → pushed ≡ told ++ x ∷ [] → count ≡ length told → cut ≡ take count pushed → told_of cut ≡ told_of told
+pub told_cut : (told pushed cut : List Told) (x : Told) (count : ℕ) → pushed ≡ told ++ x ∷ [] → count ≡ length told → cut ≡ take count pushed → told_places cut ≡ told_places told
 told_cut told pushed cut x count pushed_is count_is cut_is =
-    ap told_of cut_is ∙ (ap (λ (l : List Told). told_of (take count l)) pushed_is ∙ (ap (λ (n : ℕ). told_of (take n (told ++ x ∷ []))) count_is ∙ ap told_of (take-append_seam told (x ∷ []))))
+    ap told_places cut_is ∙ (ap (λ (l : List Told). told_places (take count l)) pushed_is ∙ (ap (λ (n : ℕ). told_places (take n (told ++ x ∷ []))) count_is ∙ ap told_places (take-append_seam told (x ∷ []))))
 
 -- ---- frames behind frames
 
@@ -125,7 +125,7 @@ refused_reached law w reached = ∥∥₁_elim reached (Prim.hlevel codes) (λ (
 -- ---- the parts once an octet was read
 
 -- what is written up the newest line leaves all else
-pub wrote_more : (t : OrderTerminalValue Stock LogStock) (hears : Bool) (hub : HubValue KeeperState) (book : Book) (issued : ℕ) (lines : List OrderLine) (past : List Entry) (told : List ℕ) (clock : ℕ) → IsStage t hears hub book issued lines clock → (octets : List ℕ)
+pub wrote_more : (t : OrderTerminalValue Stock LogStock) (hears : Bool) (hub : HubValue KeeperState) (book : Book) (issued : ℕ) (lines : List LineOfOrders) (past : List Entry) (told : List ℕ) (clock : ℕ) → IsStage t hears hub book issued lines clock → (octets : List ℕ)
     → IsStage t hears hub book issued (wrote_last lines octets) clock
 wrote_more t hears hub book issued lines past told clock stage octets = record {
   running = subst (λ (ls : List Numbered). IsRunning t.terminal hub ls) (sym (plain_wrote lines octets)) (wrote_running t.terminal hub (plain_lines lines) past told clock stage.running octets);
@@ -139,29 +139,29 @@ pub hears_on : (hears_now : Bool) (stream stream_now : Splitting) (seen : List �
 hears_on hears_now stream stream_now seen octet stands was place on = record { stands = stands on; place = let e = was.place in let n = length_push seen octet in omega (arith, place, e, n) }
 
 -- the newest line stands in this place, is in use and has this octet left, and this is the line once it was read
-pub order_next : (t : OrderTerminalValue Stock LogStock) (hears : Bool) (hub : HubValue KeeperState) (book : Book) (issued : ℕ) (lines : List OrderLine) (past : List Entry) (told : List ℕ) (clock place octet : ℕ) (n m x : OrderLine) (q : OrderPlay) → IsStage t hears hub book issued lines clock
+pub order_next : (t : OrderTerminalValue Stock LogStock) (hears : Bool) (hub : HubValue KeeperState) (book : Book) (issued : ℕ) (lines : List LineOfOrders) (past : List Entry) (told : List ℕ) (clock place octet : ℕ) (n m x : LineOfOrders) (q : OrderPlay) → IsStage t hears hub book issued lines clock
     → order_play_of t hub book lines past told clock ≡ q → length q.world.base.lines ≡ place + 1 → q.world.base.terminal.using ≡ true → (line_at q.world.base.lines place).down.taken < length (line_at q.world.base.lines place).down.octets
     → n ≡ get_or lines place n → octet ≡ get_or n.plain.line.down.octets n.plain.line.down.taken 0 → m ≡ get_or lines place m → x ≡ record m { plain = record m.plain { line = record m.plain.line { down = with_one_taken m.plain.line.down } } }
     → IsNext t.terminal hub (plain_lines lines) place octet x.plain
 order_next t hears hub book issued lines past told clock place octet n m x q stage view last in_use left at octet_is m_at x_is =
     let last_here : length (lines_in (plain_lines lines)) ≡ place + 1 = subst (λ (p : OrderPlay). length p.world.base.lines ≡ place + 1) (sym view) last in
     let lt : place < length lines = let e = many_lines lines in omega (arith, e, last_here) in
-    let plain_of : (y : OrderLine) → y ≡ get_or lines place y → y.plain ≡ get_or (plain_lines lines) place plain.blank = λ y e. ap (λ (l : OrderLine). l.plain) (get_or_read lines place y lt e blank) ∙ sym (plain_at lines place) in
+    let plain_of : (y : LineOfOrders) → y ≡ get_or lines place y → y.plain ≡ get_or (plain_lines lines) place plain.blank = λ y e. ap (λ (l : LineOfOrders). l.plain) (get_or_read lines place y lt e blank) ∙ sym (plain_at lines place) in
     record {
       running = stage.running;
       last = last_here;
       in_use = subst (λ (p : OrderPlay). p.world.base.terminal.using ≡ true) (sym view) in_use;
       left = subst (λ (l : Line). l.down.taken < length l.down.octets) (line_in (plain_lines lines) place (let e = plain_length lines in omega (arith, e, lt))) (subst (λ (p : OrderPlay). (line_at p.world.base.lines place).down.taken < length (line_at p.world.base.lines place).down.octets) (sym view) left);
       octet_is = octet_is ∙ ap (λ (y : Numbered). get_or y.line.down.octets y.line.down.taken 0) (plain_of n at);
-      x_is = ap (λ (l : OrderLine). l.plain) x_is ∙ ap (λ (y : Numbered). record y { line = record y.line { down = with_one_taken y.line.down } }) (plain_of m m_at);
+      x_is = ap (λ (l : LineOfOrders). l.plain) x_is ∙ ap (λ (y : Numbered). record y { line = record y.line { down = with_one_taken y.line.down } }) (plain_of m m_at);
     }
 
 -- nothing else of the line
-pub sent_next : (t : TerminalValue Stock) (hub : HubValue KeeperState) (lines : List OrderLine) (place octet : ℕ) (m x : OrderLine) → IsNext t hub (plain_lines lines) place octet x.plain → m ≡ get_or lines place m → x.sent ≡ m.sent → x.sent ≡ (get_or lines place blank).sent
+pub sent_next : (t : TerminalValue Stock) (hub : HubValue KeeperState) (lines : List LineOfOrders) (place octet : ℕ) (m x : LineOfOrders) → IsNext t hub (plain_lines lines) place octet x.plain → m ≡ get_or lines place m → x.sent ≡ m.sent → x.sent ≡ (get_or lines place blank).sent
 sent_next t hub lines place octet m x facts at same =
     let last = facts.last in
     let lt : place < length lines = let e = many_lines lines in omega (arith, e, last) in
-    same ∙ ap (λ (l : OrderLine). l.sent) (get_or_read lines place m lt at blank)
+    same ∙ ap (λ (l : LineOfOrders). l.sent) (get_or_read lines place m lt at blank)
 
 -- there is room for one octet more
 pub stream_short : (lines : List Line) (place : ℕ) (stream : Splitting) → length lines ≡ place + 1 → IsHearing stream (taken_on lines) → (line_at lines place).down.taken + 1 < 2 ^ 63 → stream.place + 1 < 2 ^ 63
@@ -175,10 +175,10 @@ stream_short lines place stream last hearing short =
 pub one_octet : (seen : List ℕ) (octet : ℕ) → AreOctets seen → octet < 256 → AreOctets (seen ++ octet ∷ [])
 one_octet seen octet are small = AreOctets-append seen (octet ∷ []) are (AreOctets-cons octet [] small AreOctets-nil)
 
-module _ (t : OrderTerminalValue Stock LogStock) (hears : Bool) (hub : HubValue KeeperState) (book : Book) (issued : ℕ) (lines : List OrderLine) (past : List Entry) (told : List Told) (clock place octet : ℕ) (x : OrderLine) (stage : IsStage t hears hub book issued lines clock)
+module _ (t : OrderTerminalValue Stock LogStock) (hears : Bool) (hub : HubValue KeeperState) (book : Book) (issued : ℕ) (lines : List LineOfOrders) (past : List Entry) (told : List Told) (clock place octet : ℕ) (x : LineOfOrders) (stage : IsStage t hears hub book issued lines clock)
     (facts : IsNext t.terminal hub (plain_lines lines) place octet x.plain) (laws : ReadingLaws) where
   abbrev p : OrderPlay
-  p = order_play_of t hub book lines past (told_of told) clock
+  p = order_play_of t hub book lines past (told_places told) clock
 
   abbrev w : OrderWorld
   w = p.world
@@ -210,7 +210,7 @@ module _ (t : OrderTerminalValue Stock LogStock) (hears : Bool) (hub : HubValue 
   abbrev seen : List ℕ
   seen = taken_on (lines_in (plain_lines lines))
 
-  abbrev mid : List OrderLine
+  abbrev mid : List LineOfOrders
   mid = set lines place x
 
   streams : StreamLaws
@@ -235,7 +235,7 @@ module _ (t : OrderTerminalValue Stock LogStock) (hears : Bool) (hub : HubValue 
 
   module _ (now : OrderTerminalValue Stock LogStock) (same : now.terminal.state.settings ≡ s.settings) (sound : IsSound (Some now.terminal.vault.held) now.terminal.state) (limit : now.terminal.vault.limit ≡ t.terminal.vault.limit) (time : now.terminal.state.time ≡ s.time) (ledger : IsLedgerOf now.log.performed now.ledger) where
     now_running : IsRunning now.terminal hub (plain_lines lines)
-    now_running = still_running t.terminal hub (plain_lines lines) past (told_of told) clock stage.running now.terminal sound same limit
+    now_running = still_running t.terminal hub (plain_lines lines) past (told_places told) clock stage.running now.terminal sound same limit
 
     now_clock : IsClock now.terminal clock
     now_clock = record { late = subst (λ (n : ℕ). n ≤ clock) (sym time) stage.clock_is.late; small = stage.clock_is.small }
@@ -276,11 +276,11 @@ module _ (t : OrderTerminalValue Stock LogStock) (hears : Bool) (hub : HubValue 
         newest_is = ap (line_at (lines_in (plain_lines lines))) (newest_at (lines_in (plain_lines lines)) place facts.last) ∙ line_in (plain_lines lines) place (let e = length_in (plain_lines lines) in let last = facts.last in omega (arith, e, last))
 
     abbrev tells_now : List ℕ
-    tells_now = option_to_list (unit_named_by m just) ++ told_of told
+    tells_now = option_to_list (unit_named_by m just) ++ told_places told
 
     module _ (now : OrderTerminalValue Stock LogStock) (same : now.terminal.state.settings ≡ s.settings) (ledger : IsLedgerOf now.log.performed now.ledger) where
       -- the world of these parts and these lines
-      world_now : (lines_now : List OrderLine) (told_now : List ℕ) → sent_on lines_now ≡ sent_on lines
+      world_now : (lines_now : List LineOfOrders) (told_now : List ℕ) → sent_on lines_now ≡ sent_on lines
           → (order_play_of now hub book lines_now past told_now clock).world ≡ record w { base = bare (play_of now.terminal hub (plain_lines lines_now) past told_now clock).world; log = now.log.performed; tables = now.ledger.tables }
       world_now lines_now told_now e = ap (λ (z : List (Option ℕ)). record (order_play_of now hub book lines_now past told_now clock).world { sent = z }) e
 
@@ -293,7 +293,7 @@ module _ (t : OrderTerminalValue Stock LogStock) (hears : Bool) (hub : HubValue 
           ∙ (ap (λ (y : List Line). record w.base { terminal = z; lines = y; told = told_now }) mid_lines
           ∙ ap (λ (y : List ℕ). record (with_one_read w.base just takes) { terminal = z; told = y }) told_is))
 
-      base_unread : (told_now : List ℕ) (z : Machine) → told_now ≡ told_of told → machine_of now.terminal.vault.held now.terminal.state ≡ z → bare (play_of now.terminal hub (plain_lines lines) past told_now clock).world ≡ record w.base { terminal = z }
+      base_unread : (told_now : List ℕ) (z : Machine) → told_now ≡ told_places told → machine_of now.terminal.vault.held now.terminal.state ≡ z → bare (play_of now.terminal hub (plain_lines lines) past told_now clock).world ≡ record w.base { terminal = z }
       base_unread told_now z told_is is =
           ap (λ (c : Settings). let key = key_of c.phone in record w.base { terminal = machine_of now.terminal.vault.held now.terminal.state; keeper = shelf_of key (shelf_in hub.start key) (newest_first hub.history); began = shelf_in hub.start key; told = told_now }) same
           ∙ (ap (λ (y : Machine). record w.base { terminal = y; told = told_now }) is ∙ ap (λ (y : List ℕ). record w.base { terminal = z; told = y }) told_is)
@@ -372,7 +372,7 @@ module _ (t : OrderTerminalValue Stock LogStock) (hears : Bool) (hub : HubValue 
             by false e = absurd (count (slow_count e))
 
         -- it was not read, where the vault's count and the log stayed
-        pub cut_unread : (told_now : List ℕ) → told_now ≡ told_of told → now.terminal.vault.held.accepted ≡ held.accepted → now.log.performed ≡ t.log.performed → Leads w (order_play_of now hub book lines past told_now clock).world
+        pub cut_unread : (told_now : List ℕ) → told_now ≡ told_places told → now.terminal.vault.held.accepted ≡ held.accepted → now.log.performed ≡ t.log.performed → Leads w (order_play_of now hub book lines past told_now clock).world
         cut_unread told_now told_is count log_is =
             let free = unheard m just begun (slow count) cut.0 in
             subst (Leads w)
@@ -386,27 +386,27 @@ module _ (t : OrderTerminalValue Stock LogStock) (hears : Bool) (hub : HubValue 
 
         module _ (gained left : List Performed) (log_parts : d.performed ≡ gained ++ left) (log_held : now.log.performed ≡ t.log.performed ++ gained) where
           -- it was, with the acceptance, where the count rose
-          pub cut_accepted : (accepted : ℕ) → accepted ≡ held.accepted → now.terminal.vault.held.accepted ≢ held.accepted → Leads w (order_play_of now hub book mid past (told_of (told ++ record { accepted = accepted; older = 0 } ∷ [])) clock).world
+          pub cut_accepted : (accepted : ℕ) → accepted ≡ held.accepted → now.terminal.vault.held.accepted ≢ held.accepted → Leads w (order_play_of now hub book mid past (told_places (told ++ record { accepted = accepted; older = 0 } ∷ [])) clock).world
           cut_accepted accepted is count =
               let quiet = accepts_quietly w s t.ledger heard quick false none_taken (fast count) in
-              cut_read (told_of (told ++ record { accepted = accepted; older = 0 } ∷ [])) told_is
+              cut_read (told_places (told ++ record { accepted = accepted; older = 0 } ∷ [])) told_is
               (nothing_took t.log.performed now.log.performed gained left d.performed (does_few s t.ledger heard) log_parts log_held quiet.0 ∙ sym quiet.1)
             where
-              told_is : told_of (told ++ record { accepted = accepted; older = 0 } ∷ []) ≡ tells_now
+              told_is : told_places (told ++ record { accepted = accepted; older = 0 } ∷ []) ≡ tells_now
               told_is =
                   told_more told (record { accepted = accepted; older = 0 })
-                  ∙ (ap (λ (n : ℕ). n ∷ told_of told) (let e : accepted + 0 ≡ (step.hears m just).accepted = let h = heard_accepted m just in omega (arith, is, h) in e)
-                  ∙ ap (λ (z : Option ℕ). option_to_list z ++ told_of told) (sym (told_oldest (step.hears m just) just (subst (λ (b : Bool). MayAccept (step.hears m just) just b) (fast count) may_cut.accepts)) ∙ named_still m just))
+                  ∙ (ap (λ (n : ℕ). n ∷ told_places told) (let e : accepted + 0 ≡ (step.hears m just).accepted = let h = heard_accepted m just in omega (arith, is, h) in e)
+                  ∙ ap (λ (z : Option ℕ). option_to_list z ++ told_places told) (sym (told_oldest (step.hears m just) just (subst (λ (b : Bool). MayAccept (step.hears m just) just b) (fast count) may_cut.accepts)) ∙ named_still m just))
 
           -- and it was, with an order that was performed, where the log grew
-          pub cut_performed : (told_now : List ℕ) → told_now ≡ told_of told → length now.log.performed ≢ length t.log.performed → Leads w (order_play_of now hub book mid past told_now clock).world
+          pub cut_performed : (told_now : List ℕ) → told_now ≡ told_places told → length now.log.performed ≢ length t.log.performed → Leads w (order_play_of now hub book mid past told_now clock).world
           cut_performed told_now told_is moved =
               let few = does_few s t.ledger heard in
-              cut_read told_now (told_is ∙ ap (λ (a : Option Acknowledgement). option_to_list (unit_named_by m a) ++ told_of told)
+              cut_read told_now (told_is ∙ ap (λ (a : Option Acknowledgement). option_to_list (unit_named_by m a) ++ told_places told)
               (sym (performs_unheard s t.ledger heard (moved_some t.log.performed now.log.performed gained left d.performed few log_parts log_held moved))))
               (log_moved t.log.performed now.log.performed gained left d.performed few log_parts log_held moved ∙ after_log w s t.ledger stage.ledger refl heard quick false)
 
-          pub cut_nothing : (told_now : List ℕ) → told_now ≡ told_of told → now.terminal.vault.held.accepted ≡ held.accepted → length now.log.performed ≡ length t.log.performed → Leads w (order_play_of now hub book lines past told_now clock).world
+          pub cut_nothing : (told_now : List ℕ) → told_now ≡ told_places told → now.terminal.vault.held.accepted ≡ held.accepted → length now.log.performed ≡ length t.log.performed → Leads w (order_play_of now hub book lines past told_now clock).world
           cut_nothing told_now told_is count stood = cut_unread told_now told_is count (log_stood t.log.performed now.log.performed gained left d.performed (does_few s t.ledger heard) log_parts log_held stood)
 
       -- ---- whole
@@ -420,13 +420,13 @@ module _ (t : OrderTerminalValue Stock LogStock) (hears : Bool) (hub : HubValue 
 
         -- what was told, by what the call says
         pub told_is : (count accepted : ℕ) (pushed noted : List Told) (places : List ℕ) → count ≡ length told → accepted ≡ held.accepted → pushed ≡ told ++ record { accepted = accepted; older = 0 } ∷ []
-            → noted ≡ noted_at pushed count accepted places → places ≡ d.told → told_of noted ≡ tells_now
+            → noted ≡ noted_at pushed count accepted places → places ≡ d.told → told_places noted ≡ tells_now
         told_is count accepted pushed noted places count_is is pushed_is noted_is tell =
-            ap told_of noted_is ∙ (ap (λ (l : List Told). told_of (noted_at l count accepted places)) pushed_is
-            ∙ (ap (λ (n : ℕ). told_of (noted_at (told ++ record { accepted = accepted; older = 0 } ∷ []) n accepted places)) count_is
-            ∙ (ap (λ (z : List ℕ). told_of (noted_at (told ++ record { accepted = accepted; older = 0 } ∷ []) (length told) accepted z)) (tell ∙ (does_ruled s t.ledger heard).told)
+            ap told_places noted_is ∙ (ap (λ (l : List Told). told_places (noted_at l count accepted places)) pushed_is
+            ∙ (ap (λ (n : ℕ). told_places (noted_at (told ++ record { accepted = accepted; older = 0 } ∷ []) n accepted places)) count_is
+            ∙ (ap (λ (z : List ℕ). told_places (noted_at (told ++ record { accepted = accepted; older = 0 } ∷ []) (length told) accepted z)) (tell ∙ (does_ruled s t.ledger heard).told)
             ∙ (told_noted told (record { accepted = accepted; older = 0 }) accepted (named_place s just)
-            ∙ ap (λ (z : Option ℕ). option_to_list z ++ told_of told)
+            ∙ ap (λ (z : Option ℕ). option_to_list z ++ told_places told)
             (ap (λ (n : ℕ). option_map (λ (older : ℕ). n + older) (named_place s just)) is ∙ laws.told held s just stage.running.sound.order stage.running.sound.agrees.0)))))
 
         -- the octet was read, and there was no room for what is to be sent
@@ -460,7 +460,7 @@ module _ (t : OrderTerminalValue Stock LogStock) (hears : Bool) (hub : HubValue 
         frames_are : answers_directly w heard ++ frames_by m1 xs ≡ d.frames
         frames_are = ap (λ (z : List (List ℕ)). answers_directly w heard ++ z) (behind_frames (step.hears m just) r.steps ∙ sym (whole_steps.sent s.settings (sym (heard_phone m just)))) ∙ sym (does_send w s t.ledger stage.ledger refl heard)
 
-        module _ (lines_now : List OrderLine) (told_now : List ℕ) (state_is : now.terminal.state ≡ d.state) (held_now : Some now.terminal.vault.held ≡ holds_after d.steps (Some held)) (lines_are : lines_now ≡ wrote_last mid (flat_map (λ (frame : List ℕ). frame) d.frames)) (tell : told_now ≡ tells_now) where
+        module _ (lines_now : List LineOfOrders) (told_now : List ℕ) (state_is : now.terminal.state ≡ d.state) (held_now : Some now.terminal.vault.held ≡ holds_after d.steps (Some held)) (lines_are : lines_now ≡ wrote_last mid (flat_map (λ (frame : List ℕ). frame) d.frames)) (tell : told_now ≡ tells_now) where
           state_here : now.terminal.state ≡ r.state
           state_here = state_is ∙ (does_ruled s t.ledger heard).state
 

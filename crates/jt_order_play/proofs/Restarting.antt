@@ -31,11 +31,11 @@ use Rattle.jt_play.proofs.Restarting as restarting
 use Rattle.jt_order_octets.specs.Reaching.{Leads}
 use Rattle.jt_order_octets.specs.Steps.{Does}
 use Rattle.jt_order_play.specs.Playing.{OrderPlay, begins}
-use Rattle.jt_order_play.specs.Holding.{Hears, IsStage, OrderLine, order_play_of, plain_lines}
+use Rattle.jt_order_play.specs.Holding.{Hears, IsStage, LineOfOrders, order_play_of, plain_lines}
 use Rattle.jt_order_play.proofs.Doing.{bare}
 use Rattle.jt_order_play.proofs.Standing.{leads_none, leads_one}
 
-module _ (t now : OrderTerminalValue Stock LogStock) (hears : Bool) (hub : HubValue KeeperState) (book : Book) (issued : ℕ) (lines : List OrderLine) (past : List Entry) (told : List ℕ) (clock : ℕ) (stage : IsStage t hears hub book issued lines clock)
+module _ (t now : OrderTerminalValue Stock LogStock) (hears : Bool) (hub : HubValue KeeperState) (book : Book) (issued : ℕ) (lines : List LineOfOrders) (past : List Entry) (told : List ℕ) (clock : ℕ) (stage : IsStage t hears hub book issued lines clock)
     (held_is : Some now.terminal.vault.held ≡ Some t.terminal.vault.held) (log_is : Some now.log.performed ≡ Some t.log.performed) where
   abbrev p : OrderPlay
   p = order_play_of t hub book lines past told clock

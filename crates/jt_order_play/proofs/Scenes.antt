@@ -1,18 +1,15 @@
 -- A world of orders that a script plays: what stays true of it, and what its lines answer.
-use Rattle.std.proofs.Common.{ℕ, ◌≡◌, ◌↔◌, List, [], ◌∷◌, Option, Some, None, Bool, true, false, refl, ap, sym, ◌∙◌, subst}
+use Rattle.std.proofs.Common.{ℕ, ◌≡◌, ◌↔◌, List, [], ◌∷◌, Some, None, Bool, true, false, refl, ap, sym, ◌∙◌, subst}
 use Rattle.std.specs.Prelude.{Result, Ok, Err, IfErr, not}
 use Rattle.std.proofs.lemmas.Bool.{false≢true}
 use Rattle.jt_value.specs.Sameness.{key_of}
 use Rattle.jt_value.specs.Reaching.{MayAll, after_all}
 use Rattle.jt_delivery.specs.World.{Setting}
 use Rattle.jt_platform.specs.Laws.{AreOf}
-use Rattle.jt_terminal_rule.specs.declared.state.Acknowledgement.{Acknowledgement}
 use Rattle.jt_terminal_rule.specs.Messages.{AreSettings}
 use Rattle.jt_terminal_rule.specs.Steps.{Machine}
-use Rattle.jt_terminal_rule.specs.Steps as step
 use Rattle.jt_order_turns.specs.Heard.{Heard, Ordered, Other, Nothing}
 use Rattle.jt_octets.specs.World.{World}
-use Rattle.jt_octets.specs.Steps.{accepting}
 use Rattle.jt_octets.specs.Steps as plain
 use Rattle.jt_play.proofs.Scenes as scenes
 use Rattle.jt_play.specs.declared.identity.Identity.{Identity}
@@ -32,20 +29,14 @@ use Rattle.jt_order_play.proofs.Owning.{own_reached}
 
 -- ---- the phone has the same digits for ever
 
-heard_phone : (m : Machine) (just : Option Acknowledgement) (takes : Bool) → (accepting (step.hears m just) takes).phone ≡ m.phone
-heard_phone m None true = refl
-heard_phone m None false = refl
-heard_phone m (Some ack) true = refl
-heard_phone m (Some ack) false = refl
-
 response_phone : (responds : Bool) (w : World) (octets : List ℕ) → (with_response responds w octets).terminal ≡ w.terminal
 response_phone true w octets = refl
 response_phone false w octets = refl
 
 read_phone : (w : OrderWorld) (heard : Heard) (takes responds : Bool) → (after_read w heard takes responds).base.terminal.phone ≡ w.base.terminal.phone
 read_phone w (Ordered h octets m) takes responds = ap (λ (m : Machine). m.phone) (response_phone responds (with_one_read w.base None false) _)
-read_phone w (Other h m) takes responds = heard_phone w.base.terminal _ takes
-read_phone w Nothing takes responds = heard_phone w.base.terminal None takes
+read_phone w (Other h m) takes responds = scenes.heard_phone w.base.terminal _ takes
+read_phone w Nothing takes responds = scenes.heard_phone w.base.terminal None takes
 
 event_key : (w : OrderWorld) (event : Event) → MayCome w event → key_of (after w event).base.terminal.phone ≡ key_of w.base.terminal.phone
 event_key w (Issues order) may = refl

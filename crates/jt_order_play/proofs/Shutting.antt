@@ -17,43 +17,43 @@ use Rattle.jt_order_octets.specs.Reaching.{Leads}
 use Rattle.jt_order_octets.specs.Steps.{RestartPlatform, after}
 use Rattle.jt_order_octets.specs.World.{OrderWorld}
 use Rattle.jt_order_play.specs.Playing.{with_world}
-use Rattle.jt_order_play.specs.Holding.{Hears, IsStage, OrderLine, order_play_of, plain_lines, sent_on, shut_order_lines}
+use Rattle.jt_order_play.specs.Holding.{Hears, IsStage, LineOfOrders, order_play_of, plain_lines, sent_on, shut_order_lines}
 use Rattle.jt_order_play.proofs.Standing.{leads_one}
 
 -- ---- lines
 
-abbrev pub shut_one : OrderLine → OrderLine
+abbrev pub shut_one : LineOfOrders → LineOfOrders
 shut_one l = record l { plain = record l.plain { line = shut l.plain.line } }
 
 -- so many ends from the first on are gone
-abbrev pub shut_front : ℕ → List OrderLine → List OrderLine
+abbrev pub shut_front : ℕ → List LineOfOrders → List LineOfOrders
 shut_front n lines = shut_order_lines (take n lines) ++ drop n lines
 
-pub front_length : (n : ℕ) (lines : List OrderLine) → length (shut_front n lines) ≡ length lines
+pub front_length : (n : ℕ) (lines : List LineOfOrders) → length (shut_front n lines) ≡ length lines
 front_length zero lines = refl
 front_length (suc n) [] = refl
 front_length (suc n) (x ∷ lines) = let e = front_length n lines in omega (arith, e)
 
-next : (n : ℕ) (lines : List OrderLine) (old x : OrderLine) → n < length lines → old ≡ get_or (shut_front n lines) n old → x ≡ shut_one old → set (shut_front n lines) n x ≡ shut_front (suc n) lines
+next : (n : ℕ) (lines : List LineOfOrders) (old x : LineOfOrders) → n < length lines → old ≡ get_or (shut_front n lines) n old → x ≡ shut_one old → set (shut_front n lines) n x ≡ shut_front (suc n) lines
 next zero [] old x lt at is = absurd (omega (arith, lt))
-next zero (m ∷ lines) old x lt at is = ap (λ (y : OrderLine). y ∷ lines) (is ∙ ap shut_one at)
+next zero (m ∷ lines) old x lt at is = ap (λ (y : LineOfOrders). y ∷ lines) (is ∙ ap shut_one at)
 next (suc n) [] old x lt at is = absurd (omega (arith, lt))
-next (suc n) (m ∷ lines) old x lt at is = ap (λ (rest : List OrderLine). shut_one m ∷ rest) (next n lines old x (omega (arith, lt)) at is)
+next (suc n) (m ∷ lines) old x lt at is = ap (λ (rest : List LineOfOrders). shut_one m ∷ rest) (next n lines old x (omega (arith, lt)) at is)
 
-pub front_next : (n : ℕ) (lines : List OrderLine) (old x : OrderLine) → n < length lines → old ≡ get_or (shut_front n lines) n old → x ≡ shut_one old → set (shut_front n lines) n x ≡ shut_front (n + 1) lines
+pub front_next : (n : ℕ) (lines : List LineOfOrders) (old x : LineOfOrders) → n < length lines → old ≡ get_or (shut_front n lines) n old → x ≡ shut_one old → set (shut_front n lines) n x ≡ shut_front (n + 1) lines
 front_next n lines old x lt at is = let e : suc n ≡ n + 1 = omega arith in next n lines old x lt at is ∙ ap (λ (k : ℕ). shut_front k lines) e
 
-plain_shut : (lines : List OrderLine) → plain_lines (shut_order_lines lines) ≡ shut_lines (plain_lines lines)
+plain_shut : (lines : List LineOfOrders) → plain_lines (shut_order_lines lines) ≡ shut_lines (plain_lines lines)
 plain_shut [] = refl
 plain_shut (l ∷ lines) = ap (λ (rest : List Numbered). record l.plain { line = shut l.plain.line } ∷ rest) (plain_shut lines)
 
-sent_shut : (lines : List OrderLine) → sent_on (shut_order_lines lines) ≡ sent_on lines
+sent_shut : (lines : List LineOfOrders) → sent_on (shut_order_lines lines) ≡ sent_on lines
 sent_shut [] = refl
 sent_shut (l ∷ lines) = ap (λ (rest : List (Option ℕ)). l.sent ∷ rest) (sent_shut lines)
 
 -- ---- a new hub
 
-module _ (law : HistoriesTell) (same : (key : List ℕ) → same_key key key ≡ true) (t : OrderTerminalValue Stock LogStock) (hears : Bool) (hub : HubValue KeeperState) (book : Book) (issued : ℕ) (lines : List OrderLine) (past : List (List Entry)) (told : List ℕ) (clock : ℕ)
+module _ (law : HistoriesTell) (same : (key : List ℕ) → same_key key key ≡ true) (t : OrderTerminalValue Stock LogStock) (hears : Bool) (hub : HubValue KeeperState) (book : Book) (issued : ℕ) (lines : List LineOfOrders) (past : List (List Entry)) (told : List ℕ) (clock : ℕ)
     (stage : IsStage t hears hub book issued lines clock) (own : AreOf (key_of t.terminal.state.settings.phone) (newest hub.history)) (at : Some (tables_of hub.keeper) ≡ tables_after (Some (tables_of hub.start)) (newest hub.history)) (limit : hub.keeper.limit ≡ hub.start.limit) where
   -- the hub begins anew
   abbrev anew : HubValue KeeperState

@@ -26,7 +26,7 @@ use Rattle.jt_order_octets.specs.World.{OrderWorld, first_read, sent_at}
 use Rattle.jt_order_octets.specs.Reaching.{Leads}
 use Rattle.jt_order_octets.specs.Steps.{Event, MayCome, MayOffer, Offers, Up, after}
 use Rattle.jt_order_play.specs.Playing.{OrderPlay, book_of, may_offer, offers_at, with_world}
-use Rattle.jt_order_play.specs.Holding.{Hears, IsStage, OffersOne, OrderLine, StandsIn, TakesOne, blank, offered, order_play_of, plain_lines, sent_on}
+use Rattle.jt_order_play.specs.Holding.{Hears, IsStage, OffersInWorld, LineOfOrders, StandsIn, TakesOne, blank, offered, order_play_of, plain_lines, sent_on}
 
 -- ---- steps
 
@@ -45,33 +45,33 @@ offered_leads false place w may = leads_none w
 
 -- ---- lines
 
-pub plain_length : (lines : List OrderLine) → length (plain_lines lines) ≡ length lines
+pub plain_length : (lines : List LineOfOrders) → length (plain_lines lines) ≡ length lines
 plain_length [] = refl
 plain_length (l ∷ lines) = ap (λ (n : ℕ). suc n) (plain_length lines)
 
-pub plain_set : (lines : List OrderLine) (place : ℕ) (x : OrderLine) → plain_lines (set lines place x) ≡ set (plain_lines lines) place x.plain
+pub plain_set : (lines : List LineOfOrders) (place : ℕ) (x : LineOfOrders) → plain_lines (set lines place x) ≡ set (plain_lines lines) place x.plain
 plain_set [] zero x = refl
 plain_set [] (suc place) x = refl
 plain_set (l ∷ lines) zero x = refl
 plain_set (l ∷ lines) (suc place) x = ap (λ (rest : List Numbered). l.plain ∷ rest) (plain_set lines place x)
 
-pub sent_set : (lines : List OrderLine) (place : ℕ) (x : OrderLine) → sent_on (set lines place x) ≡ set (sent_on lines) place x.sent
+pub sent_set : (lines : List LineOfOrders) (place : ℕ) (x : LineOfOrders) → sent_on (set lines place x) ≡ set (sent_on lines) place x.sent
 sent_set [] zero x = refl
 sent_set [] (suc place) x = refl
 sent_set (l ∷ lines) zero x = refl
 sent_set (l ∷ lines) (suc place) x = ap (λ (rest : List (Option ℕ)). l.sent ∷ rest) (sent_set lines place x)
 
-pub plain_at : (lines : List OrderLine) (place : ℕ) → get_or (plain_lines lines) place plain.blank ≡ (get_or lines place blank).plain
+pub plain_at : (lines : List LineOfOrders) (place : ℕ) → get_or (plain_lines lines) place plain.blank ≡ (get_or lines place blank).plain
 plain_at [] place = refl
 plain_at (l ∷ lines) zero = refl
 plain_at (l ∷ lines) (suc place) = plain_at lines place
 
-pub sent_there : (lines : List OrderLine) (place : ℕ) → get_or (sent_on lines) place None ≡ (get_or lines place blank).sent
+pub sent_there : (lines : List LineOfOrders) (place : ℕ) → get_or (sent_on lines) place None ≡ (get_or lines place blank).sent
 sent_there [] place = refl
 sent_there (l ∷ lines) zero = refl
 sent_there (l ∷ lines) (suc place) = sent_there lines place
 
-pub many_lines : (lines : List OrderLine) → length (lines_in (plain_lines lines)) ≡ length lines
+pub many_lines : (lines : List LineOfOrders) → length (lines_in (plain_lines lines)) ≡ length lines
 many_lines lines = length_in (plain_lines lines) ∙ plain_length lines
 
 pub get_or_again : (ls : List Numbered) (n : ℕ) (y : Numbered) → n < length ls → get_or ls n plain.blank ≡ get_or ls n y
@@ -81,7 +81,7 @@ get_or_again (l ∷ ls) (suc n) y within = get_or_again ls n y (omega (arith, wi
 
 -- ---- a line stands in its place
 
-module _ (t : OrderTerminalValue Stock LogStock) (hears : Bool) (hub : HubValue KeeperState) (book : Book) (issued : ℕ) (lines : List OrderLine) (past : List Entry) (told : List ℕ) (clock place : ℕ) (old : OrderLine) (stage : IsStage t hears hub book issued lines clock)
+module _ (t : OrderTerminalValue Stock LogStock) (hears : Bool) (hub : HubValue KeeperState) (book : Book) (issued : ℕ) (lines : List LineOfOrders) (past : List Entry) (told : List ℕ) (clock place : ℕ) (old : LineOfOrders) (stage : IsStage t hears hub book issued lines clock)
     (lt : place < length lines) (at : old ≡ get_or lines place old) where
   abbrev p : OrderPlay
   p = order_play_of t hub book lines past told clock
@@ -96,7 +96,7 @@ module _ (t : OrderTerminalValue Stock LogStock) (hears : Bool) (hub : HubValue 
   plain_lt = subst (λ (n : ℕ). place < n) (sym (plain_length lines)) lt
 
   plain_is : old.plain ≡ get_or (plain_lines lines) place plain.blank
-  plain_is = ap (λ (l : OrderLine). l.plain) old_is ∙ sym (plain_at lines place)
+  plain_is = ap (λ (l : LineOfOrders). l.plain) old_is ∙ sym (plain_at lines place)
 
   within : place < length p.world.base.lines
   within = subst (λ (n : ℕ). place < n) (sym (many_lines lines)) lt
@@ -108,7 +108,7 @@ module _ (t : OrderTerminalValue Stock LogStock) (hears : Bool) (hub : HubValue 
   stands = record {
     within = within;
     is = line_there;
-    sent = sent_there lines place ∙ ap (λ (l : OrderLine). l.sent) (sym old_is);
+    sent = sent_there lines place ∙ ap (λ (l : LineOfOrders). l.sent) (sym old_is);
     number = ap (λ (n : Numbered). n.number) plain_is ∙ stage.running.numbers place plain_lt;
     opening = ap (λ (tables : Tables). hub_opening (Some tables) hub.start.limit hub.fleet hub.secret) stage.running.alone_is;
     history = refl;
@@ -127,7 +127,7 @@ module _ (t : OrderTerminalValue Stock LogStock) (hears : Bool) (hub : HubValue 
     sent = sent;
   }
 
-  same_world : (x : OrderLine) (now : HubValue KeeperState) (book_now : Book) (start : KeeperState) (fleet : Fleet) (secret : List ℕ) (h : List Entry) (orders : List OrderOf) → start ≡ now.start → fleet ≡ now.fleet → secret ≡ now.secret → h ≡ newest now.history → orders ≡ book_now.issued
+  same_world : (x : LineOfOrders) (now : HubValue KeeperState) (book_now : Book) (start : KeeperState) (fleet : Fleet) (secret : List ℕ) (h : List Entry) (orders : List OrderOf) → start ≡ now.start → fleet ≡ now.fleet → secret ≡ now.secret → h ≡ newest now.history → orders ≡ book_now.issued
       → world_with (set p.world.base.lines place x.plain.line) start fleet secret h (shelf_of key (shelf_in start key) h) orders book_now.results (set p.world.sent place x.sent) ≡ (order_play_of t now book_now (set lines place x) past told clock).world
   same_world x now book_now start fleet secret h orders a b c d e =
       ap (λ (ls : List Line). world_with ls start fleet secret h (shelf_of key (shelf_in start key) h) orders book_now.results (set p.world.sent place x.sent)) (sym (ap lines_in (plain_set lines place x) ∙ set_in (plain_lines lines) place x.plain))
@@ -138,12 +138,12 @@ module _ (t : OrderTerminalValue Stock LogStock) (hears : Bool) (hub : HubValue 
       ∙ (ap (λ (z : List Entry). world_with (lines_in (plain_lines (set lines place x))) now.start now.fleet now.secret z (shelf_of key (shelf_in now.start key) z) orders book_now.results (sent_on (set lines place x))) d
       ∙ ap (λ (z : List OrderOf). world_with (lines_in (plain_lines (set lines place x))) now.start now.fleet now.secret (newest now.history) (shelf_of key (shelf_in now.start key) (newest now.history)) z book_now.results (sent_on (set lines place x))) e)))))
 
-  heard_there : (x : OrderLine) → taken_of x.plain.line.down ≡ taken_of (line_at p.world.base.lines place).down → taken_on (lines_in (plain_lines (set lines place x))) ≡ taken_on (lines_in (plain_lines lines))
+  heard_there : (x : LineOfOrders) → taken_of x.plain.line.down ≡ taken_of (line_at p.world.base.lines place).down → taken_on (lines_in (plain_lines (set lines place x))) ≡ taken_on (lines_in (plain_lines lines))
   heard_there x same = ap taken_on (ap lines_in (plain_set lines place x) ∙ set_in (plain_lines lines) place x.plain) ∙ taken_same (lines_in (plain_lines lines)) place x.plain.line within same
 
   -- ---- it took an octet
 
-  module _ (now : HubValue KeeperState) (book_now : Book) (x : OrderLine) (done : Bool) (r : TakesOne p.world place x (newest now.history) book_now done) (start : now.start ≡ hub.start) (fleet : now.fleet ≡ hub.fleet) (secret : now.secret ≡ hub.secret) where
+  module _ (now : HubValue KeeperState) (book_now : Book) (x : LineOfOrders) (done : Bool) (r : TakesOne p.world place x (newest now.history) book_now done) (start : now.start ≡ hub.start) (fleet : now.fleet ≡ hub.fleet) (secret : now.secret ≡ hub.secret) where
     pub took_is : offered r.offers place (after p.world (Up place r.way r.telling)) ≡ (order_play_of t now book_now (set lines place x) past told clock).world
     took_is = r.is
         ∙ (ap (λ (z : Shelf). world_with (set p.world.base.lines place x.plain.line) hub.start hub.fleet hub.secret (entries_on (suc place) r.pairs ++ newest hub.history) z book.issued book_now.results (set p.world.sent place x.sent)) (sym (shelf_append key (shelf_in hub.start key) (entries_on (suc place) r.pairs) (newest hub.history)))
@@ -165,7 +165,7 @@ module _ (t : OrderTerminalValue Stock LogStock) (hears : Bool) (hub : HubValue 
 
   -- ---- it offered
 
-  module _ (x : OrderLine) (done : Bool) (r : OffersOne p.world place x done) where
+  module _ (x : LineOfOrders) (done : Bool) (r : OffersInWorld p.world place x done) where
     pub offered_is : offered r.offers place p.world ≡ (order_play_of t hub book (set lines place x) past told clock).world
     offered_is = r.is ∙ same_world x hub book hub.start hub.fleet hub.secret (newest hub.history) book.issued refl refl refl refl refl
 
@@ -193,27 +193,27 @@ module _ (t : OrderTerminalValue Stock LogStock) (hears : Bool) (hub : HubValue 
 -- ---- calls with a line in a place
 
 -- a place in the world is one among the lines
-pub lt_of : (t : OrderTerminalValue Stock LogStock) (hub : HubValue KeeperState) (book : Book) (lines : List OrderLine) (past : List Entry) (told : List ℕ) (clock place : ℕ) (p : OrderPlay) → order_play_of t hub book lines past told clock ≡ p → place < length p.world.base.lines → place < length lines
+pub lt_of : (t : OrderTerminalValue Stock LogStock) (hub : HubValue KeeperState) (book : Book) (lines : List LineOfOrders) (past : List Entry) (told : List ℕ) (clock place : ℕ) (p : OrderPlay) → order_play_of t hub book lines past told clock ≡ p → place < length p.world.base.lines → place < length lines
 lt_of t hub book lines past told clock place p is lt = subst (λ (n : ℕ). place < n) (many_lines lines) (subst (λ (q : OrderPlay). place < length q.world.base.lines) (sym is) lt)
 
 -- a fact of the line in the world is one of the line that was found
-pub fact_of : (P : Line → Type 0) (t : OrderTerminalValue Stock LogStock) (hears : Bool) (hub : HubValue KeeperState) (book : Book) (issued : ℕ) (lines : List OrderLine) (past : List Entry) (told : List ℕ) (clock place : ℕ) (old : OrderLine) → IsStage t hears hub book issued lines clock → (p : OrderPlay) → order_play_of t hub book lines past told clock ≡ p
+pub fact_of : (P : Line → Type 0) (t : OrderTerminalValue Stock LogStock) (hears : Bool) (hub : HubValue KeeperState) (book : Book) (issued : ℕ) (lines : List LineOfOrders) (past : List Entry) (told : List ℕ) (clock place : ℕ) (old : LineOfOrders) → IsStage t hears hub book issued lines clock → (p : OrderPlay) → order_play_of t hub book lines past told clock ≡ p
     → place < length lines → old ≡ get_or lines place old → P (line_at p.world.base.lines place) → P old.plain.line
 fact_of P t hears hub book issued lines past told clock place old stage p is lt at fact =
     subst P (line_there t hears hub book issued lines past told clock place old stage lt at) (subst (λ (q : OrderPlay). P (line_at q.world.base.lines place)) (sym is) fact)
 
 -- the line in the place where one was put
-pub put_there : (t : OrderTerminalValue Stock LogStock) (hub : HubValue KeeperState) (book : Book) (lines : List OrderLine) (past : List Entry) (told : List ℕ) (clock place : ℕ) (x : OrderLine) → place < length lines → line_at (order_play_of t hub book (set lines place x) past told clock).world.base.lines place ≡ x.plain.line
+pub put_there : (t : OrderTerminalValue Stock LogStock) (hub : HubValue KeeperState) (book : Book) (lines : List LineOfOrders) (past : List Entry) (told : List ℕ) (clock place : ℕ) (x : LineOfOrders) → place < length lines → line_at (order_play_of t hub book (set lines place x) past told clock).world.base.lines place ≡ x.plain.line
 put_there t hub book lines past told clock place x lt =
     ap (λ (ls : List Line). line_at ls place) (ap lines_in (plain_set lines place x) ∙ set_in (plain_lines lines) place x.plain)
     ∙ get_or-set_same (lines_in (plain_lines lines)) place x.plain.line new_line (subst (λ (n : ℕ). place < n) (sym (many_lines lines)) lt)
 
-pub put_many : (t : OrderTerminalValue Stock LogStock) (hub now : HubValue KeeperState) (book book_now : Book) (lines : List OrderLine) (past : List Entry) (told : List ℕ) (clock place : ℕ) (x : OrderLine) (p : OrderPlay) → order_play_of t hub book lines past told clock ≡ p
+pub put_many : (t : OrderTerminalValue Stock LogStock) (hub now : HubValue KeeperState) (book book_now : Book) (lines : List LineOfOrders) (past : List Entry) (told : List ℕ) (clock place : ℕ) (x : LineOfOrders) (p : OrderPlay) → order_play_of t hub book lines past told clock ≡ p
     → length (order_play_of t now book_now (set lines place x) past told clock).world.base.lines ≡ length p.world.base.lines
 put_many t hub now book book_now lines past told clock place x p is = many_lines (set lines place x) ∙ (length-set lines place x ∙ (sym (many_lines lines) ∙ ap (λ (q : OrderPlay). length q.world.base.lines) is))
 
 -- and the other way round
-pub fact_back : (P : Line → Type 0) (t : OrderTerminalValue Stock LogStock) (hears : Bool) (hub : HubValue KeeperState) (book : Book) (issued : ℕ) (lines : List OrderLine) (past : List Entry) (told : List ℕ) (clock place : ℕ) (old : OrderLine) → IsStage t hears hub book issued lines clock → (p : OrderPlay) → order_play_of t hub book lines past told clock ≡ p
+pub fact_back : (P : Line → Type 0) (t : OrderTerminalValue Stock LogStock) (hears : Bool) (hub : HubValue KeeperState) (book : Book) (issued : ℕ) (lines : List LineOfOrders) (past : List Entry) (told : List ℕ) (clock place : ℕ) (old : LineOfOrders) → IsStage t hears hub book issued lines clock → (p : OrderPlay) → order_play_of t hub book lines past told clock ≡ p
     → place < length lines → old ≡ get_or lines place old → P old.plain.line → P (line_at p.world.base.lines place)
 fact_back P t hears hub book issued lines past told clock place old stage p is lt at fact =
     subst (λ (q : OrderPlay). P (line_at q.world.base.lines place)) is (subst P (sym (line_there t hears hub book issued lines past told clock place old stage lt at)) fact)

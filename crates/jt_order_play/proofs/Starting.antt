@@ -25,7 +25,7 @@ use Rattle.jt_order_octets.specs.World.{empty}
 use Rattle.jt_order_octets.specs.Reaching.{Reached}
 use Rattle.jt_order_play.specs.declared.stage.Told.{Told}
 use Rattle.jt_order_play.specs.Playing.{OrderPlay}
-use Rattle.jt_order_play.specs.Holding.{IsNewOrderTerminal, IsStage, OrderLine, order_play_of, told_of}
+use Rattle.jt_order_play.specs.Holding.{IsNewOrderTerminal, IsStage, LineOfOrders, order_play_of, told_places}
 use Rattle.jt_order_play.specs.Scripts.{first_play}
 use Rattle.jt_order_play.proofs.Doing.{bare}
 use Rattle.jt_order_play.proofs.Standing.{leads_none}
@@ -67,11 +67,11 @@ module _ (settings : Settings) (fleet : Fleet) (secret : List ℕ) (t : OrderTer
       ∙ (ap (λ (tables : HeldTables). with q no_orders [] tables) new_t.ledger.tables
       ∙ ap (λ (x : Play). with x no_orders [] no_tables) (starting.new_play settings fleet secret t.terminal hub new_t.terminal new_hub)))
 
-  pub new_is : (lines : List OrderLine) (past : List (List Entry)) (told : List Told) → lines ≡ [] → past ≡ [] → told ≡ [] → order_play_of t hub book lines (past_of past) (told_of told) 0 ≡ first_play settings (record { fleet = fleet; secret = secret; limit = ROW_LIMIT })
+  pub new_is : (lines : List LineOfOrders) (past : List (List Entry)) (told : List Told) → lines ≡ [] → past ≡ [] → told ≡ [] → order_play_of t hub book lines (past_of past) (told_places told) 0 ≡ first_play settings (record { fleet = fleet; secret = secret; limit = ROW_LIMIT })
   new_is lines past told no_lines no_past none_told =
-      ap (λ (ls : List OrderLine). order_play_of t hub book ls (past_of past) (told_of told) 0) no_lines
-      ∙ (ap (λ (h : List (List Entry)). order_play_of t hub book [] (past_of h) (told_of told) 0) no_past
-      ∙ (ap (λ (x : List Told). order_play_of t hub book [] [] (told_of x) 0) none_told ∙ new_play))
+      ap (λ (ls : List LineOfOrders). order_play_of t hub book ls (past_of past) (told_places told) 0) no_lines
+      ∙ (ap (λ (h : List (List Entry)). order_play_of t hub book [] (past_of h) (told_places told) 0) no_past
+      ∙ (ap (λ (x : List Told). order_play_of t hub book [] [] (told_places x) 0) none_told ∙ new_play))
 
 -- which is reached
 pub first_reached : (settings : Settings) (setting : Setting) → AreSettings settings → Reached (first_play settings setting).world

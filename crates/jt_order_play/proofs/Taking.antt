@@ -35,7 +35,7 @@ use Rattle.jt_play.proofs.Lines as lines
 use Rattle.jt_order_octets.specs.World.{OrderWorld}
 use Rattle.jt_order_octets.specs.Steps.{MayOffer, Up, after, results_after}
 use Rattle.jt_order_play.specs.Playing.{book_of, may_offer}
-use Rattle.jt_order_play.specs.Holding.{IsOrderHeld, OffersOne, OrderLine, StandsIn, TakesOne, offered}
+use Rattle.jt_order_play.specs.Holding.{IsOrderHeld, OffersInWorld, LineOfOrders, StandsIn, TakesOne, offered}
 use Rattle.jt_order_play.proofs.Offering.{offers_one}
 use Rattle.jt_order_play.proofs.Telling.{ToldSo, told_so}
 
@@ -171,7 +171,7 @@ module _ (octets down down_now : List ℕ) (taken read x : ℕ) (over over_now :
       (not_short : (s : Seen) (turns : List Turn) → (talk_from (before s) turns).over ≡ false → ended_short turns ≡ false)
       (is_open : Bool) (opened : is_open ≡ true) (start : hub_now.start ≡ hub.start) (fleet : hub_now.fleet ≡ hub.fleet) (secret : hub_now.secret ≡ hub.secret) (done : Bool) (whole : done ≡ true → IsOk answer × (is_short fed ≡ false))
       (w : OrderWorld) (place : ℕ) (st : StandsIn w place (record { plain = record { number = s.session.number; line = line_of octets taken down read over s.session is_open }; sent = s.sent }) hub b) where
-    abbrev line_now : OrderLine
+    abbrev line_now : LineOfOrders
     line_now = record { plain = record { number = now.session.number; line = line_of octets (taken + 1) down_now read over_now now.session is_open }; sent = now.sent }
 
     abbrev mid_line : Line
@@ -230,7 +230,7 @@ module _ (octets down down_now : List ℕ) (taken read x : ℕ) (over over_now :
     mid_heard = ap (take read) steps.out ∙ (ap (λ (l : Line). take read (l.down.octets ++ k.written)) st.is ∙ (take-append-le read down k.written held.plain.read_within ∙ sym (ap (λ (l : Line). taken_of l.down) st.is)))
 
     -- with an offer, or none, behind it
-    made : OffersOne mid_world place line_now done → (done ≡ true → IsOk f.told) → TakesOne w place line_now (newest hub_now.history) b_now done
+    made : OffersInWorld mid_world place line_now done → (done ≡ true → IsOk f.told) → TakesOne w place line_now (newest hub_now.history) b_now done
     made offer told_ok = record {
       way = steps.way;
       telling = told.telling;

@@ -18,7 +18,8 @@ use Rattle.jt_order_session.specs.Sessions.{Tells as TellsBook, book_by, book_by
 use Rattle.jt_play.proofs.Upward.{OfTurns}
 use Rattle.jt_order_octets.specs.World.{OrderWorld, sent_at}
 use Rattle.jt_order_octets.specs.Steps.{AnswersOldest, MayTell, NamesOldest, Telling, TellsNothing, results_after}
-use Rattle.jt_order_play.specs.Playing.{book_of, failed_by, result_in, result_named, told_by}
+use Rattle.jt_order_play.specs.Holding.{failed_by}
+use Rattle.jt_order_play.specs.Playing.{book_of, result_in, result_named, told_by}
 
 -- ---- the book, by the result
 

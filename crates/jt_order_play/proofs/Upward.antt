@@ -8,8 +8,8 @@ use Rattle.jt_octets.specs.World.{Line, Wire, completed_item, line_at, with_one_
 use Rattle.jt_octets.specs.Steps.{after_take, line_behind, shut, talk_after_item}
 use Rattle.jt_play.specs.Playing.{left_of, way_at}
 use Rattle.jt_order_octets.specs.World.{OrderWorld, first_read}
-use Rattle.jt_order_octets.specs.Steps.{Cut, Offers, Telling, Up, after, oldest_frame, with_order}
-use Rattle.jt_order_play.specs.Playing.{OrderPlay, closes, goes_up, may_offer, offers_at, result_at, takes, takes_octet, takes_one, takes_up, told_by, with_world}
+use Rattle.jt_order_octets.specs.Steps.{Cut, Offers, Telling, Up, after, oldest_frame, with_order_written}
+use Rattle.jt_order_play.specs.Playing.{OrderPlay, closes, goes_up, may_offer, offers_at, result_of_next, takes, takes_octet, takes_one, takes_up, told_by, with_world}
 use Rattle.jt_order_play.proofs.Composing.{GoesParts, goes_at, goes_parts, newest_at, takes_go, takes_stop}
 
 -- ---- one octet less is left
@@ -37,7 +37,7 @@ up_offers : (w : OrderWorld) (place : ℕ) → (line_at (offers_at place w).base
 up_offers w place = by (may_offer w place)
   where
     by : (b : Bool) → (line_at (if b then after w (Offers place) else w).base.lines place).up ≡ (line_at w.base.lines place).up
-    by true = up_set w.base.lines place (with_order (line_at w.base.lines place) (oldest_frame w (first_read w place))) refl
+    by true = up_set w.base.lines place (with_order_written (line_at w.base.lines place) (oldest_frame w (first_read w place))) refl
     by false = refl
 
 up_takes : (w : OrderWorld) (place : ℕ) (s : Session) (way : Way) (telling : Telling) → (line_at w.base.lines place).session ≡ Some s → (line_at w.base.lines place).up.taken < length (line_at w.base.lines place).up.octets
@@ -56,9 +56,9 @@ one_less w place n e most = by (line_at w.base.lines place).session refl
     by None f = absurd (false≢true (subst (λ (o : Option Session). IsSome o) f g.some))
     by (Some s) f =
         let way = way_at w.base place s (completed_item (line_at w.base.lines place).up) in
-        let mid = after w (Up place way (told_by (result_at w place way))) in
+        let mid = after w (Up place way (told_by (result_of_next w place way))) in
         let is : (line_at (closes place (offers_at place mid)).base.lines place).up ≡ with_one_taken (line_at w.base.lines place).up =
-        up_closes (offers_at place mid) place ∙ (up_offers mid place ∙ up_takes w place s way (told_by (result_at w place way)) f g.left) in
+        up_closes (offers_at place mid) place ∙ (up_offers mid place ∙ up_takes w place s way (told_by (result_of_next w place way)) f g.left) in
         subst (λ (wire : Wire). left_of wire ≤ n) (sym is) (omega (arith, most))
 
 none_goes : (w : OrderWorld) (place : ℕ) → goes_at w place ≡ true → left_of (line_at w.base.lines place).up ≤ 0 → ⊥

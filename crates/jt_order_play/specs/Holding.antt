@@ -9,14 +9,13 @@ use Rattle.jt_platform.specs.Hub.{HubValue, opening_of as hub_opening}
 use Rattle.jt_platform.specs.History.{newest}
 use Rattle.jt_platform.specs.Laws.{shelf_of}
 use Rattle.jt_platform.specs.declared.request.Entry.{Entry}
-use Rattle.jt_platform.specs.declared.request.Fleet.{Fleet}
 use Rattle.jt_platform.specs.declared.request.Request.{Request}
 use Rattle.jt_platform.specs.declared.request.Reply.{Reply}
 use Rattle.jt_session.specs.Sessions.{end_by, entries_on}
 use Rattle.jt_session.specs.Talk.{Way}
 use Rattle.jt_terminal_rule.specs.declared.settings.Settings.{Settings}
 use Rattle.jt_order.specs.Books.{Book}
-use Rattle.jt_order.specs.Memory.{BookStock, LogStock}
+use Rattle.jt_order.specs.Memory.{LogStock}
 use Rattle.jt_escape.specs.Frame.{framed}
 use Rattle.jt_escape.specs.Span.{IsContent}
 use Rattle.jt_header.specs.Content.{Content}
@@ -32,13 +31,13 @@ use Rattle.jt_order_turns.specs.Headers.{first_header}
 use Rattle.jt_order_session.specs.Sessions.{OrderSeen, StandsForOrders}
 use Rattle.jt_order_terminal.specs.Ledgers.{IsLedgerOf}
 use Rattle.jt_order_terminal.specs.Terminals.{OrderTerminalValue, StandsForLine}
-use Rattle.jt_octets.specs.World.{Line, completed_item, line_at, new_line, opening_of, taken_of}
+use Rattle.jt_octets.specs.World.{completed_item, line_at, opening_of, taken_of}
 use Rattle.jt_octets.specs.Steps.{MayTake}
-use Rattle.jt_play.specs.Holding.{IsClock, IsHeld, IsNewHub, IsNewTerminal, IsRunning, Numbered, first_line, is_short, play_of, shut_lines}
+use Rattle.jt_play.specs.Holding.{IsClock, IsHeld, IsNewTerminal, IsRunning, Numbered, first_line, is_short, play_of}
 use Rattle.jt_play.specs.Holding as plain
 use Rattle.jt_order_octets.specs.World.{OrderWorld, sent_at}
-use Rattle.jt_order_octets.specs.Steps.{MayOffer, MayTell, Offers, Telling, Up, after}
-use Rattle.jt_order_play.specs.Playing.{OrderPlay, book_of, goes_on, may_offer, reads_more, reads_one, result_at, takes_one, told_by, with_world}
+use Rattle.jt_order_octets.specs.Steps.{BookFails, MayOffer, MayTell, Offers, Telling, TellsNothing, Up, after}
+use Rattle.jt_order_play.specs.Playing.{OrderPlay, book_of, goes_on, may_offer, reads_more, reads_one, result_of_next, takes_one, told_by, with_world}
 use Rattle.jt_order_play.specs.declared.error.OrderWorldError.{OrderWorldError}
 use Rattle.jt_order_play.specs.declared.stage.Told.{Told}
 use Rattle.jt_order_play.specs.declared.error.OrderWorldError.TheVariants as refused
@@ -46,7 +45,7 @@ use Rattle.jt_order_play.specs.declared.error.OrderWorldError.TheVariants as ref
 -- ---- a line
 
 -- a line with the number of its session, and the place of the order that was sent last on it
-pub record OrderLine : Type 0 where
+pub record LineOfOrders : Type 0 where
   pub plain : Numbered
   pub sent : Option ℕ
 
@@ -57,7 +56,7 @@ pub record IsOrderHeld (octets : List ℕ) (taken : ℕ) (down : List ℕ) (read
   pub first : s.first ≡ first_header (items (take taken octets))
 
 -- the line, the hub and the book are those of the line in this place of a world
-pub record StandsIn (w : OrderWorld) (place : ℕ) (line : OrderLine) (hub : HubValue KeeperState) (book : Book) : Type 0 where
+pub record StandsIn (w : OrderWorld) (place : ℕ) (line : LineOfOrders) (hub : HubValue KeeperState) (book : Book) : Type 0 where
   pub within : place < length w.base.lines
   pub is : line_at w.base.lines place ≡ line.plain.line
   pub sent : sent_at w place ≡ line.sent
@@ -72,21 +71,26 @@ offered true place w = after w (Offers place)
 offered false place w = w
 
 -- The session offered, or did not, which is a step of every world in which it stands. Where all was done it offered exactly if it is to.
-pub record OffersOne (w : OrderWorld) (place : ℕ) (line : OrderLine) (done : Bool) : Type 0 where
+pub record OffersInWorld (w : OrderWorld) (place : ℕ) (line : LineOfOrders) (done : Bool) : Type 0 where
   pub offers : Bool
   pub may : offers ≡ true → MayOffer w place
   pub is : offered offers place w ≡ record w { base = record w.base { lines = set w.base.lines place line.plain.line }; sent = set w.sent place line.sent }
   pub heard : taken_of line.plain.line.down ≡ taken_of (line_at w.base.lines place).down
   pub whole : done ≡ true → offers ≡ may_offer w place
 
+-- the book failed where it was to be told
+abbrev pub failed_by : Option ℕ → Telling
+failed_by None = TellsNothing
+failed_by (Some result) = BookFails
+
 -- where all was done: the session met no want of memory, the book was told of each answer, and an order was offered exactly if it is to be
 pub record IsWhole (w : OrderWorld) (place : ℕ) (way : Way) (telling : Telling) (offers : Bool) : Type 0 where
   pub short : is_short (end_by way) ≡ false
-  pub told : telling ≡ told_by (result_at w place way)
+  pub told : telling ≡ told_by (result_of_next w place way)
   pub offers_is : offers ≡ may_offer (after w (Up place way telling)) place
 
 -- The session took one octet, and the book was told, or failed; and then it offered, or did not: steps of every world in which it stands.
-pub record TakesOne (w : OrderWorld) (place : ℕ) (line : OrderLine) (h : List Entry) (book : Book) (done : Bool) : Type 0 where
+pub record TakesOne (w : OrderWorld) (place : ℕ) (line : LineOfOrders) (h : List Entry) (book : Book) (done : Bool) : Type 0 where
   pub way : Way
   pub telling : Telling
   pub offers : Bool
@@ -110,14 +114,14 @@ pub record TakesOne (w : OrderWorld) (place : ℕ) (line : OrderLine) (h : List 
 
 -- ---- the world that runs
 
-abbrev pub plain_lines : List OrderLine → List Numbered
-plain_lines lines = map (λ (l : OrderLine). l.plain) lines
+abbrev pub plain_lines : List LineOfOrders → List Numbered
+plain_lines lines = map (λ (l : LineOfOrders). l.plain) lines
 
-abbrev pub sent_on : List OrderLine → List (Option ℕ)
-sent_on lines = map (λ (l : OrderLine). l.sent) lines
+abbrev pub sent_on : List LineOfOrders → List (Option ℕ)
+sent_on lines = map (λ (l : LineOfOrders). l.sent) lines
 
 -- The world as it is played, of the parts that run. Of messages in packets nothing is kept, and no order was refused for its serial.
-abbrev pub order_play_of : OrderTerminalValue Stock LogStock → HubValue KeeperState → Book → List OrderLine → List Entry → List ℕ → ℕ → OrderPlay
+abbrev pub order_play_of : OrderTerminalValue Stock LogStock → HubValue KeeperState → Book → List LineOfOrders → List Entry → List ℕ → ℕ → OrderPlay
 order_play_of t hub book lines past told clock =
     let p = play_of t.terminal hub (plain_lines lines) past told clock in
     record {
@@ -144,27 +148,27 @@ abbrev pub Hears : Bool → Splitting → List ℕ → Type 0
 Hears hears stream seen = hears ≡ true → IsHearing stream seen
 
 -- what stays true of the parts
-pub record IsStage (t : OrderTerminalValue Stock LogStock) (hears : Bool) (hub : HubValue KeeperState) (book : Book) (issued : ℕ) (lines : List OrderLine) (clock : ℕ) : Type 0 where
+pub record IsStage (t : OrderTerminalValue Stock LogStock) (hears : Bool) (hub : HubValue KeeperState) (book : Book) (issued : ℕ) (lines : List LineOfOrders) (clock : ℕ) : Type 0 where
   pub running : IsRunning t.terminal hub (plain_lines lines)
   pub ledger : IsLedgerOf t.log.performed t.ledger
   pub hearing : Hears hears t.stream (plain.taken_on (plain.lines_in (plain_lines lines)))
   pub clock_is : IsClock t.terminal clock
   pub issued_is : issued ≡ length book.issued
 
-abbrev pub blank : OrderLine
+abbrev pub blank : LineOfOrders
 blank = record { plain = plain.blank; sent = None }
 
 -- a line of this number that was just opened
-abbrev pub first_order_line : ℕ → OrderLine
+abbrev pub first_order_line : ℕ → LineOfOrders
 first_order_line number = record { plain = first_line number; sent = None }
 
 -- the platform's ends of all lines are gone
-abbrev pub shut_order_lines : List OrderLine → List OrderLine
-shut_order_lines lines = map (λ (l : OrderLine). record l { plain = record l.plain { line = record l.plain.line { is_open = false } } }) lines
+abbrev pub shut_order_lines : List LineOfOrders → List LineOfOrders
+shut_order_lines lines = map (λ (l : LineOfOrders). record l { plain = record l.plain { line = record l.plain.line { is_open = false } } }) lines
 
 -- the places of the units that the terminal was told, newest first
-abbrev pub told_of : List Told → List ℕ
-told_of told = reverse (map (λ (t : Told). t.accepted + t.older) told)
+abbrev pub told_places : List Told → List ℕ
+told_places told = reverse (map (λ (t : Told). t.accepted + t.older) told)
 
 -- the unit in this place was told with so many before it, or none was, and then there is none in this place
 abbrev pub noted_at : List Told → ℕ → ℕ → List ℕ → List Told
@@ -178,14 +182,14 @@ pub record IsNewOrderTerminal (settings : Settings) (t : OrderTerminalValue Stoc
   pub ledger : IsLedgerOf [] t.ledger
 
 -- the newest of the lines is written these octets, if there is one
-abbrev pub wrote_on : OrderLine → List ℕ → OrderLine
+abbrev pub wrote_on : LineOfOrders → List ℕ → LineOfOrders
 wrote_on l octets = record l { plain = plain.wrote_on l.plain octets }
 
-abbrev pub last_of : List OrderLine → ℕ
+abbrev pub last_of : List LineOfOrders → ℕ
 last_of [] = 0
 last_of (l ∷ lines) = length lines
 
-abbrev pub wrote_last : List OrderLine → List ℕ → List OrderLine
+abbrev pub wrote_last : List LineOfOrders → List ℕ → List LineOfOrders
 wrote_last lines octets = set lines (last_of lines) (wrote_on (get_or lines (last_of lines) blank) octets)
 
 -- ---- one octet

@@ -21,10 +21,10 @@ use Rattle.jt_order.specs.declared.book.TheConstants.{ORDER_LIMIT}
 use Rattle.jt_order_turns.specs.Heard.{Heard, Ordered, Other, Nothing}
 use Rattle.jt_order_session.specs.Responses.{response_in}
 use Rattle.jt_order_session.specs.Sessions.{holds_phone, is_due, names_oldest}
-use Rattle.jt_octets.specs.World.{Line, Wire, completed_item, line_at, newest, newest_place}
-use Rattle.jt_play.specs.Playing.{behind_first, has_left, left_of, loaded_of, octets_moving, place_of, takes_first, way_at}
+use Rattle.jt_octets.specs.World.{Line, completed_item, line_at, newest, newest_place}
+use Rattle.jt_play.specs.Playing.{behind_first, has_left, loaded_of, octets_moving, place_of, takes_first, way_at}
 use Rattle.jt_order_octets.specs.World.{OrderWorld, first_read, sent_at}
-use Rattle.jt_order_octets.specs.Steps.{BookFails, Cut, Does, Down, Issues, Offers, RestartPlatform, Telling, Tells, TellsNothing, Up, after, heard_next}
+use Rattle.jt_order_octets.specs.Steps.{Cut, Does, Down, Issues, Offers, RestartPlatform, Telling, Tells, TellsNothing, Up, after, heard_next}
 use Rattle.jt_order_play.specs.declared.event.OrderEvent.{OrderEvent}
 use Rattle.jt_order_play.specs.declared.event.OrderEvent.TheVariants as line
 
@@ -109,18 +109,14 @@ abbrev pub result_in : Option ℕ → Book → Option Unplaced → Way → Optio
 result_in sent book (Some (Frame h octets)) (Goes (Some say.Accepted)) = result_named sent book h octets
 result_in sent book item way = None
 
--- the book is told of it, or fails
+-- the book is told of it
 abbrev pub told_by : Option ℕ → Telling
 told_by None = TellsNothing
 told_by (Some result) = Tells result
 
-abbrev pub failed_by : Option ℕ → Telling
-failed_by None = TellsNothing
-failed_by (Some result) = BookFails
-
 -- the result with which the next octet of the line in this place answers that order, if it does
-abbrev pub result_at : OrderWorld → ℕ → Way → Option ℕ
-result_at w place way = result_in (sent_at w place) (book_of w) (completed_item (line_at w.base.lines place).up) way
+abbrev pub result_of_next : OrderWorld → ℕ → Way → Option ℕ
+result_of_next w place way = result_in (sent_at w place) (book_of w) (completed_item (line_at w.base.lines place).up) way
 
 -- ---- offers
 
@@ -155,7 +151,7 @@ abbrev pub takes_octet : OrderWorld → ℕ → Option Session → OrderWorld
 takes_octet w place None = w
 takes_octet w place (Some s) =
     let way = way_at w.base place s (completed_item (line_at w.base.lines place).up) in
-    offers_at place (after w (Up place way (told_by (result_at w place way))))
+    offers_at place (after w (Up place way (told_by (result_of_next w place way))))
 
 abbrev pub takes_one : OrderWorld → ℕ → OrderWorld
 takes_one w place = closes place (takes_octet w place (line_at w.base.lines place).session)

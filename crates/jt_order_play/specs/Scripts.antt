@@ -19,7 +19,7 @@ pub record OrderScene : Type 0 where
   pub play : OrderPlay
   pub identity : Identity
 
--- steps lead to the world, and its terminal has the settings of 2013
+-- steps lead to the world, and the settings of 2013 are good and of a phone with its terminal's digits
 pub record IsOrderScene (p : OrderPlay) (identity : Identity) : Type 0 where
   pub reached : ∥ Reached p.world ∥₁
   pub good : AreSettings identity.e2013

@@ -11,7 +11,7 @@ ghost use Rattle.jt_octets.specs.Steps.{shut};
 ghost use Rattle.jt_play.specs.Holding.{is_short};
 ghost use Rattle.jt_play.specs.Playing.{has_left};
 ghost use Rattle.jt_order_octets.specs.World.{OrderWorld};
-ghost use Rattle.jt_order_play.specs.Holding.{OffersOne, StandsIn, TakesOne, first_order_line};
+ghost use Rattle.jt_order_play.specs.Holding.{OffersInWorld, StandsIn, TakesOne, first_order_line};
 ghost use Rattle.jt_order_play.specs.Playing.{goes_on};
 
 use jt_order::MemBook;
@@ -44,9 +44,9 @@ impl Model for Line {
     ghost use Rattle.std.specs.Coded.{codes};
     ghost use Rattle.jt_subpacket.specs.Stored.{partial_code};
     ghost use Rattle.jt_play.specs.Holding.{line_of};
-    ghost use Rattle.jt_order_play.specs.Holding.{IsOrderHeld, OrderLine};
+    ghost use Rattle.jt_order_play.specs.Holding.{IsOrderHeld, LineOfOrders};
 
-    ghost Value = { OrderLine };
+    ghost Value = { LineOfOrders };
 
     ghost coded = { Prim.hlevel (codes, partial_code) };
 
@@ -242,7 +242,7 @@ impl Line {
     pub(crate) fn offer(&mut self, hub: &Hub<MemKeeper>, book: &mut MemBook) -> bool
         requires { self.old.plain.line.is_open ≡ true }
         ensures offers { (w : OrderWorld) (place : ℕ) →
-            StandsIn w place self.old hub.now book.old.book → OffersOne w place self.new result }
+            StandsIn w place self.old hub.now book.old.book → OffersInWorld w place self.new result }
         ensures number { self.new.plain.number ≡ self.old.plain.number }
         ensures opened { self.new.plain.line.is_open ≡ true }
         ensures book { book.new.book ≡ book.old.book }

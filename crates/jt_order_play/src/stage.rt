@@ -80,14 +80,14 @@ impl Model for Stage {
     ghost use Rattle.jt_params.specs.contracts.table.ParamTable as params;
     ghost use Rattle.jt_regions.specs.contracts.region_table.RegionTable as regions;
     ghost use Rattle.jt_play.specs.Holding.{past_of};
-    ghost use Rattle.jt_order_play.specs.Holding.{IsStage, order_play_of, told_of};
+    ghost use Rattle.jt_order_play.specs.Holding.{IsStage, order_play_of, told_places};
     ghost use Rattle.jt_order_play.specs.Playing.{OrderPlay};
 
     ghost Value = { OrderPlay };
 
     ghost coded = { Prim.hlevel (codes, partial_code, params.the_row.coded, regions.the_row.coded) };
 
-    ghost view = { λ w. order_play_of w.terminal w.hub w.book.book w.lines.items (past_of w.past.items) (told_of w.told.items) w.clock };
+    ghost view = { λ w. order_play_of w.terminal w.hub w.book.book w.lines.items (past_of w.past.items) (told_places w.told.items) w.clock };
 
     ghost invariant = { λ w. IsStage w.terminal w.hears w.hub w.book.book w.issued w.lines.items w.clock };
 }
@@ -604,8 +604,8 @@ impl Stage {
         self.down(alloc, None)
     }
 
-    // The terminal is told the moment, and then octets move until none is left to move: whether all was done. Each round moves an
-    // octet, and no memory holds as many as there may be rounds.
+    // The terminal is told the moment, and then octets move until none is left to move: whether all was done. No memory holds as many
+    // octets as there may be rounds; that each round moves one is not proved.
     fn run(&mut self, alloc: Global) -> bool
         requires reached { ∥ Reached self.old.world ∥₁ }
         ensures leads { Leads self.old.world self.new.world }
@@ -850,7 +850,8 @@ impl Stage {
         Some(number - 1)
     }
 
-    /// A line of a script; false comes where it was cut short. The identity's settings of 2013 are the terminal's.
+    /// A line of a script; false comes where it was cut short. The identity's settings of 2013 are good, and of a phone with the
+    /// terminal's digits.
     pub(crate) fn step(
         &mut self,
         alloc: Global,

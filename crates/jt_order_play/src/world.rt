@@ -97,9 +97,9 @@ impl OrderWorld {
 
     /// A line of a script. After each answer the world is one to which steps lead. After Ok it is the one that the line defines.
     ///
-    /// NoLine comes exactly where the line that is named was not opened, and Full where as many orders as the limit were issued and
-    /// one is to be; the world is then as before. Memory comes where memory ran out, where as many lines were opened as have a number,
-    /// or where an octet would move yet behind 2^64 rounds; the line was then done in part.
+    /// NoLine comes exactly where the line that is named was not opened, and Full only where as many orders as the limit were issued
+    /// and one is to be; the world is then as before. Memory comes where memory ran out, where as many lines were opened as have a
+    /// number, or where an octet would move yet behind 2^64 - 1 rounds; of the world it is then said alone that steps lead to it.
     pub fn step(&mut self, alloc: Global, event: OrderEvent) -> Result<(), OrderWorldError>
         ensures leads { Leads self.old.play.world self.new.play.world }
         ensures identity { self.new.identity ≡ self.old.identity }

@@ -28,7 +28,7 @@ use Rattle.jt_order.specs.declared.rules.Ruling.TheVariants.{Again, Performs, Re
 use Rattle.jt_order_terminal.specs.Ledgers.{Ledger}
 use Rattle.jt_order_turns.specs.Heard.{Heard, Ordered, Other, heard_at, heard_in, heard_read}
 use Rattle.jt_order_terminal.specs.Terminals.{CommitsFirst, Done, by_ruling, does_at, does_at_items, does_nothing, log_with, then_done}
-use Rattle.jt_order_terminal.specs.Feeding.{HasBegun, HasDone, HasResponded, Sayings, Scene, scene}
+use Rattle.jt_order_terminal.specs.Feeding.{HasBegun, HasBegunAt, HasDone, HasResponded, Sayings, Scene, scene}
 use Rattle.jt_order_terminal.proofs.Committing.{log_same}
 
 -- ---- the log
@@ -58,10 +58,11 @@ done_then d f a b c end one two = record {
   end_is = two.end_is;
 }
 
-begun_then : (d f : Done) (a b : Scene) (held : Option Held) (log : Option (List Performed)) → HasDone d a b None → HasBegun f b.held held b.log log → HasBegun (then_done None d f) a.held held a.log log
-begun_then d f a b held log one two = record {
-  cut = cut_behind d.steps f.steps a.held b.held held one.held two.cut;
-  commits = commits_behind d.performed f.performed a.log b.log log one.log two.commits;
+begun_then : (d f : Done) (held mid held_now : Option Held) (log log_mid log_now : Option (List Performed)) → mid ≡ holds_after d.steps held → log_mid ≡ log_with d.performed log → HasBegun f mid held_now log_mid log_now
+    → HasBegun (then_done None d f) held held_now log log_now
+begun_then d f held mid held_now log log_mid log_now held_is log_is two = record {
+  cut = cut_behind d.steps f.steps held mid held_now held_is two.cut;
+  commits = commits_behind d.performed f.performed log log_mid log_now log_is two.commits;
 }
 
 pub nothing_done : (s : State) (l : Ledger) (held : Option Held) (log : Option (List Performed)) (said : Sayings) → HasDone (does_nothing s l) (scene s l held log said) (scene s l held log said) None
@@ -158,8 +159,29 @@ module _ (a b : Scene) (xs ys : List Unplaced) (one : HasDone (Does a xs) a b No
   pub items_then : (c : Scene) (end : Option GiveUp) → HasDone (Does b ys) b c end → HasDone (Does a (xs ++ ys)) a c end
   items_then c end two = subst (λ (d : Done). HasDone d a c end) (sym both) (done_then (Does a xs) (Does b ys) a b c end one two)
 
-  pub items_begun : (held : Option Held) (log : Option (List Performed)) → HasBegun (Does b ys) b.held held b.log log → HasBegun (Does a (xs ++ ys)) a.held held a.log log
-  items_begun held log two = subst (λ (d : Done). HasBegun d a.held held a.log log) (sym both) (begun_then (Does a xs) (Does b ys) a b held log one two)
+  pub items_end : (Does a (xs ++ ys)).end ≡ (Does b ys).end
+  items_end = ap (λ (d : Done). d.end) both
+
+  held_is : holds_after (Does a xs).steps a.held ≡ b.held
+  held_is = sym one.held
+
+  pub items_begun : (item : Unplaced) (held : Option Held) (log : Option (List Performed)) → HasBegunAt b ys item held log → HasBegunAt a (xs ++ ys) item held log
+  items_begun item held log two =
+      let d = Does b ys in
+      let steps : holds_after ((Does a xs).steps ++ d.steps) a.held ≡ holds_after d.steps b.held = holds_after-append (Does a xs).steps d.steps a.held ∙ ap (holds_after d.steps) held_is in
+      let performed : log_with ((Does a xs).performed ++ d.performed) a.log ≡ log_with d.performed b.log = log_append (Does a xs).performed d.performed a.log ∙ ap (log_with d.performed) (sym one.log) in
+      subst (λ (all : Done). HasBegun (does_at all.state all.ledger (heard_at item)) (holds_after all.steps a.held) held (log_with all.performed a.log) log) (sym both)
+      (subst (λ (h : Option Held). HasBegun (does_at d.state d.ledger (heard_at item)) h held (log_with ((Does a xs).performed ++ d.performed) a.log) log) (sym steps)
+      (subst (λ (l : Option (List Performed)). HasBegun (does_at d.state d.ledger (heard_at item)) (holds_after d.steps b.held) held l log) (sym performed) two))
+
+-- what was begun at the last item was begun of all
+pub begun_at_last : (a : Scene) (xs : List Unplaced) (x : Unplaced) (held : Option Held) (log : Option (List Performed)) → (Does a xs).end ≡ None → HasBegunAt a xs x held log
+    → HasBegun (Does a (xs ++ x ∷ [])) a.held held a.log log
+begun_at_last a xs x held log is begun =
+    let d = Does a xs in
+    subst (λ (all : Done). HasBegun all a.held held a.log log) (sym (does_more a.state a.ledger xs (x ∷ []) is))
+    (begun_then d (does_at_items d.state d.ledger (x ∷ [])) a.held (holds_after d.steps a.held) held a.log (log_with d.performed a.log) log refl refl
+    (subst (λ (one : Done). HasBegun one (holds_after d.steps a.held) held (log_with d.performed a.log) log) (sym (does_one d.state d.ledger x)) begun))
 
 -- ---- a front that was begun
 

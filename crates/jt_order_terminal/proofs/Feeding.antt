@@ -7,9 +7,9 @@ use Rattle.jt_terminal_rule.specs.declared.state.GiveUp.{GiveUp}
 use Rattle.jt_terminal_steps.specs.Running.{CutShort, holds_after}
 use Rattle.jt_order.specs.declared.performed.Performed.{Performed}
 use Rattle.jt_order_terminal.specs.Ledgers.{Ledger}
-use Rattle.jt_order_terminal.specs.Terminals.{CommitsFirst, Done, StandsForLine, does_at_octets, log_with}
+use Rattle.jt_order_terminal.specs.Terminals.{CommitsFirst, Done, FailsAt, StandsForLine, does_at_octets, items_behind, log_with}
 use Rattle.jt_order_terminal.specs.Feeding.{HasBegun, HasDone, HasFedFront, Sayings, Scene, WasCut}
-use Rattle.jt_order_terminal.proofs.Items.{HasFront, fed_begun, fed_done}
+use Rattle.jt_order_terminal.proofs.Items.{HasFront, fed_begun, fed_done, fed_fails}
 
 -- what is known of a terminal once all of this was done
 abbrev pub IsAt : Done → State → Ledger → Option Held → Option Held → Option (List Performed) → Option (List Performed) → Type 0
@@ -34,6 +34,9 @@ module _ (up : Bool) (stream now : Splitting) (a b : Scene) (octets : List ℕ) 
 module _ (up : Bool) (stream now : Splitting) (a : Scene) (held : Option Held) (log : Option (List Performed)) (octets : List ℕ) (is_up : up ≡ true) (cut : WasCut stream now a held log octets) (has_front : HasFront) (seen : List ℕ) (stands : StandsForLine stream seen) where
   begun : HasBegun (does_at_octets up a.state a.ledger seen octets) a.held held a.log log
   begun = subst (λ (u : Bool). HasBegun (does_at_octets u a.state a.ledger seen octets) a.held held a.log log) (sym is_up) (fed_begun stream now a held log octets cut has_front seen stands)
+
+  pub fails_at : (held_now : Option Held) → held_now ≡ held → FailsAt a.state a.ledger (items_behind seen octets) a.held held_now a.log log
+  fails_at held_now same = subst (λ (h : Option Held). FailsAt a.state a.ledger (items_behind seen octets) a.held h a.log log) (sym same) (fed_fails stream now a held log octets cut has_front seen stands)
 
   pub cut_commits : CommitsFirst (does_at_octets up a.state a.ledger seen octets).performed a.log log
   cut_commits = begun.commits

@@ -16,9 +16,10 @@ use Rattle.jt_terminal_rule.specs.declared.state.GiveUp.{GiveUp}
 use Rattle.jt_terminal.specs.Feeding.{Brings}
 use Rattle.jt_order.specs.declared.performed.Performed.{Performed}
 use Rattle.jt_order_turns.specs.Heard.{heard_at}
-use Rattle.jt_order_terminal.specs.Terminals.{Done, StandsForLine, does_at, does_at_items, does_at_octets}
+use Rattle.jt_order_terminal.specs.Terminals.{Done, FailsAt, StandsForLine, does_at, does_at_items, does_at_octets, items_behind}
 use Rattle.jt_order_terminal.specs.Feeding.{HasBegun, HasDone, HasFed, HasFedFront, Scene, WasCut}
-use Rattle.jt_order_terminal.proofs.Doing.{begun_of_front, does_ended, does_one, items_begun, items_then}
+use Rattle.jt_order_terminal.proofs.Committing.{log_same}
+use Rattle.jt_order_terminal.proofs.Doing.{begun_at_last, begun_of_front, does_ended, does_one, items_begun, items_end, items_then}
 
 -- ---- what octets bring
 
@@ -82,9 +83,11 @@ cut_frame s now a held log octets front back item parts brings begun = record {
   front = front;
   back = back;
   parts = parts;
-  gone = item ∷ [];
+  gone = [];
+  last = item;
   brings = brings;
-  begun = subst (λ (d : Done). HasBegun d a.held held a.log log) (sym (does_one a.state a.ledger item)) begun;
+  goes_on = refl;
+  begun = subst (λ (l : Option (List Performed)). HasBegun (does_at a.state a.ledger (heard_at item)) a.held held l log) (sym (log_same a.log)) begun;
 }
 
 -- ---- octets behind octets
@@ -103,8 +106,12 @@ cut_then s mid now a b held log octets front rest parts are one cut = record {
   back = cut.back;
   parts = parts ∙ (ap (λ (o : List ℕ). front ++ o) cut.parts ∙ sym (append_assoc front cut.front cut.back));
   gone = one.gone ++ cut.gone;
-  brings = brings_then s mid now front cut.front one.gone cut.gone are one.brings cut.brings;
-  begun = items_begun a b one.gone cut.gone one.did held log cut.begun;
+  last = cut.last;
+  brings =
+      subst (Brings s now (front ++ cut.front)) (sym (append_assoc one.gone cut.gone (cut.last ∷ [])))
+      (brings_then s mid now front cut.front one.gone (cut.gone ++ cut.last ∷ []) are one.brings cut.brings);
+  goes_on = items_end a b one.gone cut.gone one.did ∙ cut.goes_on;
+  begun = items_begun a b one.gone cut.gone one.did cut.last held log cut.begun;
 }
 
 pub fed_nothing : (s : Splitting) (a : Scene) → HasDone (does_at_items a.state a.ledger []) a a None → HasFed s s a a [] None
@@ -146,12 +153,8 @@ none_left : {A : Type 0} (xs ys : List A) → xs ++ ys ≡ xs → ys ≡ []
 none_left [] ys e = e
 none_left (x ∷ xs) ys e = none_left xs ys (let rest : xs ++ ys ≡ xs = cc in rest)
 
--- the items that octets bring behind others
-abbrev new_items : List ℕ → List ℕ → List Unplaced
-new_items seen octets = drop (length (items seen)) (items (seen ++ octets))
-
 new_are : HasFront → (s now : Splitting) (seen octets front back : List ℕ) (gone : List Unplaced) → octets ≡ front ++ back → StandsForLine s seen → Brings s now front gone
-    → (more : List Unplaced) × (new_items seen octets ≡ gone ++ more)
+    → (more : List Unplaced) × (items_behind seen octets ≡ gone ++ more)
 new_are has_front s now seen octets front back gone parts stands brings =
     let more = has_front (seen ++ front) back in
     let whole : items (seen ++ octets) ≡ items seen ++ (gone ++ more.0) =
@@ -165,7 +168,7 @@ ended_or_whole a b gone more end None did is none = ap (λ (l : List Unplaced). 
 ended_or_whole a b gone more end (Some cause) did is none = does_ended a.state a.ledger gone more cause (sym did.end_is ∙ is)
 
 module _ (s now : Splitting) (a b : Scene) (octets : List ℕ) (end : Option GiveUp) (f : HasFedFront s now a b octets end) (has_front : HasFront) (seen : List ℕ) (stands : StandsForLine s seen) where
-  behind : (more : List Unplaced) × (new_items seen octets ≡ f.fed.gone ++ more)
+  behind : (more : List Unplaced) × (items_behind seen octets ≡ f.fed.gone ++ more)
   behind = new_are has_front s now seen octets f.front f.back f.fed.gone f.parts stands f.fed.brings
 
   same_octets : f.back ≡ [] → octets ≡ f.front
@@ -173,8 +176,8 @@ module _ (s now : Splitting) (a b : Scene) (octets : List ℕ) (end : Option Giv
 
   nothing_behind : f.back ≡ [] → behind.0 ≡ []
   nothing_behind none =
-      let whole : new_items seen octets ≡ f.fed.gone =
-      ap (new_items seen) (same_octets none) ∙ (ap (drop (length (items seen))) (f.fed.brings seen stands.octets stands.stream_is).0 ∙ drop_front (items seen) f.fed.gone) in
+      let whole : items_behind seen octets ≡ f.fed.gone =
+      ap (items_behind seen) (same_octets none) ∙ (ap (drop (length (items seen))) (f.fed.brings seen stands.octets stands.stream_is).0 ∙ drop_front (items seen) f.fed.gone) in
       none_left f.fed.gone behind.0 (sym behind.1 ∙ whole)
 
   pub fed_done : HasDone (does_at_octets true a.state a.ledger seen octets) a b end
@@ -190,5 +193,21 @@ module _ (s now : Splitting) (a b : Scene) (octets : List ℕ) (end : Option Giv
 pub fed_begun : (s now : Splitting) (a : Scene) (held : Option Held) (log : Option (List Performed)) (octets : List ℕ) → WasCut s now a held log octets → HasFront → (seen : List ℕ) → StandsForLine s seen
     → HasBegun (does_at_octets true a.state a.ledger seen octets) a.held held a.log log
 fed_begun s now a held log octets cut has_front seen stands =
-    let more = new_are has_front s now seen octets cut.front cut.back cut.gone cut.parts stands cut.brings in
-    subst (λ (d : Done). HasBegun d a.held held a.log log) (sym (ap (does_at_items a.state a.ledger) more.1)) (begun_of_front a.state a.ledger cut.gone more.0 a.held held a.log log cut.begun)
+    let items : List Unplaced = cut.gone ++ cut.last ∷ [] in
+    let more = new_are has_front s now seen octets cut.front cut.back items cut.parts stands cut.brings in
+    subst (λ (d : Done). HasBegun d a.held held a.log log) (sym (ap (does_at_items a.state a.ledger) more.1))
+    (begun_of_front a.state a.ledger items more.0 a.held held a.log log (begun_at_last a cut.gone cut.last held log cut.goes_on cut.begun))
+
+pub fed_fails : (s now : Splitting) (a : Scene) (held : Option Held) (log : Option (List Performed)) (octets : List ℕ) → WasCut s now a held log octets → HasFront → (seen : List ℕ) → StandsForLine s seen
+    → FailsAt a.state a.ledger (items_behind seen octets) a.held held a.log log
+fed_fails s now a held log octets cut has_front seen stands =
+    let more = new_are has_front s now seen octets cut.front cut.back (cut.gone ++ cut.last ∷ []) cut.parts stands cut.brings in
+    record {
+      before = cut.gone;
+      item = cut.last;
+      behind = more.0;
+      parts = more.1 ∙ append_assoc cut.gone (cut.last ∷ []) more.0;
+      goes_on = cut.goes_on;
+      cut = cut.begun.cut;
+      commits = cut.begun.commits;
+    }

@@ -1,5 +1,5 @@
 -- What the calls under an order terminal's `feed` did. For the proofs.
-use Rattle.std.specs.Prelude.{◌≡◌, ℕ, List, [], ◌++◌, Bool, false, Option, None}
+use Rattle.std.specs.Prelude.{◌≡◌, ℕ, List, [], ◌∷◌, ◌++◌, Bool, false, Option, None}
 use Rattle.jt_escape.specs.Scan.{State as Splitting}
 use Rattle.jt_stream.specs.Unplaced.{Unplaced}
 use Rattle.jt_store.specs.Tables.{WhereKnown}
@@ -10,7 +10,8 @@ use Rattle.jt_terminal_steps.specs.Running.{CutShort, IsSound, holds_after}
 use Rattle.jt_terminal.specs.Feeding.{Brings}
 use Rattle.jt_order.specs.declared.performed.Performed.{Performed}
 use Rattle.jt_order_terminal.specs.Ledgers.{IsLedgerOf, Ledger}
-use Rattle.jt_order_terminal.specs.Terminals.{CommitsFirst, Done, does_at_items, log_with}
+use Rattle.jt_order_turns.specs.Heard.{heard_at}
+use Rattle.jt_order_terminal.specs.Terminals.{CommitsFirst, Done, does_at, does_at_items, log_with}
 
 -- what is to be sent so far, and the acceptances that were told
 pub record Sayings : Type 0 where
@@ -71,14 +72,22 @@ pub record HasFedFront (stream stream_now : Splitting) (old now : Scene) (octets
   pub whole : end ≡ None → back ≡ []
   pub fed : HasFed stream stream_now old now front end
 
--- some first octets were fed, and what is done at their items was begun
+-- what is done at an item behind these was begun
+abbrev pub HasBegunAt : Scene → List Unplaced → Unplaced → Option Held → Option (List Performed) → Type 0
+HasBegunAt old gone item held_now log_now =
+    let done = does_at_items old.state old.ledger gone in
+    HasBegun (does_at done.state done.ledger (heard_at item)) (holds_after done.steps old.held) held_now (log_with done.performed old.log) log_now
+
+-- some first octets were fed, all was done at their items but the last, and what is done at that was begun
 pub record WasCut (stream stream_now : Splitting) (old : Scene) (held_now : Option Held) (log_now : Option (List Performed)) (octets : List ℕ) : Type 0 where
   pub front : List ℕ
   pub back : List ℕ
   pub parts : octets ≡ front ++ back
   pub gone : List Unplaced
-  pub brings : Brings stream stream_now front gone
-  pub begun : HasBegun (does_at_items old.state old.ledger gone) old.held held_now old.log log_now
+  pub last : Unplaced
+  pub brings : Brings stream stream_now front (gone ++ last ∷ [])
+  pub goes_on : (does_at_items old.state old.ledger gone).end ≡ None
+  pub begun : HasBegunAt old gone last held_now log_now
 
 -- what a vault or a log says beside what it holds, while nothing failed
 pub record IsSteadySoFar (faults faults_now : ℕ) (may may_now : Bool) : Type 0 where

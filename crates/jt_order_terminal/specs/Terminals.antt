@@ -15,7 +15,8 @@ use Rattle.jt_terminal_rule.specs.declared.state.GiveUp.{GiveUp}
 use Rattle.jt_terminal_rule.specs.declared.state.Event.{Event}
 use Rattle.jt_terminal_rule.specs.declared.state.Event.TheVariants.{Received}
 use Rattle.jt_terminal_rule.specs.Rule as rule
-use Rattle.jt_terminal_steps.specs.Running.{TerminalValue}
+use Rattle.jt_store.specs.Vaults.{Held}
+use Rattle.jt_terminal_steps.specs.Running.{CutShort, TerminalValue, holds_after}
 use Rattle.jt_order_terminal.specs.declared.fault.OrderFault.{OrderFault}
 use Rattle.jt_terminal_answers.specs.Performing.{message_outcome}
 use Rattle.jt_order.specs.Rules.{ruling_by}
@@ -112,9 +113,13 @@ does_at_items s l (item ∷ more) =
     let done = does_at s l (heard_at item) in
     then_done done.end done (does_at_items done.state done.ledger more)
 
+-- the items that octets complete which come behind others on the same line
+abbrev pub items_behind : List ℕ → List ℕ → List Unplaced
+items_behind seen octets = drop (length (items seen)) (items (seen ++ octets))
+
 -- at octets that come behind others on the same line; while no line is in use, nothing
 abbrev pub does_at_octets : Bool → State → Ledger → List ℕ → List ℕ → Done
-does_at_octets true s l seen octets = does_at_items s l (drop (length (items seen)) (items (seen ++ octets)))
+does_at_octets true s l seen octets = does_at_items s l (items_behind seen octets)
 does_at_octets false s l seen octets = does_nothing s l
 
 -- ---- what was done
@@ -130,6 +135,17 @@ pub record CommitsFirst (all : List Performed) (log log_now : Option (List Perfo
   pub left : List Performed
   pub parts : all ≡ gained ++ left
   pub held : log_now ≡ log_with gained log
+
+-- A call failed at one of these items: all before it were done whole, and the line was not given up at them; of it some first changes and orders
+-- were committed, perhaps none and perhaps all; and nothing was done at those behind it.
+pub record FailsAt (s : State) (l : Ledger) (all : List Unplaced) (held held_now : Option Held) (log log_now : Option (List Performed)) : Type 0 where
+  pub before : List Unplaced
+  pub item : Unplaced
+  pub behind : List Unplaced
+  pub parts : all ≡ before ++ item ∷ behind
+  pub goes_on : (does_at_items s l before).end ≡ None
+  pub cut : let done = does_at_items s l before in CutShort (does_at done.state done.ledger (heard_at item)).steps (holds_after done.steps held) held_now
+  pub commits : let done = does_at_items s l before in CommitsFirst (does_at done.state done.ledger (heard_at item)).performed (log_with done.performed log) log_now
 
 -- What a call says of a vault or a log, of which this is the fault: its count of faults never falls, the fault comes only where the count rose,
 -- and every other answer, so Memory too, only where it stood still; and where no call may fail, none may later, and the fault does not come.

@@ -13,7 +13,7 @@ ghost use Rattle.jt_terminal_steps.specs.AfterError.{AreSameParams, AreSameTable
 ghost use Rattle.jt_terminal_steps.specs.Running.{CutShort, IsDown, IsEvent, IsRefused, IsSame, IsSound, IsStarted, holds_after, time_after};
 ghost use Rattle.jt_order_terminal.specs.Ledgers.{IsLedgerOf};
 ghost use Rattle.jt_order_terminal.specs.declared.fault.OrderFault.TheVariants as faults;
-ghost use Rattle.jt_order_terminal.specs.Terminals.{CommitsFirst, HasEitherCause, HasFaultCause, IsNoMessage, StandsForLine, does_at_octets, log_with};
+ghost use Rattle.jt_order_terminal.specs.Terminals.{CommitsFirst, FailsAt, HasEitherCause, HasFaultCause, IsNoMessage, StandsForLine, does_at_octets, items_behind, log_with};
 
 use crate::fault::{OrderFault, fault_of};
 use crate::hearing::hear;
@@ -130,12 +130,12 @@ impl<V: Vault, G: OrderLog> OrderTerminal<V, G> {
     }
 
     /// Hands the terminal the next octets of its line: it responds to orders by the three rules, hears the other messages, and
-    /// passes over packets and refused bodies, in order, over all octets or up to the message at which it gives up. A result is
-    /// committed before its response is written. While no line is in use, octets change nothing.
+    /// passes over packets and refused bodies, in order, over all octets or up to the message at which it gives up. An order whose
+    /// response is among the frames stands in the log. While no line is in use, octets change nothing.
     ///
-    /// Vault and Log come only where that count of faults rose in the call, and Memory only where both stood still. After an
-    /// error the terminal is as after Lost, over what vault and log committed, and agrees with its vault. Times and parameters
-    /// of the wrapped terminal stay.
+    /// Vault and Log come only where that count of faults rose in the call, and Memory only where both stood still. An error comes
+    /// at one item: those before it were done whole, and nothing was done at those behind it. After an error the terminal is as
+    /// after Lost, over what vault and log committed, and agrees with its vault. Times and parameters of the wrapped terminal stay.
     pub fn feed(&mut self, octets: &[u8]) -> Result<Actions, OrderFault>
         requires short { self.old.stream.place + length octets.now < 2 ^ 63 }
         ensures state { (seen : List ℕ) → StandsForLine self.old.stream seen → let done =
@@ -155,6 +155,10 @@ impl<V: Vault, G: OrderLog> OrderTerminal<V, G> {
             is_up self.old.terminal.state.phase ≡ true → IfOk result (λ actions.
             actions.end ≡ None → StandsForLine self.new.stream (seen ++ octets.now)) }
         ensures place { self.new.stream.place ≤ self.old.stream.place + length octets.now }
+        ensures fails { (seen : List ℕ) → StandsForLine self.old.stream seen → OnErr result
+            (FailsAt self.old.terminal.state self.old.ledger (items_behind seen octets.now)
+            (V.holds self.old.terminal.vault) (V.holds self.new.terminal.vault)
+            (G.holds self.old.log) (G.holds self.new.log)) }
         // Behind a fault the log has some first ones of the orders that were to be performed, and no line is in use.
         ensures commits { (seen : List ℕ) → StandsForLine self.old.stream seen → let done =
             does_at_octets (is_up self.old.terminal.state.phase) self.old.terminal.state

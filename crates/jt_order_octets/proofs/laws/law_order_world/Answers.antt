@@ -1,4 +1,4 @@
-use Rattle.jt_order_octets.proofs.Kept.{obeyed, none_refused, each_issued, history_of, in_turn, items_of, one_unanswered}
+use Rattle.jt_order_octets.proofs.Kept.{obeyed, none_refused, each_issued, history_of, in_turn, items_of, at_most_one_ahead}
 use Rattle.jt_order_octets.proofs.laws.law_order_world.Goals as goal
 
 pub returns-clause-obeyed : goal.returns-clause-obeyed
@@ -38,7 +38,7 @@ returns-clause-in_turn c = in_turn (record {
 })
 
 pub returns-clause-one : goal.returns-clause-one
-returns-clause-one c = one_unanswered (record {
+returns-clause-one c = at_most_one_ahead (record {
   keep = c.law_events.ensures;
   streams = record { front = c.law_front.ensures.unplaced; one = c.law_one_octet.ensures; frames = c.law_frames-2.ensures.frames; message = c.law_frames-2.ensures.message; long = c.law_of_contents.ensures.len };
   fixes = c.law_fixes.ensures;

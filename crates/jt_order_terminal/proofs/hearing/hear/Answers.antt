@@ -2,7 +2,7 @@ use Rattle.std.proofs.Common.{◌+◌, ◌-◌, ◌∙◌, None, Ok, length, ref
 use Rattle.jt_terminal_steps.proofs.Chaining.{any_err}
 use Rattle.jt_order_terminal.specs.declared.fault.OrderFault.TheVariants as faults
 use Rattle.jt_order_terminal.specs.Feeding.{HasFed, scene}
-use Rattle.jt_order_terminal.proofs.Causes.{steady_at_first, steady_on}
+use Rattle.jt_order_terminal.proofs.Causes.{failed_on, steady_at_first, steady_on}
 use Rattle.jt_order_terminal.proofs.Doing.{nothing_done, params_on, same_on, same_params, same_state}
 use Rattle.jt_order_terminal.proofs.Items.{cut_more, fed_more, fed_nothing, front_given_up, front_whole}
 use Rattle.jt_order_terminal.proofs.hearing.hear.Goals as goal
@@ -65,3 +65,11 @@ returns-clause-ok g c =
     let old = scene c.args.terminal.now.state c.args.ledger.now (g.V.Vault.holds c.args.terminal.now.vault) (g.G.OrderLog.holds c.args.log.now) c.args.said.now in
     let mid = scene c.loop-taken.terminal.state c.loop-taken.ledger (g.V.Vault.holds c.loop-taken.terminal.vault) (g.G.OrderLog.holds c.loop-taken.log) c.loop-taken.said in
     front_whole c.args.stream.now.splitter c.loop-taken.stream.splitter old mid c.args.octets.now c.loop-taken.taken (omega (arith, c.loop-taken-test.false)) c.loop-taken.invariant.fed
+
+pub returns-in_err-count-clause-vault_cause : goal.returns-in_err-count-clause-vault_cause
+returns-in_err-count-clause-vault_cause g c =
+    failed_on faults.Vault (g.V.Vault.faults c.args.terminal.now.vault) (g.V.Vault.faults c.loop-taken.terminal.vault) (g.V.Vault.faults c.hear_item.new.terminal.vault) (g.V.Vault.may_fail c.args.terminal.now.vault) (g.V.Vault.may_fail c.loop-taken.terminal.vault) (g.V.Vault.may_fail c.hear_item.new.terminal.vault) c.in_err-count.field-0.0 c.from_residual.result c.from_residual.ensures.1 c.loop-taken.invariant.vault_steady c.in_err-count.ensures.vault_cause
+
+pub returns-in_err-count-clause-log_cause : goal.returns-in_err-count-clause-log_cause
+returns-in_err-count-clause-log_cause g c =
+    failed_on faults.Log (g.G.OrderLog.faults c.args.log.now) (g.G.OrderLog.faults c.loop-taken.log) (g.G.OrderLog.faults c.hear_item.new.log) (g.G.OrderLog.may_fail c.args.log.now) (g.G.OrderLog.may_fail c.loop-taken.log) (g.G.OrderLog.may_fail c.hear_item.new.log) c.in_err-count.field-0.0 c.from_residual.result c.from_residual.ensures.1 c.loop-taken.invariant.log_steady c.in_err-count.ensures.log_cause

@@ -7,7 +7,7 @@ use Rattle.jt_play.specs.Holding.{IsMoment, past_of}
 use Rattle.jt_play.proofs.Acting.{down_is, ok_of}
 use Rattle.jt_play.proofs.Noting.{moment_after}
 use Rattle.jt_order_octets.specs.Reaching.{Leads}
-use Rattle.jt_order_play.specs.Holding.{IsStage, OrderLine, order_play_of, told_of, wrote_last}
+use Rattle.jt_order_play.specs.Holding.{IsStage, LineOfOrders, order_play_of, told_places, wrote_last}
 use Rattle.jt_order_play.specs.Playing.{OrderPlay, meets}
 use Rattle.jt_order_play.proofs.Acting.{apart_of, cut_acted, meets_leads, still_stage, whole_acted, wrote_stage}
 use Rattle.jt_order_play.proofs.stage.Stage.act.Goals as goal
@@ -15,7 +15,7 @@ use Rattle.jt_order_play.proofs.stage.Stage.act.Goals as goal
 pub returns-then-send-clause-whole : goal.returns-then-send-clause-whole
 returns-then-send-clause-whole c done =
     let s = c.self.inside in
-    whole_acted s.terminal s.hears s.hub s.book.book s.issued s.lines.items (past_of s.past.items) (told_of s.told.items) s.clock c.self.invariant c.args.event c.requires.silent c.requires.no_message c.event.new.self c.event.ensures.settings c.event.ensures.log.0 c.event.ensures.log.1
+    whole_acted s.terminal s.hears s.hub s.book.book s.issued s.lines.items (past_of s.past.items) (told_places s.told.items) s.clock c.self.invariant c.args.event c.requires.silent c.requires.no_message c.event.new.self c.event.ensures.settings c.event.ensures.log.0 c.event.ensures.log.1
     c.law_rule.ensures.steps c.requires.other c.send.new.lines.items c.in-Ok.ensures.state c.in-Ok.ensures.vault
     (c.send.ensures.sent c.if-send.true ∙ ap (λ frames. wrote_last s.lines.items (flat_map (λ frame. frame) frames)) (c.as_slice.ensures ∙ c.in-Ok.ensures.frames))
     ∙ ap (λ (p : OrderPlay). meets p c.args.event) c.self.view_is
@@ -25,16 +25,16 @@ returns-then-send-clause-leads c =
     let s = c.self.inside in
     subst (λ (p : OrderPlay). Leads c.args.self.now.world p.world) (sym (returns-then-send-clause-whole c refl))
     (subst (λ (p : OrderPlay). Leads p.world (meets p c.args.event).world) c.self.view_is
-    (meets_leads s.terminal s.hears s.hub s.book.book s.issued s.lines.items (past_of s.past.items) (told_of s.told.items) s.clock c.self.invariant c.args.event c.requires.silent c.requires.no_message c.event.new.self c.event.ensures.settings c.event.ensures.log.0 c.event.ensures.log.1
+    (meets_leads s.terminal s.hears s.hub s.book.book s.issued s.lines.items (past_of s.past.items) (told_places s.told.items) s.clock c.self.invariant c.args.event c.requires.silent c.requires.no_message c.event.new.self c.event.ensures.settings c.event.ensures.log.0 c.event.ensures.log.1
     c.law_rule.ensures.steps c.requires.other))
 
 pub returns-in-Ok-event-clause-leads : goal.returns-in-Ok-event-clause-leads
 returns-in-Ok-event-clause-leads c =
     let s = c.self.inside in
     let ok = c.event-in-Ok.ensures.lost refl in
-    subst (λ (ls : List OrderLine). Leads c.args.self.now.world (order_play_of c.event-in-Ok.new.self s.hub s.book.book ls (past_of s.past.items) (told_of s.told.items) s.clock).world) (sym (c.send.ensures.unsent c.if-send.false))
-    (subst (λ (p : OrderPlay). Leads p.world (order_play_of c.event-in-Ok.new.self s.hub s.book.book s.lines.items (past_of s.past.items) (told_of s.told.items) s.clock).world) c.self.view_is
-    (cut_acted s.terminal s.hears s.hub s.book.book s.issued s.lines.items (past_of s.past.items) (told_of s.told.items) s.clock c.self.invariant c.args.event c.requires.silent c.requires.no_message c.event-in-Ok.new.self (c.event-in-Ok.ensures.settings ∙ c.event.ensures.settings)
+    subst (λ (ls : List LineOfOrders). Leads c.args.self.now.world (order_play_of c.event-in-Ok.new.self s.hub s.book.book ls (past_of s.past.items) (told_places s.told.items) s.clock).world) (sym (c.send.ensures.unsent c.if-send.false))
+    (subst (λ (p : OrderPlay). Leads p.world (order_play_of c.event-in-Ok.new.self s.hub s.book.book s.lines.items (past_of s.past.items) (told_places s.told.items) s.clock).world) c.self.view_is
+    (cut_acted s.terminal s.hears s.hub s.book.book s.issued s.lines.items (past_of s.past.items) (told_places s.told.items) s.clock c.self.invariant c.args.event c.requires.silent c.requires.no_message c.event-in-Ok.new.self (c.event-in-Ok.ensures.settings ∙ c.event.ensures.settings)
     (c.event-in-Ok.ensures.log.0 ∙ c.event.ensures.log.0) (c.event-in-Ok.ensures.log.1 ∙ c.event.ensures.log.1) c.law_rule.ensures.cut
     (rule s.terminal.terminal.state c.args.event).steps [] (sym (append-nil (rule s.terminal.terminal.state c.args.event).steps)) (ok_of c.event-in-Ok.result ok c.event-in-Ok.ensures.vault ∙ c.in-Ok.ensures.vault)
     (down_is c.event.new.self.terminal.state c.event-in-Ok.new.self.terminal.state (ok_of c.event-in-Ok.result ok c.event-in-Ok.ensures.state))))
@@ -43,15 +43,15 @@ pub returns-clause-leads : goal.returns-clause-leads
 returns-clause-leads c =
     let s = c.self.inside in
     let short = c.in-Err.ensures.cut in
-    subst (λ (p : OrderPlay). Leads p.world (order_play_of c.event.new.self s.hub s.book.book s.lines.items (past_of s.past.items) (told_of s.told.items) s.clock).world) c.self.view_is
-    (cut_acted s.terminal s.hears s.hub s.book.book s.issued s.lines.items (past_of s.past.items) (told_of s.told.items) s.clock c.self.invariant c.args.event c.requires.silent c.requires.no_message c.event.new.self c.event.ensures.settings c.event.ensures.log.0 c.event.ensures.log.1
+    subst (λ (p : OrderPlay). Leads p.world (order_play_of c.event.new.self s.hub s.book.book s.lines.items (past_of s.past.items) (told_places s.told.items) s.clock).world) c.self.view_is
+    (cut_acted s.terminal s.hears s.hub s.book.book s.issued s.lines.items (past_of s.past.items) (told_places s.told.items) s.clock c.self.invariant c.args.event c.requires.silent c.requires.no_message c.event.new.self c.event.ensures.settings c.event.ensures.log.0 c.event.ensures.log.1
     c.law_rule.ensures.cut short.done short.left short.parts short.held c.in-Err.ensures.down)
 
 pub invariant_of-self : goal.invariant_of-self
 invariant_of-self c =
     let s = c.self.inside in
-    subst (λ (ls : List OrderLine). IsStage c.event.new.self s.hears s.hub s.book.book s.issued ls s.clock) (sym (c.send.ensures.sent c.if-send.true))
-    (wrote_stage s.terminal s.hears s.hub s.book.book s.issued s.lines.items (past_of s.past.items) (told_of s.told.items) s.clock c.self.invariant c.args.event c.requires.silent c.requires.no_message c.event.new.self c.event.ensures.settings c.event.ensures.log.0 c.event.ensures.log.1
+    subst (λ (ls : List LineOfOrders). IsStage c.event.new.self s.hears s.hub s.book.book s.issued ls s.clock) (sym (c.send.ensures.sent c.if-send.true))
+    (wrote_stage s.terminal s.hears s.hub s.book.book s.issued s.lines.items (past_of s.past.items) (told_places s.told.items) s.clock c.self.invariant c.args.event c.requires.silent c.requires.no_message c.event.new.self c.event.ensures.settings c.event.ensures.log.0 c.event.ensures.log.1
     c.event.ensures.sound c.event.ensures.limit (c.event.ensures.same (apart_of c.args.event c.requires.other))
     (record { late = subst (λ (n : ℕ). n ≤ s.clock) (sym c.event.ensures.time) (moment_after s.terminal.terminal.state s.clock c.args.event (subst (λ (p : OrderPlay). IsMoment p.clock c.args.event) (sym c.self.view_is) c.requires.moment) c.self.invariant.clock_is.late); small = c.self.invariant.clock_is.small })
     (flat_map (λ frame. frame) c.as_slice.result.now))
@@ -59,8 +59,8 @@ invariant_of-self c =
 pub invariant_of-self-in-Ok-event : goal.invariant_of-self-in-Ok-event
 invariant_of-self-in-Ok-event c =
     let s = c.self.inside in
-    subst (λ (ls : List OrderLine). IsStage c.event-in-Ok.new.self s.hears s.hub s.book.book s.issued ls s.clock) (sym (c.send.ensures.unsent c.if-send.false))
-    (still_stage s.terminal s.hears s.hub s.book.book s.issued s.lines.items (past_of s.past.items) (told_of s.told.items) s.clock c.self.invariant c.args.event c.requires.silent c.requires.no_message c.event-in-Ok.new.self (c.event-in-Ok.ensures.settings ∙ c.event.ensures.settings)
+    subst (λ (ls : List LineOfOrders). IsStage c.event-in-Ok.new.self s.hears s.hub s.book.book s.issued ls s.clock) (sym (c.send.ensures.unsent c.if-send.false))
+    (still_stage s.terminal s.hears s.hub s.book.book s.issued s.lines.items (past_of s.past.items) (told_places s.told.items) s.clock c.self.invariant c.args.event c.requires.silent c.requires.no_message c.event-in-Ok.new.self (c.event-in-Ok.ensures.settings ∙ c.event.ensures.settings)
     (c.event-in-Ok.ensures.log.0 ∙ c.event.ensures.log.0) (c.event-in-Ok.ensures.log.1 ∙ c.event.ensures.log.1)
     c.event-in-Ok.ensures.sound (c.event-in-Ok.ensures.limit ∙ c.event.ensures.limit) (c.event-in-Ok.ensures.same (apart_of Lost tt) ∙ c.event.ensures.same (apart_of c.args.event c.requires.other))
     (record { late = subst (λ (n : ℕ). n ≤ s.clock) (sym (c.event-in-Ok.ensures.time ∙ c.event.ensures.time)) (moment_after s.terminal.terminal.state s.clock c.args.event (subst (λ (p : OrderPlay). IsMoment p.clock c.args.event) (sym c.self.view_is) c.requires.moment) c.self.invariant.clock_is.late); small = c.self.invariant.clock_is.small }))

@@ -2,7 +2,7 @@ use Rattle.std.proofs.Common.{◌≡◌, true, false, sym, ◌∙◌, subst, set
 use Rattle.jt_octets.specs.World.{Line}
 use Rattle.jt_order_octets.specs.Reaching.{Leads}
 use Rattle.jt_play.specs.Holding.{past_of}
-use Rattle.jt_order_play.specs.Holding.{order_play_of, told_of}
+use Rattle.jt_order_play.specs.Holding.{order_play_of, told_places}
 use Rattle.jt_order_play.specs.Playing.{OrderPlay, cuts, with_world}
 use Rattle.jt_order_play.proofs.Composing.{cuts_shut}
 use Rattle.jt_order_play.proofs.Cutting.{cut_leads, cut_stage, cut_whole, owed}
@@ -13,7 +13,7 @@ pub cut-requires : goal.cut-requires
 cut-requires c =
     let s = c.self.inside in
     let past = past_of s.past.items in
-    let told = told_of s.told.items in
+    let told = told_places s.told.items in
     let lt = lt_of s.terminal s.hub s.book.book s.lines.items past told s.clock c.args.place c.args.self.now c.self.view_is c.requires.opened in
     let there = fact_back (λ (l : Line). l.is_open ≡ true) s.terminal s.hears s.hub s.book.book s.issued s.lines.items past told s.clock c.args.place c.index.result.now c.self.invariant c.args.self.now c.self.view_is lt c.index.ensures (sym c.is_open.ensures ∙ c.if-is_open.true) in
     let opened = fact_of (λ (l : Line). l.is_open ≡ true) s.terminal s.hears s.hub s.book.book s.issued s.lines.items past told s.clock c.args.place c.index_mut.result.now c.self.invariant c.args.self.now c.self.view_is lt c.index_mut.ensures.value there in
@@ -23,7 +23,7 @@ pub invariant_of-self : goal.invariant_of-self
 invariant_of-self c =
     let s = c.self.inside in
     let past = past_of s.past.items in
-    let told = told_of s.told.items in
+    let told = told_places s.told.items in
     let lt = lt_of s.terminal s.hub s.book.book s.lines.items past told s.clock c.args.place c.args.self.now c.self.view_is c.requires.opened in
     let there = fact_back (λ (l : Line). l.is_open ≡ true) s.terminal s.hears s.hub s.book.book s.issued s.lines.items past told s.clock c.args.place c.index.result.now c.self.invariant c.args.self.now c.self.view_is lt c.index.ensures (sym c.is_open.ensures ∙ c.if-is_open.true) in
     let opened = fact_of (λ (l : Line). l.is_open ≡ true) s.terminal s.hears s.hub s.book.book s.issued s.lines.items past told s.clock c.args.place c.index_mut.result.now c.self.invariant c.args.self.now c.self.view_is lt c.index_mut.ensures.value there in
@@ -34,7 +34,7 @@ pub returns-then-is_open-clause-leads : goal.returns-then-is_open-clause-leads
 returns-then-is_open-clause-leads c =
     let s = c.self.inside in
     let past = past_of s.past.items in
-    let told = told_of s.told.items in
+    let told = told_places s.told.items in
     let lt = lt_of s.terminal s.hub s.book.book s.lines.items past told s.clock c.args.place c.args.self.now c.self.view_is c.requires.opened in
     let there = fact_back (λ (l : Line). l.is_open ≡ true) s.terminal s.hears s.hub s.book.book s.issued s.lines.items past told s.clock c.args.place c.index.result.now c.self.invariant c.args.self.now c.self.view_is lt c.index.ensures (sym c.is_open.ensures ∙ c.if-is_open.true) in
     let opened = fact_of (λ (l : Line). l.is_open ≡ true) s.terminal s.hears s.hub s.book.book s.issued s.lines.items past told s.clock c.args.place c.index_mut.result.now c.self.invariant c.args.self.now c.self.view_is lt c.index_mut.ensures.value there in
@@ -46,7 +46,7 @@ pub returns-then-is_open-clause-whole : goal.returns-then-is_open-clause-whole
 returns-then-is_open-clause-whole c =
     let s = c.self.inside in
     let past = past_of s.past.items in
-    let told = told_of s.told.items in
+    let told = told_places s.told.items in
     let lt = lt_of s.terminal s.hub s.book.book s.lines.items past told s.clock c.args.place c.args.self.now c.self.view_is c.requires.opened in
     let there = fact_back (λ (l : Line). l.is_open ≡ true) s.terminal s.hears s.hub s.book.book s.issued s.lines.items past told s.clock c.args.place c.index.result.now c.self.invariant c.args.self.now c.self.view_is lt c.index.ensures (sym c.is_open.ensures ∙ c.if-is_open.true) in
     let opened = fact_of (λ (l : Line). l.is_open ≡ true) s.terminal s.hears s.hub s.book.book s.issued s.lines.items past told s.clock c.args.place c.index_mut.result.now c.self.invariant c.args.self.now c.self.view_is lt c.index_mut.ensures.value there in
@@ -57,12 +57,12 @@ returns-then-is_open-clause-whole c =
 pub returns-then-is_open-clause-count : goal.returns-then-is_open-clause-count
 returns-then-is_open-clause-count c =
     let s = c.self.inside in
-    put_many s.terminal s.hub c.cut.new.hub s.book.book s.book.book s.lines.items (past_of s.past.items) (told_of s.told.items) s.clock c.args.place c.cut.new.self c.args.self.now c.self.view_is
+    put_many s.terminal s.hub c.cut.new.hub s.book.book s.book.book s.lines.items (past_of s.past.items) (told_places s.told.items) s.clock c.args.place c.cut.new.self c.args.self.now c.self.view_is
 
 pub returns-else-is_open-clause-whole : goal.returns-else-is_open-clause-whole
 returns-else-is_open-clause-whole c =
     let s = c.self.inside in
     let past = past_of s.past.items in
-    let told = told_of s.told.items in
+    let told = told_places s.told.items in
     let lt = lt_of s.terminal s.hub s.book.book s.lines.items past told s.clock c.args.place c.args.self.now c.self.view_is c.requires.opened in
     cuts_shut c.args.self.now c.args.place (fact_back (λ (l : Line). l.is_open ≡ false) s.terminal s.hears s.hub s.book.book s.issued s.lines.items past told s.clock c.args.place c.index.result.now c.self.invariant c.args.self.now c.self.view_is lt c.index.ensures (sym c.is_open.ensures ∙ c.if-is_open.false))

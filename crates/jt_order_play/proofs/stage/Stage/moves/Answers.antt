@@ -1,8 +1,8 @@
-use Rattle.std.proofs.Common.{ℕ, ◌+◌, ◌-◌, ◌<◌, ◌≡◌, length, true, arith, ap, sym, ◌∙◌, subst}
+use Rattle.std.proofs.Common.{◌+◌, ◌-◌, ◌<◌, ◌≡◌, length, true, arith, sym, ◌∙◌, subst}
 use Rattle.std.specs.Prelude.{◌&&◌, ◌||◌}
 use Rattle.jt_play.specs.Holding.{past_of}
 use Rattle.jt_play.specs.Playing.{has_left}
-use Rattle.jt_order_play.specs.Holding.{order_play_of, told_of}
+use Rattle.jt_order_play.specs.Holding.{order_play_of, told_places}
 use Rattle.jt_order_play.specs.Playing.{OrderPlay, moves}
 use Rattle.jt_order_play.proofs.Composing.{moves_line}
 use Rattle.jt_order_play.proofs.Standing.{line_there, many_lines}
@@ -12,7 +12,7 @@ pub returns : goal.returns
 returns c =
     let s = c.self.inside in
     let past = past_of s.past.items in
-    let told = told_of s.told.items in
+    let told = told_places s.told.items in
     let count = c.len-count.result in
     let place = count - 1 in
     let many : count ≡ length s.lines.items = c.len-count.ensures ∙ Prim.search in

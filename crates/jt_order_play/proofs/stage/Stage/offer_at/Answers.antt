@@ -1,8 +1,8 @@
-use Rattle.std.proofs.Common.{ℕ, ◌<◌, ◌≡◌, length, true, false, IsSome, ap, sym, ◌∙◌, subst, set}
-use Rattle.jt_octets.specs.World.{Line, line_at}
+use Rattle.std.proofs.Common.{◌<◌, ◌≡◌, true, false, sym, ◌∙◌, subst, set}
+use Rattle.jt_octets.specs.World.{Line}
 use Rattle.jt_order_octets.specs.Reaching.{Leads}
 use Rattle.jt_play.specs.Holding.{past_of}
-use Rattle.jt_order_play.specs.Holding.{IsStage, OrderLine, order_play_of, told_of}
+use Rattle.jt_order_play.specs.Holding.{IsStage, order_play_of, told_places}
 use Rattle.jt_order_play.specs.Playing.{OrderPlay, offers_at, with_world}
 use Rattle.jt_order_play.proofs.Standing.{fact_back, fact_of, lt_of, offer_leads, offer_stage, offer_whole, put_many, quiet_whole, stands}
 use Rattle.jt_order_play.proofs.stage.Stage.offer_at.Goals as goal
@@ -11,7 +11,7 @@ pub returns-then-not-is_open-clause-whole : goal.returns-then-not-is_open-clause
 returns-then-not-is_open-clause-whole c done =
     let s = c.self.inside in
     let past = past_of s.past.items in
-    let told = told_of s.told.items in
+    let told = told_places s.told.items in
     let lt = lt_of s.terminal s.hub s.book.book s.lines.items past told s.clock c.args.place c.args.self.now c.self.view_is c.requires.opened in
     quiet_whole c.args.self.now c.args.place (fact_back (λ (l : Line). l.is_open ≡ false) s.terminal s.hears s.hub s.book.book s.issued s.lines.items past told s.clock c.args.place c.index.result.now c.self.invariant c.args.self.now c.self.view_is lt c.index.ensures
     (sym c.is_open.ensures ∙ c.if-not-is_open.true))
@@ -20,7 +20,7 @@ pub offer-requires : goal.offer-requires
 offer-requires c =
     let s = c.self.inside in
     let past = past_of s.past.items in
-    let told = told_of s.told.items in
+    let told = told_places s.told.items in
     let lt = lt_of s.terminal s.hub s.book.book s.lines.items past told s.clock c.args.place c.args.self.now c.self.view_is c.requires.opened in
     let there = fact_back (λ (l : Line). l.is_open ≡ true) s.terminal s.hears s.hub s.book.book s.issued s.lines.items past told s.clock c.args.place c.index.result.now c.self.invariant c.args.self.now c.self.view_is lt c.index.ensures
     (sym c.is_open.ensures ∙ c.if-not-is_open.false) in
@@ -30,7 +30,7 @@ pub returns-clause-leads : goal.returns-clause-leads
 returns-clause-leads c =
     let s = c.self.inside in
     let past = past_of s.past.items in
-    let told = told_of s.told.items in
+    let told = told_places s.told.items in
     let old = c.index_mut.result.now in
     let lt = lt_of s.terminal s.hub s.book.book s.lines.items past told s.clock c.args.place c.args.self.now c.self.view_is c.requires.opened in
     let w = (order_play_of s.terminal s.hub s.book.book s.lines.items past told s.clock).world in
@@ -43,7 +43,7 @@ pub returns-clause-whole : goal.returns-clause-whole
 returns-clause-whole c done =
     let s = c.self.inside in
     let past = past_of s.past.items in
-    let told = told_of s.told.items in
+    let told = told_places s.told.items in
     let old = c.index_mut.result.now in
     let lt = lt_of s.terminal s.hub s.book.book s.lines.items past told s.clock c.args.place c.args.self.now c.self.view_is c.requires.opened in
     let w = (order_play_of s.terminal s.hub s.book.book s.lines.items past told s.clock).world in
@@ -56,7 +56,7 @@ pub invariant_of-self : goal.invariant_of-self
 invariant_of-self c =
     let s = c.self.inside in
     let past = past_of s.past.items in
-    let told = told_of s.told.items in
+    let told = told_places s.told.items in
     let old = c.index_mut.result.now in
     let lt = lt_of s.terminal s.hub s.book.book s.lines.items past told s.clock c.args.place c.args.self.now c.self.view_is c.requires.opened in
     let w = (order_play_of s.terminal s.hub s.book.book s.lines.items past told s.clock).world in
@@ -71,4 +71,4 @@ invariant_of-self c =
 pub returns-clause-count : goal.returns-clause-count
 returns-clause-count c =
     let s = c.self.inside in
-    put_many s.terminal s.hub s.hub s.book.book c.offer.new.book.book s.lines.items (past_of s.past.items) (told_of s.told.items) s.clock c.args.place c.offer.new.self c.args.self.now c.self.view_is
+    put_many s.terminal s.hub s.hub s.book.book c.offer.new.book.book s.lines.items (past_of s.past.items) (told_places s.told.items) s.clock c.args.place c.offer.new.self c.args.self.now c.self.view_is

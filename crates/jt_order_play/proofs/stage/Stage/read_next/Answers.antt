@@ -3,7 +3,7 @@ use Rattle.std.proofs.lemmas.Bool.{and_parts}
 use Rattle.jt_octets.specs.World.{Line, line_at, newest}
 use Rattle.jt_play.specs.Holding.{past_of}
 use Rattle.jt_play.specs.Playing.{has_left}
-use Rattle.jt_order_play.specs.Holding.{order_play_of, told_of}
+use Rattle.jt_order_play.specs.Holding.{order_play_of, told_places}
 use Rattle.jt_order_play.specs.Playing.{OrderPlay}
 use Rattle.jt_order_play.proofs.Standing.{line_there, many_lines}
 use Rattle.jt_order_play.proofs.stage.Stage.read_next.Goals as goal
@@ -12,7 +12,7 @@ pub read_at-requires : goal.read_at-requires
 read_at-requires c =
     let s = c.self.inside in
     let past = past_of s.past.items in
-    let told = told_of s.told.items in
+    let told = told_places s.told.items in
     let count = c.len-count.result in
     let place = count - 1 in
     let many : count ≡ length s.lines.items = c.len-count.ensures ∙ Prim.search in

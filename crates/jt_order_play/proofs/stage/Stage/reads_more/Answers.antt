@@ -1,7 +1,7 @@
 use Rattle.std.proofs.Common.{◌+◌, ◌-◌, ◌<◌, ◌≡◌, length, arith, sym, ◌∙◌, subst}
 use Rattle.jt_play.specs.Holding.{past_of}
 use Rattle.jt_play.specs.Playing.{has_left}
-use Rattle.jt_order_play.specs.Holding.{order_play_of, told_of}
+use Rattle.jt_order_play.specs.Holding.{order_play_of, told_places}
 use Rattle.jt_order_play.specs.Playing.{OrderPlay, reads_more}
 use Rattle.jt_order_play.proofs.Composing.{more_line}
 use Rattle.jt_order_play.proofs.Standing.{line_there, many_lines}
@@ -11,7 +11,7 @@ pub returns : goal.returns
 returns c =
     let s = c.self.inside in
     let past = past_of s.past.items in
-    let told = told_of s.told.items in
+    let told = told_places s.told.items in
     let count = c.len-count.result in
     let place = count - 1 in
     let many : count ≡ length s.lines.items = c.len-count.ensures ∙ Prim.search in

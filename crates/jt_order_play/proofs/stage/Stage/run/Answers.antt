@@ -1,7 +1,7 @@
 use Rattle.std.proofs.Common.{◌≡◌, arith, refl, sym, ◌∙◌}
 use Rattle.jt_terminal_rule.specs.declared.state.Event.TheVariants.{Tick}
 use Rattle.jt_order_play.specs.Playing.{meets}
-use Rattle.jt_order_play.proofs.Composing.{ran, still_reached, went_more, went_none}
+use Rattle.jt_order_play.proofs.Composing.{ran, still_reached, went_more}
 use Rattle.jt_order_play.proofs.Standing.{leads_both}
 use Rattle.jt_order_play.proofs.stage.Stage.run.Goals as goal
 

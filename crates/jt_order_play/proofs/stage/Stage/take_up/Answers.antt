@@ -2,7 +2,7 @@ use Rattle.std.proofs.Common.{◌<◌, ◌≡◌, length, true, IsSome, ap, sym,
 use Rattle.jt_octets.specs.World.{Line, line_at}
 use Rattle.jt_order_octets.specs.Reaching.{Leads, Reached}
 use Rattle.jt_play.specs.Holding.{past_of}
-use Rattle.jt_order_play.specs.Holding.{order_play_of, told_of}
+use Rattle.jt_order_play.specs.Holding.{order_play_of, told_places}
 use Rattle.jt_order_play.specs.Playing.{OrderPlay, takes_octet, with_world}
 use Rattle.jt_order_play.proofs.Owning.{asks_fine, own_reached, took_whole}
 use Rattle.jt_order_play.proofs.Standing.{closed_there, fact_of, lt_of, put_many, put_there, stands, took_leads, took_stage}
@@ -12,7 +12,7 @@ pub take-requires : goal.take-requires
 take-requires c =
     let s = c.self.inside in
     let past = past_of s.past.items in
-    let told = told_of s.told.items in
+    let told = told_places s.told.items in
     let old = c.index_mut.result.now in
     let lt = lt_of s.terminal s.hub s.book.book s.lines.items past told s.clock c.args.place c.args.self.now c.self.view_is c.requires.opened in
     let opened = fact_of (λ (l : Line). l.is_open ≡ true) s.terminal s.hears s.hub s.book.book s.issued s.lines.items past told s.clock c.args.place old c.self.invariant c.args.self.now c.self.view_is lt c.index_mut.ensures.value c.requires.is_open in
@@ -27,7 +27,7 @@ pub returns-clause-leads : goal.returns-clause-leads
 returns-clause-leads c =
     let s = c.self.inside in
     let past = past_of s.past.items in
-    let told = told_of s.told.items in
+    let told = told_places s.told.items in
     let old = c.index_mut.result.now in
     let lt = lt_of s.terminal s.hub s.book.book s.lines.items past told s.clock c.args.place c.args.self.now c.self.view_is c.requires.opened in
     let w = (order_play_of s.terminal s.hub s.book.book s.lines.items past told s.clock).world in
@@ -40,7 +40,7 @@ pub invariant_of-self : goal.invariant_of-self
 invariant_of-self c =
     let s = c.self.inside in
     let past = past_of s.past.items in
-    let told = told_of s.told.items in
+    let told = told_places s.told.items in
     let old = c.index_mut.result.now in
     let lt = lt_of s.terminal s.hub s.book.book s.lines.items past told s.clock c.args.place c.args.self.now c.self.view_is c.requires.opened in
     let w = (order_play_of s.terminal s.hub s.book.book s.lines.items past told s.clock).world in
@@ -54,20 +54,20 @@ pub returns-clause-is_open : goal.returns-clause-is_open
 returns-clause-is_open c =
     let s = c.self.inside in
     let past = past_of s.past.items in
-    let told = told_of s.told.items in
+    let told = told_places s.told.items in
     let lt = lt_of s.terminal s.hub s.book.book s.lines.items past told s.clock c.args.place c.args.self.now c.self.view_is c.requires.opened in
     ap (λ (l : Line). l.is_open) (put_there s.terminal c.take.new.hub c.take.new.book.book s.lines.items past told s.clock c.args.place c.take.new.self lt) ∙ c.take.ensures.opened
 
 pub returns-clause-count : goal.returns-clause-count
 returns-clause-count c =
     let s = c.self.inside in
-    put_many s.terminal s.hub c.take.new.hub s.book.book c.take.new.book.book s.lines.items (past_of s.past.items) (told_of s.told.items) s.clock c.args.place c.take.new.self c.args.self.now c.self.view_is
+    put_many s.terminal s.hub c.take.new.hub s.book.book c.take.new.book.book s.lines.items (past_of s.past.items) (told_places s.told.items) s.clock c.args.place c.take.new.self c.args.self.now c.self.view_is
 
 pub returns-clause-whole : goal.returns-clause-whole
 returns-clause-whole c done =
     let s = c.self.inside in
     let past = past_of s.past.items in
-    let told = told_of s.told.items in
+    let told = told_places s.told.items in
     let old = c.index_mut.result.now in
     let lt = lt_of s.terminal s.hub s.book.book s.lines.items past told s.clock c.args.place c.args.self.now c.self.view_is c.requires.opened in
     let w = (order_play_of s.terminal s.hub s.book.book s.lines.items past told s.clock).world in

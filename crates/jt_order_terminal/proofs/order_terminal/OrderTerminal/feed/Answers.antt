@@ -1,7 +1,9 @@
-use Rattle.std.proofs.Common.{◌∙◌, sym, arith}
+use Rattle.std.proofs.Common.{◌∙◌, refl, sym, arith}
 use Rattle.jt_terminal_rule.specs.Machines.{is_up}
 use Rattle.jt_order_terminal.specs.Feeding.{scene}
-use Rattle.jt_order_terminal.proofs.Feeding.{cut_commits, cut_steps, fed_at, fed_says}
+use Rattle.jt_order_terminal.specs.declared.fault.OrderFault.TheVariants as faults
+use Rattle.jt_order_terminal.proofs.Causes.{lost_on}
+use Rattle.jt_order_terminal.proofs.Feeding.{cut_commits, cut_steps, fails_at, fed_at, fed_says}
 use Rattle.jt_order_terminal.proofs.Items.{stands_on}
 use Rattle.jt_order_terminal.proofs.order_terminal.OrderTerminal.feed.Goals as goal
 
@@ -39,9 +41,26 @@ returns-in-Err-clause-commits g c =
     let before = scene old.terminal.state old.ledger (g.V.Vault.holds old.terminal.vault) (g.G.OrderLog.holds old.log) c.new-said.result in
     rw (← c.self.view_is) (λ seen stands. cut_commits (is_up old.terminal.state.phase) old.stream.splitter new.stream.splitter before (g.V.Vault.holds new.terminal.vault) (g.G.OrderLog.holds new.log) c.args.octets.now (sym c.if-not-is_up.ensures) c.in-Err.ensures.err c.law_front.ensures.unplaced seen stands)
 
+pub returns-in-Err-clause-fails : goal.returns-in-Err-clause-fails
+returns-in-Err-clause-fails g c =
+    let old = c.self.inside in
+    let new = c.hear.new in
+    let before = scene old.terminal.state old.ledger (g.V.Vault.holds old.terminal.vault) (g.G.OrderLog.holds old.log) c.new-said.result in
+    rw (← c.self.view_is) (λ seen stands. fails_at (is_up old.terminal.state.phase) old.stream.splitter new.stream.splitter before (g.V.Vault.holds new.terminal.vault) (g.G.OrderLog.holds new.log) c.args.octets.now (sym c.if-not-is_up.ensures) c.in-Err.ensures.err c.law_front.ensures.unplaced seen stands (g.V.Vault.holds c.lose.new.terminal.vault) c.lose.ensures.holds)
+
 pub returns-in-Err-clause-cut : goal.returns-in-Err-clause-cut
 returns-in-Err-clause-cut g c =
     let old = c.self.inside in
     let new = c.hear.new in
     let before = scene old.terminal.state old.ledger (g.V.Vault.holds old.terminal.vault) (g.G.OrderLog.holds old.log) c.new-said.result in
     rw (← c.self.view_is) (λ seen stands. cut_steps (is_up old.terminal.state.phase) old.stream.splitter new.stream.splitter before (g.V.Vault.holds new.terminal.vault) (g.G.OrderLog.holds new.log) c.args.octets.now (sym c.if-not-is_up.ensures) c.in-Err.ensures.err c.law_front.ensures.unplaced seen stands (g.V.Vault.holds c.lose.new.terminal.vault) c.lose.ensures.holds)
+
+pub returns-in-Err-clause-vault_cause : goal.returns-in-Err-clause-vault_cause
+returns-in-Err-clause-vault_cause g c =
+    let old = c.self.inside in
+    rw (← c.self.view_is) (lost_on faults.Vault (g.V.Vault.faults old.terminal.vault) (g.V.Vault.faults c.hear.new.terminal.vault) (g.V.Vault.faults c.lose.new.terminal.vault) (g.V.Vault.may_fail old.terminal.vault) (g.V.Vault.may_fail c.hear.new.terminal.vault) (g.V.Vault.may_fail c.lose.new.terminal.vault) c.in-Err.fault c.in-Err.ensures.vault_cause c.lose.ensures.faults c.lose.ensures.steady)
+
+pub returns-in-Err-clause-log_cause : goal.returns-in-Err-clause-log_cause
+returns-in-Err-clause-log_cause g c =
+    let old = c.self.inside in
+    rw (← c.self.view_is) (lost_on faults.Log (g.G.OrderLog.faults old.log) (g.G.OrderLog.faults c.hear.new.log) (g.G.OrderLog.faults c.hear.new.log) (g.G.OrderLog.may_fail old.log) (g.G.OrderLog.may_fail c.hear.new.log) (g.G.OrderLog.may_fail c.hear.new.log) c.in-Err.fault c.in-Err.ensures.log_cause refl (λ e. e))
