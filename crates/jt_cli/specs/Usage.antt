@@ -5,7 +5,7 @@ use Rattle.jt_input.specs.declared.status.Status.TheVariants.{Usage}
 
 -- what every faulty command line is answered
 unfoldable pub usage_line : List ℕ
-usage_line = codes "usage: jt808 view|check|rehearse|make|platform|report|fence|relay|gateway|orders\n"
+usage_line = codes "usage: jt808 view|check|rehearse|make|platform|report|orders|fence|relay|gateway\n"
 
 -- the answer for words that are no command
 unfoldable pub usage : Reply

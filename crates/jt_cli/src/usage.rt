@@ -11,6 +11,6 @@ pub fn push_usage_line(text: &mut String) -> Result<(), AllocError>
     ensures { OnOk result (string_bytes text.new ≡ string_bytes text.old ++ usage_line) }
 {
     text.push_str(
-        "usage: jt808 view|check|rehearse|make|platform|report|fence|relay|gateway|orders\n",
+        "usage: jt808 view|check|rehearse|make|platform|report|orders|fence|relay|gateway\n",
     )
 }

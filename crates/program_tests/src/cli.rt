@@ -12,7 +12,7 @@ use std::alloc::{AllocError, Global};
 use std::process::Abort;
 
 const USAGE: &str =
-    "usage: jt808 view|check|rehearse|make|platform|report|fence|relay|gateway|orders\n";
+    "usage: jt808 view|check|rehearse|make|platform|report|orders|fence|relay|gateway\n";
 
 const HEARTBEAT: &[u8] = b"\x7e\x00\x02\x00\x00\x01\x39\x12\x34\x56\x78\x00\x00\x32\x7e";
 

@@ -4,7 +4,7 @@ use std::alloc::Global;
 use std::process::Abort;
 
 const USAGE: &str =
-    "usage: jt808 view|check|rehearse|make|platform|report|fence|relay|gateway|orders\n";
+    "usage: jt808 view|check|rehearse|make|platform|report|orders|fence|relay|gateway\n";
 
 #[test]
 fn one_fix(rt: HostRuntime) {

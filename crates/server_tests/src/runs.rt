@@ -25,7 +25,7 @@ const REFUSED: &[u8] =
     b"\x7e\x80\x01\x00\x05\x01\x39\x12\x34\x56\x78\x00\x00\x00\x00\x00\x02\x01\xb7\x7e";
 
 const USAGE: &[u8] =
-    b"usage: jt808 view|check|rehearse|make|platform|report|fence|relay|gateway|orders\n";
+    b"usage: jt808 view|check|rehearse|make|platform|report|orders|fence|relay|gateway\n";
 
 /// What a run over a dial and a listener in memory gives back.
 type Ran<D, L> = Ended<MemSource, MemSink, D, L, ScriptClock, MemKeeper, MemVault>;
