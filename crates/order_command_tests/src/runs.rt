@@ -112,3 +112,27 @@ fn what_happens_is_told_in_order(rt: HostRuntime) {
         ";
     orders(&rt, rt.alloc(), INTERLEAVED, text);
 }
+
+// The terminal answers order 0, and beats behind that. The session takes both octet by octet, so order 1 comes down first, of 17 octets, and
+// the response to the heartbeat, of 20, behind it.
+const BEFORE_A_RESPONSE: &str = "\
+    open\n\
+    run\n\
+    issue 8300 0141\n\
+    issue 8300 0142\n\
+    down all\n\
+    tick 60000\n\
+    up 1 all\n\
+    down 17\n\
+    ";
+
+#[test]
+fn an_order_comes_before_a_later_response(rt: HostRuntime) {
+    let text = "\
+        order 0 performed 0\n\
+        order 0 answered 0\n\
+        order 1 performed 0\n\
+        issued=2 performed=2 answered=1\n\
+        ";
+    orders(&rt, rt.alloc(), BEFORE_A_RESPONSE, text);
+}

@@ -4,4 +4,8 @@
 #[cfg(test)]
 mod answering;
 #[cfg(test)]
+mod faults;
+#[cfg(test)]
+mod frames;
+#[cfg(test)]
 mod setting;

@@ -1,5 +1,5 @@
 use crate::values::{failing, is, order};
-use jt_order::{MemBook, OrderBook};
+use jt_order::{MemBook, ORDER_LIMIT, Order, OrderBook};
 use jt_store::StoreError;
 use jt_value::Seq;
 use std::alloc::Global;
@@ -80,5 +80,31 @@ fn a_listed_call_of_a_book_fails_and_changes_nothing(rt: HostRuntime) -> Result<
     let mut book = MemBook::new(alloc, failing(alloc, 1).expect(&rt, "memory"));
     assert!(rt; !tells(alloc, &mut book, 0, 0, None));
     assert!(rt; tells(alloc, &mut book, 0, 0, None));
+    Ok(())
+}
+
+// A book of as many orders as it takes, each of them this one. None where it takes fewer, or numbers them otherwise.
+fn full_book(alloc: Global, order: &Order) -> Option<MemBook> {
+    let mut book = MemBook::new(alloc, Seq::new(alloc));
+    for number in 0..ORDER_LIMIT {
+        if book.issue(alloc, order) != Ok(number) {
+            return None;
+        }
+    }
+    Some(book)
+}
+
+#[test]
+fn a_book_takes_a_million_orders_and_stays_full(rt: HostRuntime) -> Result<(), Fail> {
+    let alloc = rt.alloc();
+    let text = order(alloc, 0x8300, b"\0")
+        .ok()
+        .expect(&rt, "it is an order");
+    let mut book = full_book(alloc, &text).expect(&rt, "it takes as many");
+    assert!(rt; book.issue(alloc, &text) == Err(StoreError::Full(1_000_000)));
+    assert!(rt; tells(alloc, &mut book, 1_000_000, 0, Some(b"\0")));
+    assert!(rt; answer(alloc, &mut book, 0) == Some(Ok(())));
+    assert!(rt; book.issue(alloc, &text) == Err(StoreError::Full(1_000_000)));
+    assert!(rt; tells(alloc, &mut book, 1_000_000, 1, Some(b"\0")));
     Ok(())
 }
