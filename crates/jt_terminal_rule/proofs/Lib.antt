@@ -16,6 +16,8 @@
 -- the state in a phase, lets every lemma go by cases on the phase with no equation. AreSteps m held just r
 -- composes over and_then by one lemma. That packets of an answer take the serials that after_packets says is one
 -- induction over front (one_more, front_lists).
+-- The rule is walked through once (Induction): where Bears says a thing of each step that it takes, Ran says it of
+-- all steps of an event, and that the settings are left. jt_play and jt_order_play use it four times.
 --
 -- Open: no law says that an answer never passes 256 packets (66,303 octets is the most, by the bound of a table
 -- of parameters). packets_of of jt_subpacket/specs/Steps is cited by the public clause packets and by the rule:
@@ -39,5 +41,6 @@ pub mod Starting
 pub mod Measuring
 pub mod Lasting
 mod Unsaying
+pub mod Induction
 mod Keeping
 mod Windows
