@@ -95,7 +95,7 @@ offers_next p mid now place first second =
 
 -- ---- octets down
 
-goes : (n : ℕ) (p : OrderPlay) → reads_more p ≡ true → reads (suc n) p ≡ reads n (reads_one p)
+pub goes : (n : ℕ) (p : OrderPlay) → reads_more p ≡ true → reads (suc n) p ≡ reads n (reads_one p)
 goes n p e = ap (λ (b : Bool). if b then reads n (reads_one p) else p) e
 
 pub still : (n : ℕ) (p : OrderPlay) → reads_more p ≡ false → reads n p ≡ p

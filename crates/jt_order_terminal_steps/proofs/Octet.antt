@@ -37,7 +37,7 @@ use Rattle.jt_order_turns.specs.Frames.{order_in}
 use Rattle.jt_order_turns.specs.Heard.{Heard, Ordered, Other, Nothing, heard_at}
 use Rattle.jt_order_terminal.specs.Ledgers.{IsLedgerOf, Ledger}
 use Rattle.jt_order_terminal.specs.Terminals.{Done, by_ruling, does_at, does_at_items, next, then_done}
-use Rattle.jt_octets.specs.World.{World, Line, Wire, completed_item, newest, newest_place, taken_of, with_one_taken}
+use Rattle.jt_octets.specs.World.{World, Wire, completed_item, newest, newest_place, taken_of, with_one_taken}
 use Rattle.jt_octets.specs.Steps.{MayAccept, accepting}
 use Rattle.jt_octets.proofs.Exact.{Behind, one_behind}
 use Rattle.jt_octets.proofs.Views.{StreamLaws}
@@ -51,7 +51,7 @@ use Rattle.jt_play.proofs.Reading.{heard_phone, none_behind}
 use Rattle.jt_play.proofs.Rounds.{behind_frames, some_left}
 use Rattle.jt_play.proofs.Upward.{grown, octet_of}
 use Rattle.jt_order_octets.specs.World.{OrderWorld}
-use Rattle.jt_order_octets.specs.Claim.{EachReachedIsObeyed, NoneIsRefused}
+use Rattle.jt_order_octets.specs.Claim.{EachReachedIsObeyed}
 use Rattle.jt_order_octets.specs.Reaching.{Reached}
 use Rattle.jt_order_octets.specs.Steps.{Down, MayRead, after, after_read, heard_next, response_of, tables_by_ruling, with_one_read}
 use Rattle.jt_order_play.specs.Playing.{done}
@@ -61,7 +61,7 @@ use Rattle.jt_order_play.proofs.Composing.{still_reached}
 use Rattle.jt_order_play.proofs.Doing.{done_is, quiet_opens}
 use Rattle.jt_order_play.proofs.Hearing.{TakesNone, accepts_quietly, after_log, answers_directly, cut_steps, cut_takes, does_few, does_ruled, does_send, heard_names, heard_opens, name_behind, ruled_of, ruling_is, takes_steps, whole_takes}
 use Rattle.jt_order_play.proofs.Naming.{NameNone, quiet_names, steps_fine}
-use Rattle.jt_order_play.proofs.Reading.{answered_base}
+use Rattle.jt_order_play.proofs.Reading.{answered_base, wrote_both, refused_reached}
 use Rattle.jt_order_play.proofs.Standing.{leads_one}
 use Rattle.jt_order_terminal_steps.specs.Standing.{TerminalParts, after_call, line_after_call}
 use Rattle.jt_order_terminal_steps.proofs.Events.{behind_nothing}
@@ -157,13 +157,6 @@ read_rest w Nothing takes responds log tables was log_is tables_is none =
 
 tables_reached : EachReachedIsObeyed → (w : OrderWorld) → ∥ Reached w ∥₁ → w.tables ≡ tables_of terminal_performing no_tables w.log
 tables_reached law w reached = ∥∥₁_elim reached (Prim.hlevel (codes, params.the_row.coded, regions.the_row.coded)) (λ (r : Reached w). (law w r).tables)
-
-refused_reached : NoneIsRefused → (w : OrderWorld) → ∥ Reached w ∥₁ → w.refused ≡ []
-refused_reached law w reached = ∥∥₁_elim reached (Prim.hlevel codes) (λ (r : Reached w). law w r)
-
-wrote_both : (lines : List Line) (a b : List (List ℕ)) → wrote (wrote lines a) b ≡ wrote lines (a ++ b)
-wrote_both lines [] b = refl
-wrote_both lines (frame ∷ a) b = wrote_both _ a b
 
 -- ---- what is done
 

@@ -107,7 +107,7 @@ module _ (one : AreOneToOne) (under : AreUnderTheirIds) where
 
 -- ---- the message that a frame brings
 
-whole_named : (h : Header) (fate : Fate) (m : Header × List ℕ) → whole_of h fate ≡ Some m → (id : ℕ) × (serial : ℕ) × (octets : List ℕ) × (fate ≡ Whole id serial octets) × (m ≡ (record h { id = id; serial = serial; packet = None }, octets))
+pub whole_named : (h : Header) (fate : Fate) (m : Header × List ℕ) → whole_of h fate ≡ Some m → (id : ℕ) × (serial : ℕ) × (octets : List ℕ) × (fate ≡ Whole id serial octets) × (m ≡ (record h { id = id; serial = serial; packet = None }, octets))
 whole_named h (Whole id serial octets) m e = (id, serial, octets, refl, cc)
 whole_named h (TooMany total) m e = absurd cc
 whole_named h (Resend first missing) m e = absurd cc
@@ -124,7 +124,7 @@ named_by law s h octets (Some packet) m good is e =
     let named = law s.partial h octets whole.2 whole.0 whole.1 good.serial (rw is fields.0) packet is fields.1 whole.3 in
     (ap (λ x. x.0.phone) whole.4, ap (λ x. x.0.id) whole.4 ∙ named.0)
 
-own_asks : (own : Bool) (m : Option (Header × List ℕ)) (q : Request) → (if own then asked_by m else None) ≡ Some q → asked_by m ≡ Some q
+pub own_asks : (own : Bool) (m : Option (Header × List ℕ)) (q : Request) → (if own then asked_by m else None) ≡ Some q → asked_by m ≡ Some q
 own_asks true m q e = e
 own_asks false m q e = absurd cc
 
