@@ -11,7 +11,7 @@ use crate::tcp_link::TcpLink;
 use crate::{Accepted, Listen};
 use std::io::ErrorKind;
 use std::marker::Model;
-use std::net::{Net, TcpListener, TcpStream};
+use std::net::{Net, OpenListener, TcpListener, TcpStream};
 use std::os::fd::AsRawFd;
 use std::time::Duration;
 use std::{io, thread, time};
@@ -45,13 +45,13 @@ const PASSED_WAIT: u64 = 10;
 /// are short an accept waits a second and tries again, 600 times; then it fails. A connection that failed before it was accepted is
 /// passed over: the accept waits for 10 milliseconds and takes the next one. It fails where 60,000 in a row failed so.
 #[derive(Drop)]
-pub struct TcpListen<R> {
+pub struct TcpListen<R: Net> {
     rt: R,
-    listener: Option<TcpListener>,
+    listener: Option<R::Listener>,
     faults: u64,
 }
 
-impl<R> Model for TcpListen<R> {
+impl<R: Net> Model for TcpListen<R> {
     ghost use Rattle.std.specs.Prelude.{◌≤◌, ◌-◌, ◌^◌, ℕ};
 
     ghost Value = { ℕ };
@@ -61,7 +61,7 @@ impl<R> Model for TcpListen<R> {
     ghost invariant = { λ l. l.faults ≤ 2 ^ 64 - 1 };
 }
 
-impl<R: Net<Listener = TcpListener, Stream = TcpStream>> TcpListen<R> {
+impl<R: Net<Stream = TcpStream>> TcpListen<R> {
     /// A listener with no fault so far, which listens nowhere yet and keeps the runtime.
     pub fn new(rt: R) -> TcpListen<R>
         ensures { result ≡ 0 }
@@ -75,10 +75,7 @@ impl<R: Net<Listener = TcpListener, Stream = TcpStream>> TcpListen<R> {
 }
 
 // Listens at the port, with room for more connections to come than std asks for. Where the system refuses that, std's room stays.
-fn open<R: Net<Listener = TcpListener, Stream = TcpStream>>(
-    rt: &R,
-    port: u16,
-) -> io::Result<TcpListener> {
+fn open<R: Net<Stream = TcpStream>>(rt: &R, port: u16) -> io::Result<R::Listener> {
     let listener = TcpListener::bind(rt, ("0.0.0.0", port))?;
     let _ = libc::net::listen(listener.as_raw_fd(), BACKLOG);
     Ok(listener)
@@ -101,7 +98,10 @@ fn is_of_listener(error: &io::Error) -> bool {
 }
 
 // What the next accept gives. It waits where descriptors or memory are short.
-fn accept_patiently<R: time::Clock>(rt: &R, listener: &TcpListener) -> io::Result<TcpStream> {
+fn accept_patiently<R: Net<Stream = TcpStream> + time::Clock>(
+    rt: &R,
+    listener: &R::Listener,
+) -> io::Result<TcpStream> {
     for _ in 0..MOST_WAITS {
         match listener.accept() {
             Err(error) if is_short(&error) => thread::sleep(rt, Duration::from_secs(1)),
@@ -119,7 +119,10 @@ fn set_waits(stream: &TcpStream) -> io::Result<()> {
 }
 
 // The next stream that comes. What failed for one connection is passed over.
-fn accept_stream<R: time::Clock>(rt: &R, listener: &TcpListener) -> io::Result<TcpStream> {
+fn accept_stream<R: Net<Stream = TcpStream> + time::Clock>(
+    rt: &R,
+    listener: &R::Listener,
+) -> io::Result<TcpStream> {
     for _ in 0..MOST_PASSED {
         match accept_patiently(rt, listener) {
             Ok(stream) if set_waits(&stream).is_ok() => return Ok(stream),
@@ -130,14 +133,17 @@ fn accept_stream<R: time::Clock>(rt: &R, listener: &TcpListener) -> io::Result<T
     Err(io::Error::from(ErrorKind::ConnectionAborted))
 }
 
-fn next_stream<R: time::Clock>(rt: &R, listener: &Option<TcpListener>) -> io::Result<TcpStream> {
+fn next_stream<R: Net<Stream = TcpStream> + time::Clock>(
+    rt: &R,
+    listener: &Option<R::Listener>,
+) -> io::Result<TcpStream> {
     match listener {
         Some(listener) => accept_stream(rt, listener),
         None => Err(io::Error::from(ErrorKind::NotConnected)),
     }
 }
 
-impl<R: Net<Listener = TcpListener, Stream = TcpStream> + time::Clock> Listen for TcpListen<R> {
+impl<R: Net<Stream = TcpStream> + time::Clock> Listen for TcpListen<R> {
     type Link = TcpLink;
 
     ghost pool = { λ _. untold };
