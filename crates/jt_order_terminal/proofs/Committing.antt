@@ -19,7 +19,8 @@ use Rattle.jt_codec.specs.Bodies.{HasBody, body}
 use Rattle.jt_codec.specs.Law.{AreOneToOne}
 use Rattle.jt_codec.specs.declared.message.Message.{Message}
 use Rattle.jt_codec.specs.declared.message.Message.TheVariants as message
-use Rattle.jt_terminal_rule.specs.Tables.{params_after, regions_after}
+use Rattle.jt_regions.specs.Changes.{regions_after}
+use Rattle.jt_terminal_rule.specs.Tables.{params_after}
 use Rattle.jt_regions.specs.declared.change.RegionChange.TheVariants as change
 use Rattle.jt_terminal_answers.specs.Performing.{HeldTables, message_outcome, with_params, with_regions}
 use Rattle.jt_order.specs.Books.{with_performed}

@@ -32,7 +32,8 @@ use Rattle.jt_params.specs.Tables.{Table, param_of}
 use Rattle.jt_params.specs.declared.param.ParamValue.TheVariants.{Dword}
 use Rattle.jt_subpacket.specs.Parts.{Message as Packet}
 use Rattle.jt_subpacket.specs.Steps.{packets_of}
-use Rattle.jt_terminal_rule.specs.Tables.{set_params, no_regions}
+use Rattle.jt_regions.specs.Changes.{no_regions}
+use Rattle.jt_terminal_rule.specs.Tables.{set_params}
 use Rattle.jt_terminal_rule.specs.declared.state.AnswerKind.{AnswerKind}
 use Rattle.jt_terminal_rule.specs.Answers.{Answer, id_of_answer, answer_to, answer_to_refused, answer_to_lack}
 

@@ -1,4 +1,4 @@
--- What the terminal of `report` is told before it starts: this project's own. To be believed.
+-- The settings of a terminal of which a phone, a plate and a terminal id are known: this project's own. To be believed.
 use Rattle.std.specs.Prelude.{ℕ, ◌-◌, List, ◌++◌, length, replicate, Option, Some, None}
 use Rattle.jt_value.specs.declared.phone.Edition.{Edition}
 use Rattle.jt_value.specs.declared.phone.Edition.TheVariants.{E2013, E2019}
@@ -7,7 +7,6 @@ use Rattle.jt_register.specs.Registration.{maker_len, model_len, terminal_len}
 use Rattle.jt_register.specs.declared.auth.AuthTail.{AuthTail}
 use Rattle.jt_register.specs.declared.register.Register.{Register}
 use Rattle.jt_terminal_rule.specs.declared.settings.Settings.{Settings}
-use Rattle.jt_report_command.specs.ReportWords.{ReportValues, AreWords}
 
 -- so many zero octets
 abbrev pub zeros : ℕ → List ℕ
@@ -45,7 +44,3 @@ settings_of phone plate terminal = record {
   answer = 10;
   repeats = 3;
 }
-
--- there are words of `report` that tell this
-abbrev pub AreSpoken : ReportValues → Type 0
-AreSpoken told = (words : List (List ℕ)) × AreWords told words

@@ -1,17 +1,17 @@
-//! What the terminal of `report` is told before it starts.
+//! The settings of a terminal of which a phone, a plate and a terminal id are known.
 
 ghost use Rattle.std.specs.Prelude.{◌≡◌, ◌≤◌, length, IfOk};
 ghost use Rattle.jt_value.specs.declared.limits.TheConstants.{PLATE_LIMIT};
 ghost use Rattle.jt_header.specs.Content.{IsPhone};
 ghost use Rattle.jt_register.specs.Registration.{maker_len, model_len, register, terminal_len};
-ghost use Rattle.jt_terminal_rule.specs.Messages.{AreSettings};
-ghost use Rattle.jt_terminal_rule.specs.Tails.{IsTail};
 ghost use Rattle.jt_value.specs.Octets.{AreOctets};
-ghost use Rattle.jt_report_command.specs.Settings.{zero_filled, register_of, settings_of, tail_of, zeros as zero_octets};
+ghost use Rattle.jt_terminal_rule.specs.Messages.{AreSettings};
+ghost use Rattle.jt_terminal_rule.specs.PlainSettings.{zero_filled, register_of, settings_of, tail_of, zeros as zero_octets};
+ghost use Rattle.jt_terminal_rule.specs.Tails.{IsTail};
 
+use crate::settings::Settings;
 use jt_layout::octets_fit;
 use jt_register::{AuthTail, Register};
-use jt_terminal::Settings;
 use jt_value::{Edition, Memory, Octets, Phone};
 use std::alloc::Global;
 
@@ -106,7 +106,7 @@ fn tail(edition: Edition) -> Option<AuthTail>
 }
 
 /// The settings of a phone, a plate of at most 255 octets and a terminal id of at most as many octets as an id of the phone's edition
-/// has, as `report` has them (this project's own). Memory comes where memory is refused.
+/// has (this project's own). Memory comes where memory is refused.
 pub fn settings_for(
     alloc: Global,
     phone: Phone,
