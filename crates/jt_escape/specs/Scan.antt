@@ -1,5 +1,5 @@
 -- Going through a stream octet by octet: the state that is kept, the next state, and the events on the way. A step
--- function for the proofs, but for the fields of `State`, which are to be believed: a splitter shows them.
+-- function for the proofs.
 use Rattle.std.specs.Prelude.{◌≡◌, ◌≢◌, ◌⊎◌, Option, Some, None, ℕ, ◌+◌, ◌<◌, List, [], ◌∷◌, ◌++◌, length, take, ◌==◌, if◌then◌else◌}
 use Rattle.jt_value.specs.declared.limits.TheConstants.{CONTENT_LIMIT}
 use Rattle.jt_value.specs.declared.refusal.Why.TheVariants as why
