@@ -88,11 +88,11 @@ module _ (Q : Step → Type 0) where
 
     filled : (n : ℕ) (s : State) → Ran s (fill n s)
     filled zero s = ran_none s
-    filled (suc n) s = by (send_next s) (one s)
+    filled (suc n) s = by (send_next s) (one s) (filled n)
       where
-        by : (r : Option Ruled) → RanIf s r → Ran s (or_stays s r (fill n))
-        by None k = ran_none s
-        by (Some r) k = ran_then s r (fill n) k (filled n r.state)
+        by : (r : Option Ruled) → RanIf s r → ((t : State) → Ran t (fill n t)) → Ran s (or_stays s r (fill n))
+        by None k more = ran_none s
+        by (Some r) k more = ran_then s r (fill n) k (more r.state)
 
     pub ran_fill : (s : State) → Ran s (fill_window s)
     ran_fill s = filled window s

@@ -28,7 +28,7 @@ use Rattle.jt_terminal_rule.specs.Forming.{unit_of}
 use Rattle.jt_terminal_rule.specs.declared.state.Acknowledgement.{Acknowledgement}
 use Rattle.jt_terminal_rule.specs.Messages.{is_acceptance, header_of, frame_of, register_octets, auth_octets}
 use Rattle.jt_params.specs.declared.param.Param.{Param}
-use Rattle.jt_params.specs.Tables.{Table, param_of}
+use Rattle.jt_params.specs.Tables.{param_of}
 use Rattle.jt_params.specs.declared.param.ParamValue.TheVariants.{Dword}
 use Rattle.jt_subpacket.specs.Parts.{Message as Packet}
 use Rattle.jt_subpacket.specs.Steps.{packets_of}
