@@ -70,6 +70,8 @@ where
         × (P.limit result.keeper ≡ P.limit hub.start) }
     ensures write_fault { result.status ≡ Status.WriteFault →
         Rose (K.faults sink.old) (K.faults sink.new) }
+    ensures write_still { result.status ≢ Status.WriteFault →
+        (K.faults sink.new ≡ K.faults sink.old) ⊎ (result.status ≡ Status.Memory) }
     ensures no_read_fault { result.status ≢ Status.ReadFault }
     ensures net_fault { result.status ≡ Status.NetFault →
         Rose (L.faults listen.old) (L.faults listen.new) }
@@ -114,6 +116,8 @@ where
         × (P.limit result.keeper ≡ P.limit hub.start) }
     ensures write_fault { result.status ≡ Status.WriteFault →
         Rose (K.faults sink.old) (K.faults sink.new) }
+    ensures write_still { result.status ≢ Status.WriteFault →
+        (K.faults sink.new ≡ K.faults sink.old) ⊎ (result.status ≡ Status.Memory) }
     ensures no_read_fault { result.status ≢ Status.ReadFault }
     ensures net_fault { result.status ≡ Status.NetFault →
         Rose (L.faults listen.old) (L.faults listen.new) }
@@ -166,6 +170,9 @@ where
         S.faults source.new ≡ S.faults source.old }
     ensures write_fault { result.status ≡ Status.WriteFault →
         Rose (K.faults sink.old) (K.faults sink.new) }
+    // The same of the sink, but that want of memory is told also where the write then fails.
+    ensures write_still { result.status ≢ Status.WriteFault →
+        (K.faults sink.new ≡ K.faults sink.old) ⊎ (result.status ≡ Status.Memory) }
     ensures net_fault { result.status ≡ Status.NetFault →
         Rose (L.faults listen.old) (L.faults listen.new) }
     ensures store_fault { result.status ≡ Status.StoreFault →
