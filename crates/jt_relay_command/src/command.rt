@@ -25,10 +25,15 @@ fn tell_outcome<K: Sink>(
     ensures status { (result ≡ (relay_reply outcome.now).status) ⊎ CutsShort result }
     ensures write_fault { result ≡ Status.WriteFault →
         Rose (K.faults sink.old) (K.faults sink.new) }
+    ensures write_still { result ≢ Status.WriteFault → K.faults sink.new ≡ K.faults sink.old }
 {
+    let status = status_of(outcome);
+    if status == Status::Memory {
+        return status;
+    }
     let mut text = String::new(alloc);
     match push_outcome(&mut text, outcome) {
-        Ok(()) => write_reply(sink, text.as_bytes(), status_of(outcome)),
+        Ok(()) => write_reply(sink, text.as_bytes(), status),
         Err(_) => Status::Memory,
     }
 }
@@ -54,9 +59,11 @@ pub fn relay<K: Sink, P: Keeper, V: Vault>(
     // Where no call of a store may fail none may later.
     ensures keeper_steady { P.may_fail keeper.old ≡ false → P.may_fail keeper.new ≡ false }
     ensures vault_steady { V.may_fail vault.old ≡ false → V.may_fail vault.new ≡ false }
-    // Why a run ends so; of a store the record says it.
+    // Why a run ends so; of a store the record says it. Every status but WriteFault, so Memory too, comes only where
+    // the sink's count of faults stood still.
     ensures write_fault { result ≡ Status.WriteFault →
         Rose (K.faults sink.old) (K.faults sink.new) }
+    ensures write_still { result ≢ Status.WriteFault → K.faults sink.new ≡ K.faults sink.old }
     ensures no_read_fault { result ≢ Status.ReadFault }
     ensures no_net_fault { result ≢ Status.NetFault }
     ensures not_usage { result ≢ Status.Usage }
