@@ -1,161 +1,14 @@
-//! A terminal and its line over a vault in memory, to which something happens row by row.
+//! A terminal and its line, to which something happens row by row.
 
-ghost use Rattle.std.specs.Prelude.{◌≡◌, ◌≤◌, IfSome};
-ghost use Rattle.jt_terminal_rule.specs.Messages.{AreSettings};
+ghost use Rattle.std.specs.Prelude.{◌≡◌, ◌≤◌};
 
+use crate::scene::{note, note_at, octets, open, started, tick, transcript};
 use jt_position::{Fix, FixError};
-use jt_register::{AuthTail, Register};
-use jt_store::{MemVault, StoreError};
-use jt_terminal::{Actions, Event, GiveUp, Settings, Terminal, TerminalError, TerminalLine};
-use jt_value::{Edition, Memory, Octets, Phone, Seq};
+use jt_store::MemVault;
+use jt_terminal::{Terminal, TerminalLine};
+use jt_value::{Edition, Memory, Octets, Seq};
 use std::alloc::Global;
-
-fn octets(alloc: Global, octets: &[u8]) -> Result<Octets, Memory> {
-    Ok(Octets::from_vec(Vec::from_slice(alloc, octets)?))
-}
-
-fn zeros(alloc: Global, front: &[u8], count: usize) -> Result<Octets, Memory> {
-    let mut octets = Vec::from_slice(alloc, front)?;
-    for _ in 0..count {
-        octets.push(0)?;
-    }
-    Ok(Octets::from_vec(octets))
-}
-
-fn phone(edition: Edition) -> Option<Phone> {
-    let read = match edition {
-        Edition::E2013 => Phone::from_octets(edition, b"\x01\x39\x12\x34\x56\x78"),
-        Edition::E2019 => {
-            Phone::from_octets(edition, b"\x00\x00\x00\x00\x01\x39\x12\x34\x56\x78")
-        }
-    };
-    match read {
-        Ok(phone) => Some(phone),
-        Err(_) => None,
-    }
-}
-
-// How many octets the maker, the model, and the terminal behind its own seven have.
-fn lengths(edition: Edition) -> (usize, usize, usize) {
-    match edition {
-        Edition::E2013 => (5, 20, 0),
-        Edition::E2019 => (11, 30, 23),
-    }
-}
-
-fn register(alloc: Global, edition: Edition) -> Result<Register, Memory> {
-    let (maker, model, rest) = lengths(edition);
-    Ok(Register {
-        province: 0,
-        city: 0,
-        maker: zeros(alloc, b"", maker)?,
-        model: zeros(alloc, b"", model)?,
-        terminal: zeros(alloc, b"\x31\x32\x33\x34\x35\x36\x37", rest)?,
-        colour: 1,
-        plate: octets(alloc, b"\x4a\x54\x38\x30\x38")?,
-    })
-}
-
-fn tail(edition: Edition) -> Option<AuthTail> {
-    match edition {
-        Edition::E2013 => None,
-        Edition::E2019 => Some(AuthTail {
-            imei: [0; 15],
-            software: [0; 20],
-        }),
-    }
-}
-
-// Good settings: heartbeats of 60 seconds, waits of 10 and three repeats.
-fn settings(alloc: Global, edition: Edition) -> Option<Settings>
-    ensures { IfSome result AreSettings }
-{
-    let phone = phone(edition)?;
-    let Ok(register) = register(alloc, edition) else {
-        return None;
-    };
-    let settings = Settings {
-        phone,
-        register,
-        tail: tail(edition),
-        heartbeat: 60,
-        answer: 10,
-        repeats: 3,
-    };
-    if settings.fits() {
-        Some(settings)
-    } else {
-        None
-    }
-}
-
-// The frames, the units that were told as accepted, and the end, or the error, as octets.
-fn transcript(alloc: Global, answer: &Result<Actions, TerminalError>) -> Result<Octets, Memory> {
-    let mut said = Vec::new(alloc);
-    match answer {
-        Ok(actions) => {
-            for frame in actions.frames.as_slice() {
-                said.extend_from_slice(frame.as_slice())?;
-            }
-            for older in actions.told.as_slice() {
-                said.extend_from_slice(b"told ")?;
-                said.extend_from_slice(&older.to_be_bytes())?;
-            }
-            write_end(&actions.end, &mut said)?;
-        }
-        Err(TerminalError::Store) => said.extend_from_slice(b"store")?,
-        Err(TerminalError::Memory) => said.extend_from_slice(b"memory")?,
-    }
-    Ok(Octets::from_vec(said))
-}
-
-fn write_end(end: &Option<GiveUp>, said: &mut Vec<u8>) -> Result<(), Memory> {
-    match end {
-        None => {}
-        Some(GiveUp::Denied(octets)) => {
-            said.extend_from_slice(b"denied ")?;
-            said.extend_from_slice(octets.as_slice())?;
-        }
-        Some(GiveUp::TimedOut { since, now }) => {
-            said.extend_from_slice(b"timed out ")?;
-            said.extend_from_slice(&since.to_be_bytes())?;
-            said.extend_from_slice(&now.to_be_bytes())?;
-        }
-    }
-    Ok(())
-}
-
-fn started(alloc: Global, edition: Edition) -> Option<Terminal<MemVault>>
-    ensures { IfSome result (λ terminal. terminal.state.time ≡ 0) }
-{
-    let settings = settings(alloc, edition)?;
-    match Terminal::start(
-        alloc,
-        MemVault::new(alloc, 100_000, Seq::new(alloc)),
-        settings,
-    ) {
-        Ok(terminal) => Some(terminal),
-        Err(_) => None,
-    }
-}
-
-fn note(alloc: Global, terminal: &mut Terminal<MemVault>, fix: &Fix) -> Result<Octets, Memory>
-    ensures { terminal.new.state.time ≡ terminal.old.state.time }
-{
-    match terminal.note_fix(alloc, fix) {
-        Ok(()) => octets(alloc, b""),
-        Err(StoreError::Failed | StoreError::Full(_) | StoreError::Memory) => {
-            octets(alloc, b"not recorded")
-        }
-    }
-}
-
-fn note_at(alloc: Global, terminal: &mut Terminal<MemVault>, lat: u32) -> Result<Octets, Memory>
-    ensures { terminal.new.state.time ≡ terminal.old.state.time }
-{
-    let fix = Fix::at(alloc, lat)?;
-    note(alloc, terminal, &fix)
-}
+use std::process::Abort;
 
 fn note_read(
     alloc: Global,
@@ -170,21 +23,6 @@ fn note_read(
             alloc, b"no fix",
         ),
     }
-}
-
-fn open(alloc: Global, terminal: &mut Terminal<MemVault>) -> Result<Octets, Memory>
-    ensures { terminal.new.state.time ≡ terminal.old.state.time }
-{
-    let result = terminal.event(alloc, Event::Opened);
-    transcript(alloc, &result)
-}
-
-fn tick(alloc: Global, terminal: &mut Terminal<MemVault>, now: u64) -> Result<Octets, Memory>
-    requires { terminal.old.state.time ≤ now }
-    ensures { terminal.new.state.time ≡ now }
-{
-    let result = terminal.event(alloc, Event::Tick(now));
-    transcript(alloc, &result)
 }
 
 // What a circle has behind its id: no attribute, a latitude, a longitude and a radius.
@@ -326,7 +164,7 @@ fn happens(
 /// The first row whose octets are not what the terminal said, or the number of rows. In a row stand what happens, a number,
 /// octets that come, and what is said then.
 pub fn first_wrong(alloc: Global, edition: Edition, rows: &[(u8, u32, &[u8], &[u8])]) -> usize {
-    let Some(mut terminal) = started(alloc, edition) else {
+    let Some(mut terminal) = started(alloc, edition, Seq::new(alloc)) else {
         return 0;
     };
     let mut line = TerminalLine::new(alloc);
@@ -358,7 +196,7 @@ fn cut_says(
     second: &[u8],
     said: &[u8],
 ) -> bool {
-    let Some(mut terminal) = started(alloc, edition) else {
+    let Some(mut terminal) = started(alloc, edition, Seq::new(alloc)) else {
         return false;
     };
     let mut line = TerminalLine::new(alloc);
@@ -430,4 +268,88 @@ fn wrong_row(
         }
     }
     rows.len()
+}
+
+/// A row of both editions: the octets that come and what is said then, in 2013 and in 2019.
+pub type Both<'a> = (u8, u32, &'a [u8], &'a [u8], &'a [u8], &'a [u8]);
+
+// The terminal is let in: it registers, and authenticates itself.
+const LIVE: &[Both] = &[
+    (
+        b'O',
+        0,
+        b"",
+        b"\x7e\x01\x00\x00\x2a\x01\x39\x12\x34\x56\x78\x00\x00\x00\x00\x00\x00\x00\x00\x00\x00\x00\x00\x00\x00\x00\x00\x00\x00\x00\x00\x00\x00\x00\x00\x00\x00\x00\x00\x00\x00\x00\x31\x32\x33\x34\x35\x36\x37\x01\x4a\x54\x38\x30\x38\x04\x7e",
+        b"",
+        b"\x7e\x01\x00\x40\x51\x01\x00\x00\x00\x00\x01\x39\x12\x34\x56\x78\x00\x00\x00\x00\x00\x00\x00\x00\x00\x00\x00\x00\x00\x00\x00\x00\x00\x00\x00\x00\x00\x00\x00\x00\x00\x00\x00\x00\x00\x00\x00\x00\x00\x00\x00\x00\x00\x00\x00\x00\x00\x00\x00\x00\x00\x00\x00\x31\x32\x33\x34\x35\x36\x37\x00\x00\x00\x00\x00\x00\x00\x00\x00\x00\x00\x00\x00\x00\x00\x00\x00\x00\x00\x00\x00\x00\x00\x01\x4a\x54\x38\x30\x38\x3e\x7e",
+    ),
+    (
+        b'D',
+        0,
+        b"\x7e\x81\x00\x00\x05\x01\x39\x12\x34\x56\x78\x00\x00\x00\x00\x00\x41\x42\xb7\x7e",
+        b"\x7e\x01\x02\x00\x02\x01\x39\x12\x34\x56\x78\x00\x01\x41\x42\x33\x7e",
+        b"\x7e\x81\x00\x40\x05\x01\x00\x00\x00\x00\x01\x39\x12\x34\x56\x78\x00\x00\x00\x00\x00\x41\x42\xf6\x7e",
+        b"\x7e\x01\x02\x40\x26\x01\x00\x00\x00\x00\x01\x39\x12\x34\x56\x78\x00\x01\x02\x41\x42\x00\x00\x00\x00\x00\x00\x00\x00\x00\x00\x00\x00\x00\x00\x00\x00\x00\x00\x00\x00\x00\x00\x00\x00\x00\x00\x00\x00\x00\x00\x00\x00\x00\x00\x00\x54\x7e",
+    ),
+    (
+        b'D',
+        0,
+        b"\x7e\x80\x01\x00\x05\x01\x39\x12\x34\x56\x78\x00\x01\x00\x01\x01\x02\x00\xb7\x7e",
+        b"",
+        b"\x7e\x80\x01\x40\x05\x01\x00\x00\x00\x00\x01\x39\x12\x34\x56\x78\x00\x01\x00\x01\x01\x02\x00\xf6\x7e",
+        b"",
+    ),
+];
+
+fn push_in<'a>(
+    rt: &impl Abort,
+    edition: Edition,
+    rows: &[Both<'a>],
+    all: &mut Vec<(u8, u32, &'a [u8], &'a [u8])>,
+) {
+    for &(what, number, given_2013, said_2013, given_2019, said_2019) in rows {
+        let row = match edition {
+            Edition::E2013 => (what, number, given_2013, said_2013),
+            Edition::E2019 => (what, number, given_2019, said_2019),
+        };
+        all.push(row).expect(rt, "a row");
+    }
+}
+
+/// The rows of one edition that let the terminal in, and those that are given.
+pub fn live_in<'a>(
+    rt: &impl Abort,
+    alloc: Global,
+    edition: Edition,
+    rows: &[(u8, u32, &'a [u8], &'a [u8])],
+) -> Vec<(u8, u32, &'a [u8], &'a [u8])> {
+    let mut all = Vec::new(alloc);
+    push_in(rt, edition, LIVE, &mut all);
+    all.extend_from_slice(rows).expect(rt, "rows");
+    all
+}
+
+/// A terminal that is let in says in this edition what the rows say.
+pub fn expect_in(
+    rt: &impl Abort,
+    alloc: Global,
+    edition: Edition,
+    rows: &[(u8, u32, &[u8], &[u8])],
+) {
+    let all = live_in(rt, alloc, edition, rows);
+    assert!(rt; first_wrong(alloc, edition, all.as_slice()) == all.len());
+}
+
+/// In each edition the terminal says what the rows say, once it is let in or from its start.
+pub fn expect_both(rt: &impl Abort, alloc: Global, is_live: bool, rows: &[Both]) {
+    let live: &[Both] = if is_live { LIVE } else { &[] };
+    expect_behind(rt, alloc, Edition::E2013, live, rows);
+    expect_behind(rt, alloc, Edition::E2019, live, rows);
+}
+
+fn expect_behind(rt: &impl Abort, alloc: Global, edition: Edition, front: &[Both], rows: &[Both]) {
+    let mut all = Vec::new(alloc);
+    push_in(rt, edition, front, &mut all);
+    push_in(rt, edition, rows, &mut all);
+    assert!(rt; first_wrong(alloc, edition, all.as_slice()) == front.len() + rows.len());
 }
