@@ -5,11 +5,11 @@
     tools/believed.py CRATE:CALL ..    of these calls alone; CRATE alone stands for all public calls of the crate
     tools/believed.py --short ..       the sums alone
 
-It begins at the names that the clauses use and the file imports from specs/, and follows the `use` lines of the files in specs/. A
+It begins at the names that the clauses use and the file imports from specs/, and at what the `ghost view` of each type uses that a
+call's signature names, with the views of the fields that this view shows; and it follows the `use` lines of the files in specs/. A
 line for each file, lowest first, so that a file stands behind all that it uses: how many of its lines are definitions (with their
 comments) that are reached name by name, its lines in all, a mark, and its path. A name is reached where its text stands in what
-was reached before, so too much may be counted; 0 says that the file is imported for definitions that are not. What a value shows
-is the `ghost view` of its type in src/, which is not followed.
+was reached before, so too much may be counted; 0 says that the file is imported for definitions that are not.
 Marks: 'steps' are files whose head says that they are for the proofs, 'partly' those that are so but for what the head names, and
 '?' those whose head says neither. Types (`declared`) are the program's own; they and the kit's definitions are not in the list.
 """
@@ -33,6 +33,9 @@ USE = re.compile(r"^\s*(?:pub |ghost )*use (Rattle\.[\w.]+?)(?:\.\{([^}]*)\}| as
 DECLARED = re.compile(r"^(?:  )?(?:(?:abbrev|unfoldable)(?: pub)? |pub (?:record |data )?|record |data )(\S+)")
 FIELD = re.compile(r"^ +pub \S+ :")
 MEMBER = re.compile(r"^ {2,}(?:pub )?((?:[^\s(){}=]+ )+):")
+MODEL = re.compile(r"^impl(?:<[^{]*>)? Model for (\w+)[^{]*\{", re.M)
+VIEW = re.compile(r"ghost (?:view|Value) = \{(.*?)\};[ ]*$", re.M | re.S)
+FIELD_OF = re.compile(r"^\s+(?:pub(?:\([a-z]+\))? )?(\w+): (.*?),?$", re.M)
 STEPS = re.compile(r"\bsteps?\b|\bfor (the )?proofs\b", re.I)
 BELIEVED = re.compile(r"(?<!needs )to be believed", re.I)
 
@@ -140,8 +143,61 @@ def reach(starts):
     return found
 
 
+class Model:
+    """What a type of src/ shows: the text of its view, what that text imports, its fields, and the types that its file names."""
+
+    def __init__(self, crate, text, name, block):
+        self.crate = crate
+        self.shown = " ".join(VIEW.findall(block))
+        self.uses = uses(block) + uses(text.replace(block, ""))
+        struct = re.search(rf"^(?:pub(?:\([a-z]+\))? )?struct {name}\b[^;{{]*\{{(.*?)^\}}", text, re.M | re.S)
+        self.fields = dict(FIELD_OF.findall(struct.group(1))) if struct else {}
+        self.crates = dict_of_names(text)
+
+
+def dict_of_names(text):
+    """Of each name that a file of src/ takes from another crate, the crate."""
+    found = {}
+    for crate, names in re.findall(r"^use (\w+)::([^;]*);", text, re.M):
+        for name in re.findall(r"\w+", names):
+            found[name] = crate
+    return found
+
+
+@functools.lru_cache(None)
+def models(root):
+    """The types that have a view, as a table of (crate, name)."""
+    found = {}
+    for crate in sorted(os.listdir(os.path.join(root, "crates"))):
+        for base, _, files in sorted(os.walk(os.path.join(root, "crates", crate, "src"))):
+            for file in sorted(name for name in files if name.endswith(".rt")):
+                with open(os.path.join(base, file), encoding="utf-8") as opened:
+                    text = opened.read()
+                for head in MODEL.finditer(text):
+                    block = text[head.start():clauses.closing(text, head.end() - 1)]
+                    found[crate, head.group(1)] = Model(crate, text, head.group(1), block)
+    return found
+
+
+def shown_by(types, crate, crates, seen):
+    """The names of specs/ by which values of these types show what clauses see of them."""
+    found, known = set(), models(clauses.ROOT)
+    for place, name in re.findall(r"(?:(\w+)::)?(\w+)", types):
+        key = next((key for key in ((place, name), (crate, name), (crates.get(name), name)) if key in known), None)
+        if key is None or key in seen:
+            continue
+        seen.add(key)
+        model = known[key]
+        words = words_in(model.shown)
+        found.update(imported(model.uses, words))
+        for field, kind in model.fields.items():
+            if field in words:
+                found |= shown_by(kind, key[0], model.crates, seen)
+    return found
+
+
 def starts_of(root):
-    """The names of specs/ that the clauses of these calls use, as (file, name)."""
+    """The names of specs/ that the clauses of these calls use, and those by which their values show what clauses see, as (file, name)."""
     crate, _, name = root.partition(":")
     calls = [call for call in clauses.public_calls(crate) if not name or name in (call.name, call.fn)]
     if not calls:
@@ -150,6 +206,7 @@ def starts_of(root):
     for call in calls:
         words = words_in(" ".join(said for kind, _, said in call.clauses if kind != "//"))
         found.update(imported(uses(read(call.path)), words))
+        found |= shown_by(f"{call.owner} {call.signature}", crate, dict_of_names(read(call.path)), set())
     return found
 
 

@@ -100,6 +100,54 @@ length_of octets = base.base ▹ 1
 pub record Unasked : Type 0 where
   pub left : ℕ
 """,
+    "high/src/lib.rt": "mod parts;\nmod shown;\n\npub use shown::Shown;\n",
+    "high/src/parts.rt": """//! Parts.
+
+pub(crate) struct Inner {
+    count: u8,
+}
+
+impl Model for Inner {
+    ghost use Rattle.high.specs.Shows.{shows};
+
+    ghost Value = { ℕ };
+
+    ghost view = { λ i. shows i.count };
+}
+""",
+    "high/src/shown.rt": """//! What is shown.
+
+use crate::parts::Inner;
+
+/// What is shown.
+pub struct Shown {
+    inner: Inner,
+    other: u8,
+}
+
+impl Model for Shown {
+    ghost Value = { ℕ };
+
+    ghost view = { λ s. s.inner };
+}
+
+impl Shown {
+    /// The number.
+    pub fn get(&self) -> u8
+        ensures { result ≡ self.now }
+    {
+        self.other
+    }
+}
+""",
+    "high/specs/Shows.antt": """-- What is held. For the proofs, but for `shows`, which is to be believed.
+use Rattle.std.specs.Prelude.{ℕ}
+abbrev pub shows : ℕ → ℕ
+shows n = n
+
+abbrev pub hides : ℕ → ℕ
+hides n = n
+""",
 }
 
 
@@ -114,7 +162,7 @@ class Small(unittest.TestCase):
                 file.write(text)
         root, clauses.ROOT = clauses.ROOT, folder.name
         self.addCleanup(setattr, clauses, "ROOT", root)
-        for cached in (believed.read, believed.spec):
+        for cached in (believed.read, believed.spec, believed.models):
             cached.cache_clear()
 
     def printed(self, tool, *words):
@@ -163,6 +211,10 @@ class Believed(Small):
     def test_sums(self):
         self.assertEqual(self.printed(believed, "--short", "low"), (
             "low: 3 files, 23 lines, of which 7 are reached; 1 are steps, 4 lines, of which 2 are reached\n"))
+
+    def test_the_views_of_the_values_that_clauses_speak_of(self):
+        self.assertEqual(self.printed(believed, "high:get").split("\n")[:1], [
+            "    2     7 partly  crates/high/specs/Shows.antt"])
 
     def test_a_call_that_is_not_there(self):
         with self.assertRaises(SystemExit):

@@ -1,8 +1,14 @@
+ghost use Rattle.std.specs.Prelude.{◌≡◌, ◌≤◌};
+ghost use Rattle.jt_terminal_rule.specs.declared.state.Phase.TheVariants.{Down};
+
 use crate::setting::{frames, link, ready, told_all};
-use jt_agent::report_all;
+use jt_agent::{Outcome, report_all};
 use jt_outside::{ScriptClock, ScriptDial};
+use jt_store::MemVault;
+use jt_terminal::Terminal;
 use jt_value::{Memory, Seq};
 use std::alloc::Global;
+use std::process::Abort;
 use std::test::Fail;
 
 // A dial of two links that give these frames. The call of a number of it fails, and the call of a number of its first link.
@@ -51,30 +57,59 @@ fn are_written(
     Ok(written.as_slice() == wanted.as_slice())
 }
 
+// (a call of its own, with no clause: its caller owns the terminal)
+fn report_over(
+    alloc: Global,
+    dial: &mut ScriptDial,
+    clock: &mut ScriptClock,
+    terminal: &mut Terminal<MemVault>,
+    tries: u32,
+) -> Outcome
+    requires down { terminal.old.state.phase ≡ Down }
+    requires time { terminal.old.state.time ≤ clock.old.last }
+{
+    report_all(alloc, dial, clock, terminal, "localhost", 9000, tries)
+}
+
+// What the attempts come to.
+fn reported(
+    rt: &impl Abort,
+    alloc: Global,
+    has_fix: bool,
+    vault_failing: u64,
+    dial: &mut ScriptDial,
+    tries: u32,
+) -> Outcome {
+    let mut terminal = ready(alloc, has_fix, vault_failing).expect(rt, "a terminal");
+    let mut clock = ScriptClock::new(Seq::new(alloc));
+    let reported = report_over(alloc, dial, &mut clock, &mut terminal, tries);
+    drop(terminal);
+    drop(clock);
+    reported
+}
+
+// Whether attempts came to this.
+fn is_told(alloc: Global, reported: &Outcome, outcome: &[u8]) -> bool {
+    match told_all(alloc, reported) {
+        Ok(said) => said.as_slice() == outcome,
+        Err(_) => false,
+    }
+}
+
 // Whether the attempts come to this.
 fn come_to(
+    rt: &impl Abort,
     alloc: Global,
     has_fix: bool,
     vault_failing: u64,
     dial: &mut ScriptDial,
     tries: u32,
     outcome: &[u8],
-) -> Result<bool, Memory> {
-    let Some(mut terminal) = ready(alloc, has_fix, vault_failing) else {
-        return Ok(false);
-    };
-    let mut clock = ScriptClock::new(Seq::new(alloc));
-    let reported = report_all(
-        alloc,
-        dial,
-        &mut clock,
-        &mut terminal,
-        "localhost",
-        9000,
-        tries,
-    );
-    let said = told_all(alloc, &reported)?;
-    Ok(said.as_slice() == outcome)
+) -> bool {
+    let reported = reported(rt, alloc, has_fix, vault_failing, dial, tries);
+    let is_told = is_told(alloc, &reported, outcome);
+    drop(reported);
+    is_told
 }
 
 // How many attempts there may be; the number of the dial that fails; the number of the first link's call that fails; what both
@@ -103,7 +138,7 @@ fn attempts_one_after_another(rt: HostRuntime) -> Result<(), Fail> {
     ];
     for (tries, failing, first_failing, first, second, outcome, written, then) in rows {
         let mut dial = dial(rt.alloc(), *failing, *first_failing, first, second)?;
-        assert!(rt; come_to(rt.alloc(), true, 0, &mut dial, *tries, outcome)?);
+        assert!(rt; come_to(&rt, rt.alloc(), true, 0, &mut dial, *tries, outcome));
         assert!(rt; are_written(rt.alloc(), &dial, written, then)?);
     }
     Ok(())
@@ -119,7 +154,7 @@ fn a_dial_that_always_fails(rt: HostRuntime) -> Result<(), Fail> {
     ];
     for (has_fix, tries, outcome) in rows {
         let mut dial = ScriptDial::new(rt.alloc(), Seq::new(rt.alloc()), Seq::new(rt.alloc()))?;
-        assert!(rt; come_to(rt.alloc(), *has_fix, 0, &mut dial, *tries, outcome)?);
+        assert!(rt; come_to(&rt, rt.alloc(), *has_fix, 0, &mut dial, *tries, outcome));
     }
     Ok(())
 }
@@ -130,7 +165,7 @@ fn the_vault_fails(rt: HostRuntime) -> Result<(), Fail> {
     let rows: &[(u64, u64, &[u8])] = &[(0, 3, b"store fault"), (1, 4, b"dial store fault")];
     for (failing, vault_failing, outcome) in rows {
         let mut dial = dial(rt.alloc(), *failing, 0, b"rau", b"")?;
-        assert!(rt; come_to(rt.alloc(), true, *vault_failing, &mut dial, 3, outcome)?);
+        assert!(rt; come_to(&rt, rt.alloc(), true, *vault_failing, &mut dial, 3, outcome));
     }
     Ok(())
 }

@@ -1,13 +1,18 @@
 //! The program `jt808`: it makes the real objects, and leaves all else to `jt_cli::run`.
 #![tactic(auto)]
 
-use jt_cli::{Outside, Status, run};
-use jt_outside::{StdClock, StdSink, StdSource, TcpDial, TcpListen};
+use jt_cli::{Ended, Outside, Status, run};
+use jt_outside::{
+    Clock, Dial, Listen, Sink, Source, StdClock, StdSink, StdSource, TcpDial, TcpListen,
+};
 use jt_sql::{SqlKeeper, SqlVault};
+use jt_store::{Keeper, Vault};
 use jt_value::Memory;
-use std::alloc::AllocError;
+use std::alloc::{AllocError, Global};
 use std::env::Env;
 use std::process::ExitCode;
+use std::sync::Wait;
+use std::thread::Threads;
 use std::{env, io};
 
 // The files of the stores, in the present folder.
@@ -60,22 +65,83 @@ fn make_stores(rt: &HostRuntime) -> Result<Stores, Memory> {
     })
 }
 
-fn main(rt: HostRuntime) -> ExitCode {
-    let alloc = rt.alloc();
-    let status = match (words(&rt), make_links(&rt), make_stores(&rt)) {
-        (Ok(words), Ok(links), Ok(stores)) => {
-            let outside = Outside {
-                source: StdSource::new(rt.stdin()),
-                sink: StdSink::new(rt.stdout()),
-                dial: links.dial,
-                listen: links.listen,
-                clock: links.clock,
-                keeper: stores.keeper,
-                vault: stores.vault,
-            };
-            run(&rt, alloc, &words, outside).status
+// Runs the words over all that is outside, and says how the run ended. (of any types: over the real ones each part, and what
+// lets go of it, would be a step of the proof)
+fn ran<
+    R: Threads + Wait + Sync,
+    S: Source + Drop,
+    K: Sink + Drop,
+    D: Dial + Drop,
+    L: Listen + Drop,
+    C: Clock + Drop,
+    P: Keeper + Send + Drop,
+    V: Vault + Drop,
+>(rt: &R, alloc: Global, words: &Vec<String>, outside: Outside<S, K, D, L, C, P, V>) -> Status
+where
+    L::Link: Send,
+{
+    let Ended {
+        status,
+        outside,
+        reports,
+        history,
+    } = run(rt, alloc, words, outside);
+    drop(outside);
+    drop(reports);
+    drop(history);
+    status
+}
+
+// The run over the real objects, once there are links.
+fn over_stores<R: Threads + Wait + Sync>(
+    threads: &R,
+    rt: &HostRuntime,
+    words: &Vec<String>,
+    links: Links,
+    stores: Stores,
+) -> Status {
+    let outside = Outside {
+        source: StdSource::new(rt.stdin()),
+        sink: StdSink::new(rt.stdout()),
+        dial: links.dial,
+        listen: links.listen,
+        clock: links.clock,
+        keeper: stores.keeper,
+        vault: stores.vault,
+    };
+    ran(threads, rt.alloc(), words, outside)
+}
+
+fn over_links<R: Threads + Wait + Sync>(
+    threads: &R,
+    rt: &HostRuntime,
+    words: &Vec<String>,
+    links: Links,
+) -> Status {
+    match make_stores(rt) {
+        Ok(stores) => over_stores(threads, rt, words, links, stores),
+        Err(_) => {
+            drop(links);
+            Status::Memory
         }
-        _ => Status::Memory,
+    }
+}
+
+fn over_words<R: Threads + Wait + Sync>(
+    threads: &R,
+    rt: &HostRuntime,
+    words: &Vec<String>,
+) -> Status {
+    match make_links(rt) {
+        Ok(links) => over_links(threads, rt, words, links),
+        Err(_) => Status::Memory,
+    }
+}
+
+fn main(rt: HostRuntime) -> ExitCode {
+    let status = match words(&rt) {
+        Ok(words) => over_words(&rt, &rt, &words),
+        Err(_) => Status::Memory,
     };
     ExitCode::from(status.number())
 }

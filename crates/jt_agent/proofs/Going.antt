@@ -42,7 +42,7 @@ octets_of-append laws settings first more =
 more_rise : (times before mid now : ℕ) → RoseBy times before mid → Rose mid now → RoseBy (times + 1) before now
 more_rise times before mid now rose once = omega arith
 
-still_rose : (times before mid now : ℕ) → RoseBy times before mid → mid ≤ now → RoseBy times before now
+pub still_rose : (times before mid now : ℕ) → RoseBy times before mid → mid ≤ now → RoseBy times before now
 still_rose times before mid now rose later = omega arith
 
 pub rose_later : (before mid now : ℕ) → before ≤ mid → Rose mid now → Rose before now
@@ -500,7 +500,7 @@ quiet_more quiet old now next few is run rose =
 pub none_run : (run old : ℕ) → run ≡ 0 → run ≤ old + 0
 none_run run old is = omega (arith, is)
 
-weaker_rise : (times before now : ℕ) → RoseBy times before now → RoseBy 0 before now
+pub weaker_rise : (times before now : ℕ) → RoseBy times before now → RoseBy 0 before now
 weaker_rise times before now rose = omega arith
 
 pub quiet_from : (next : Due) (old now : AtLink) (time time_now : Time) (line : LineValue) (taken : ℕ) → GoesOn next old now time time_now line taken

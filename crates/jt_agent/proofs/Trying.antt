@@ -10,6 +10,7 @@ use Rattle.jt_agent.specs.declared.ending.AttemptEnd.{AttemptEnd}
 use Rattle.jt_agent.specs.declared.ending.AttemptEnd.TheVariants as how
 use Rattle.jt_agent.specs.declared.ending.Attempted.{Attempted}
 use Rattle.jt_agent.proofs.Concluding.{done_is}
+use Rattle.jt_agent.proofs.Going.{still_rose, weaker_rise}
 
 -- one more try that ended
 pub tries_more : (ends : List AttemptEnd) (end : AttemptEnd) (old mid now : Between) → Tries ends old mid → is_done mid.state ≡ false → OneTry end mid now → Tries (ends ++ end ∷ []) old now
@@ -26,9 +27,6 @@ one_more n before mid now once rose = omega arith
 as_many : (n before mid now : ℕ) → before ≤ mid → RoseBy n mid now → RoseBy n before now
 as_many n before mid now later rose = omega arith
 
-still : (n before mid now : ℕ) → RoseBy n before mid → mid ≤ now → RoseBy n before now
-still n before mid now rose later = omega arith
-
 none : (before now : ℕ) → before ≤ now → RoseBy 0 before now
 none before now later = omega arith
 
@@ -43,22 +41,19 @@ dials_rose (how.TimedOut since moment ∷ ends) old now tries = as_many (dials_i
 dials_rose (how.Idle ∷ ends) old now tries = as_many (dials_in ends) old.dial tries.1.dial now.dial tries.2.dial.later (dials_rose ends tries.1 now tries.3)
 dials_rose (how.Spent ∷ ends) old now tries = as_many (dials_in ends) old.dial tries.1.dial now.dial tries.2.dial.later (dials_rose ends tries.1 now tries.3)
 
-weaker : (n before now : ℕ) → RoseBy n before now → RoseBy 0 before now
-weaker n before now rose = omega arith
-
 -- so it did for the ends that are told
 pub dials_told : (ends told : List AttemptEnd) (old now : Between) → told ≡ ends → Tries ends old now → RoseBy (dials_in told) old.dial now.dial
 dials_told ends told old now same tries = subst (λ l. RoseBy (dials_in l) old.dial now.dial) (sym same) (dials_rose ends old now tries)
 
 pub dials_broken : (ends told : List AttemptEnd) (old mid now : Between) (end : Attempted) → told ≡ ends → Tries ends old mid → OverLink mid now end → RoseBy (dials_in told) old.dial now.dial
 dials_broken ends told old mid now end same tries last =
-    still (dials_in told) old.dial mid.dial now.dial (dials_told ends told old mid same tries) last.dial.later
+    still_rose (dials_in told) old.dial mid.dial now.dial (dials_told ends told old mid same tries) last.dial.later
 
 pub dials_none : (ends : List AttemptEnd) (old now : Between) → Tries ends old now → RoseBy 0 old.dial now.dial
-dials_none ends old now tries = weaker (dials_in ends) old.dial now.dial (dials_rose ends old now tries)
+dials_none ends old now tries = weaker_rise (dials_in ends) old.dial now.dial (dials_rose ends old now tries)
 
 pub dials_none_broken : (ends : List AttemptEnd) (old mid now : Between) (end : Attempted) → Tries ends old mid → OverLink mid now end → RoseBy 0 old.dial now.dial
-dials_none_broken ends old mid now end tries last = still 0 old.dial mid.dial now.dial (dials_none ends old mid tries) last.dial.later
+dials_none_broken ends old mid now end tries last = still_rose 0 old.dial mid.dial now.dial (dials_none ends old mid tries) last.dial.later
 
 -- ---- the last attempt
 

@@ -1,9 +1,7 @@
 pub mod Asking
-pub mod OldWords
 pub mod Runs
 pub mod ScriptRuns
 pub mod StatusesOfRuns
 pub mod TaskWords
 pub mod Telling
-pub mod Today
 pub mod ToldWords

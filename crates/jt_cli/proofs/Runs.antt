@@ -3,7 +3,7 @@ use Rattle.std.proofs.Common.{◌≡◌, ℕ, List, [], Option, refl, sym, subst
 use Rattle.std.proofs.KnownBytes.{Appends-nil}
 use Rattle.jt_report_command.specs.ReportWords.{ReportValues}
 use Rattle.jt_report_command.specs.Running.{RunsReport, Scene}
-use Rattle.jt_report_command.specs.Settings.{settings_of}
+use Rattle.jt_terminal_rule.specs.PlainSettings.{settings_of}
 use Rattle.jt_terminal_steps.specs.Running.{IsStarted}
 use Rattle.jt_value.specs.declared.phone.Phone.{Phone}
 use Rattle.jt_input.specs.declared.status.Status.TheVariants as status

@@ -16,7 +16,7 @@ use Rattle.jt_relay_command.specs.Running.{RunsRelay}
 use Rattle.jt_report_command.specs.ReportWords as words
 use Rattle.jt_report_command.specs.Running as report
 use Rattle.jt_report_command.specs.Running.{RunsReport}
-use Rattle.jt_report_command.specs.Settings.{settings_of}
+use Rattle.jt_terminal_rule.specs.PlainSettings.{settings_of}
 use Rattle.jt_report_command.specs.Steps.{VaultKeeps}
 use Rattle.jt_terminal_steps.specs.Running.{IsStarted}
 use Rattle.jt_input.specs.Answer.{AnswersReply}

@@ -3,7 +3,7 @@
 ghost use Rattle.std.specs.Prelude.{◌≡◌, ◌≢◌};
 ghost use Rattle.jt_value.specs.Counts.{Rose};
 ghost use Rattle.jt_report_command.specs.Telling.{values_in_words};
-ghost use Rattle.jt_report_command.specs.Settings.{AreSpoken};
+ghost use Rattle.jt_report_command.specs.ReportWords.{AreSpoken};
 ghost use Rattle.jt_cli.specs.Running.{Reports, eyes_of};
 
 use crate::outside::{Ended, Outside};

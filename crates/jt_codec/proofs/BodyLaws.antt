@@ -6,7 +6,7 @@ use Rattle.jt_value.specs.declared.phone.Edition.{Edition}
 use Rattle.jt_value.specs.declared.refusal.Refusal.{Refusal}
 use Rattle.jt_value.specs.declared.refusal.CodecError.{CodecError}
 use Rattle.jt_value.specs.declared.refusal.CodecError.TheVariants as errors
-use Rattle.jt_layout.specs.Layout.{Body, Fills, number, word, dword, ended, rest, if_body, body_case, spell_case, spell_option, only_if, may_end}
+use Rattle.jt_layout.specs.Layout.{Body, Fills, ◌>>=◌, number, word, dword, ended, rest, if_body, body_case, spell_case, spell_option, only_if, may_end}
 use Rattle.jt_layout.specs.Answer.{Answers}
 use Rattle.jt_layout.proofs.Laws.{IsBody, byte_law, word_law, dword_law, if_law, then_law, then_body_law, ended_law, body_as_law, empty_law, rest_law, case_law}
 use Rattle.jt_layout.proofs.Repeats.{IsNeverEmpty, only_if_law, may_end_law}
@@ -213,10 +213,17 @@ pub record IsRow (id : ℕ) (b : Body Message) : Type 0 where
   pub under : (m : Message) → b.Fits m → id_of m ≡ Some id
   -- an opaque message that fits is spelled by its octets
   pub opaque : (own : ℕ) (v : List ℕ) → b.Fits (message.Opaque own v) → b.spell (message.Opaque own v) ≡ v
+  -- what is read of any numbers has this id
+  pub read : (octets : List ℕ) (m : Message) → b.read octets 0 ≡ Ok m → id_of m ≡ Some id
 
 some_case : {A : Type 0} (o : Option A) (P : A → Type 0) → IsSomeAnd o P → (x : A) × (o ≡ Some x)
 some_case None P h = absurd h
 some_case (Some x) P h = (x, refl)
+
+-- what a row reads is made of its fields
+pub made : {A : Type 0} (make : A → Message) (r : Result A Refusal) (m : Message) → (r >>= λ x. Ok (make x)) ≡ Ok m → (x : A) × (m ≡ make x)
+made make (Ok x) m e = (x, cc)
+made make (Err r) m e = absurd cc
 
 is_row : (id : ℕ) {A : Type 0} (f : Body A) (make : A → Message) (case_of : Message → Option A) → IsBody f
     → ((x : A) → case_of (make x) ≡ Some x) → ((m : Message) (x : A) → case_of m ≡ Some x → make x ≡ m) → ((x : A) → id_of (make x) ≡ Some id)
@@ -226,6 +233,7 @@ is_row id f make case_of law back forth named opaque = record {
   law = case_law f make case_of law back forth;
   under = λ m fits. let c = some_case (case_of m) f.Fits fits in ap id_of (sym (forth m c.0 c.1)) ∙ named c.0;
   opaque = opaque;
+  read = λ octets m e. let x = made make (f.read octets 0) m e in ap id_of x.1 ∙ named x.0;
 }
 
 -- a row of its own has no opaque message
@@ -308,6 +316,10 @@ body_law edition id = (body_row edition id).law
 
 pub body_under : (edition : Edition) (id : ℕ) (m : Message) → (body edition id).Fits m → id_of m ≡ Some id
 body_under edition id = (body_row edition id).under
+
+-- what is read under an id, of any numbers, has this id
+pub read_under : (edition : Edition) (id : ℕ) (octets : List ℕ) (m : Message) → (body edition id).read octets 0 ≡ Ok m → id_of m ≡ Some id
+read_under edition id = (body_row edition id).read
 
 pub opaque_octets : (edition : Edition) (id : ℕ) (v : List ℕ) → Fits edition (message.Opaque id v) → v ≡ body_octets edition (message.Opaque id v)
 opaque_octets edition id v fits = sym ((body_row edition id).opaque id v fits)

@@ -5,7 +5,7 @@ use Rattle.jt_value.specs.declared.memory.Memory.{Memory}
 use Rattle.jt_position.specs.declared.fixed.Fixed.{Fixed}
 use Rattle.jt_regions.specs.declared.change.RegionChange.{RegionChange}
 use Rattle.jt_regions.specs.Tables.{Applies}
-use Rattle.jt_terminal_rule.proofs.Tabling.{change_says}
+use Rattle.jt_regions.proofs.Changing.{change_says}
 use Rattle.jt_fence.specs.Settling.{settled_on}
 use Rattle.jt_fence.specs.Watching.{Seen}
 use Rattle.jt_input.specs.Text.{is_within}

@@ -1,6 +1,6 @@
 -- What octets are read as is what the functions of lines say of them.
 use Rattle.std.proofs.Common.{◌≡◌, ℕ, ◌≤◌, ◌<◌, true, false, List, length, Err, refl, subst, arith}
-use Rattle.std.specs.Prelude.{nat_le}
+use Rattle.std.proofs.lemmas.Bool.{le-leb, lt-leb}
 use Rattle.jt_value.specs.Octets.{AreOctets}
 use Rattle.jt_value.specs.declared.refusal.CodecError.{CodecError}
 use Rattle.jt_value.specs.declared.refusal.CodecError.TheVariants as errors
@@ -19,25 +19,19 @@ use Rattle.jt_regions.specs.declared.change.RegionChange.TheVariants as change
 use Rattle.jt_fence_command.specs.declared.line.FenceLine.TheVariants.{Fix, Change, Bad}
 use Rattle.jt_fence_command.specs.FenceLines.{fix_say, rectangles_say, polygon_say, deletion_say}
 
-few_is : (n most : ℕ) → n ≤ most → nat_le n most ≡ true
-few_is n most le = grind arith
-
-many_is : (n most : ℕ) → most < n → nat_le n most ≡ false
-many_is n most lt = grind arith
-
 -- ---- fixes
 
 pub fix_is : IsOneToOne position → (s : List ℕ) (m : Position) → AreOctets s → length s ≤ 1023 → Fills position s 0 m → Fix m.fixed ≡ fix_say s
 unfolding fix_say
-fix_is law s m octets few fills = rw (few_is (length s) 1023 few, (law.reads_value s m octets).1 fills) refl
+fix_is law s m octets few fills = rw (le-leb (length s) 1023 few, (law.reads_value s m octets).1 fills) refl
 
 pub no_fix : IsOneToOne position → (s : List ℕ) (r : Refusal) → AreOctets s → length s ≤ 1023 → position.Refuses s 0 r → Bad ≡ fix_say s
 unfolding fix_say
-no_fix law s r octets few refuses = rw (few_is (length s) 1023 few, (law.reads_reason s r octets).1 refuses) refl
+no_fix law s r octets few refuses = rw (le-leb (length s) 1023 few, (law.reads_reason s r octets).1 refuses) refl
 
 pub long_fix : (s : List ℕ) → 1023 < length s → Bad ≡ fix_say s
 unfolding fix_say
-long_fix s many = rw (many_is (length s) 1023 many) refl
+long_fix s many = rw (lt-leb (length s) 1023 many) refl
 
 -- ---- regions
 

@@ -2,7 +2,7 @@
 use Rattle.std.proofs.Common.{◌≡◌, ◌⊎◌, ◌+◌, ◌^◌, ℕ, List, [], ◌∷◌, Option, Some, None, IfSome, refl, subst, ◌∙◌, inl, inr}
 use Rattle.std.specs.Io.KnownBytes.{Appends, IsAtEnd}
 use Rattle.jt_regions.specs.Tables.{Regions}
-use Rattle.jt_terminal_rule.specs.Tables.{regions_after}
+use Rattle.jt_regions.specs.Changes.{regions_after}
 use Rattle.jt_input.specs.Cutter.{Held, begun_of}
 use Rattle.jt_input.specs.Answer.{IsFault, AnswersReply, AnswersWhole, RunsTelling, ReadsNoFurther, PrintsTaken, StopsAtWrite}
 use Rattle.jt_input.specs.Lines.{HasHeard, answer_of}

@@ -6,7 +6,7 @@ use Rattle.jt_value.specs.Counts.{counted}
 use Rattle.jt_position.specs.declared.fixed.Fixed.{Fixed}
 use Rattle.jt_regions.specs.declared.change.RegionChange.{RegionChange}
 use Rattle.jt_regions.specs.Tables.{Regions}
-use Rattle.jt_terminal_rule.specs.Tables.{regions_after}
+use Rattle.jt_regions.specs.Changes.{regions_after}
 use Rattle.jt_fence.specs.declared.step.Step.TheVariants as step
 use Rattle.jt_fence.specs.Settling.{settled_in}
 use Rattle.jt_fence.specs.Track.{IsTableOf}
@@ -23,7 +23,7 @@ use Rattle.jt_fence_command.specs.AlarmText.{alarm_lines}
 use Rattle.jt_fence_command.specs.FenceLines.{meaning}
 use Rattle.jt_fence_command.specs.Tally.{after_change, after_line, alarms_behind, change_behind, counted_by, fence_reply, first_tally, fix_behind, outcome_of}
 use Rattle.jt_fence_command.specs.Track.{Before, Tells, TellsAlarms, TellsLine, nothing}
-use Rattle.jt_fence_command.proofs.Taking.{takes}
+use Rattle.jt_regions.proofs.Changing.{takes}
 
 -- a tally is what is kept of all that came before
 record Keeps (tally : AlarmTally) (before : Before) : Type 0 where

@@ -4,7 +4,7 @@ use Rattle.jt_value.specs.Counts.{counted}
 use Rattle.jt_position.specs.declared.fixed.Fixed.{Fixed}
 use Rattle.jt_regions.specs.declared.change.RegionChange.{RegionChange}
 use Rattle.jt_regions.specs.Tables.{Regions}
-use Rattle.jt_terminal_rule.specs.Tables.{regions_after}
+use Rattle.jt_regions.specs.Changes.{regions_after}
 use Rattle.jt_fence.specs.declared.alarm.Alarm.{Alarm}
 use Rattle.jt_fence.specs.declared.step.Step.{Step}
 use Rattle.jt_fence.specs.declared.step.Step.TheVariants as step

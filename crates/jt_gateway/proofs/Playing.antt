@@ -6,30 +6,29 @@ use Rattle.jt_value.specs.declared.phone.Edition.TheVariants.{E2013}
 use Rattle.jt_position.specs.Fixes.{position_at}
 use Rattle.jt_position.specs.Positions.{position}
 use Rattle.jt_session.specs.Talk.{State as Session, Way}
-use Rattle.jt_store.specs.Vaults.{Held, Notes, Forms, Accepts, Sets, held_by}
+use Rattle.jt_store.specs.Vaults.{Notes, Forms, Accepts, Sets}
 use Rattle.jt_terminal_rule.specs.declared.settings.Settings.{Settings}
 use Rattle.jt_terminal_rule.specs.declared.state.State.{State}
 use Rattle.jt_terminal_rule.specs.declared.state.Acknowledgement.{Acknowledgement}
 use Rattle.jt_terminal_rule.specs.declared.state.Event.{Event as TerminalEvent}
 use Rattle.jt_terminal_rule.specs.declared.state.Event.TheVariants as event
 use Rattle.jt_terminal_rule.specs.Law.{RuleKeepsSettings}
-use Rattle.jt_terminal_rule.specs.Machines.{as_step, as_steps, held_after}
-use Rattle.jt_terminal_rule.specs.Rule.{Heard, Ruled, Step, rule}
+use Rattle.jt_terminal_rule.specs.Machines.{as_step, as_steps}
+use Rattle.jt_terminal_rule.specs.Rule.{Heard, Step, rule}
 use Rattle.jt_terminal_rule.specs.Rule as rule_of
 use Rattle.jt_terminal_rule.specs.Steps.{Machine, hears, machine_after}
-use Rattle.jt_terminal_rule.specs.Steps as step
 use Rattle.jt_terminal_rule.specs.Unsaid.{unsaid}
 use Rattle.jt_terminal.specs.Line.{rule_at}
-use Rattle.jt_delivery.specs.World.{Setting}
 use Rattle.jt_octets.specs.World.{World, completed_item, line_at, newest, newest_place}
 use Rattle.jt_octets.specs.Steps.{Cut, Does, Down, RestartPlatform, Up, accepting, after, after_take, just_read}
 use Rattle.jt_script.specs.declared.world_event.WorldEvent.{WorldEvent}
 use Rattle.jt_script.specs.declared.world_event.WorldEvent.TheVariants as line
 use Rattle.jt_play.specs.Laws.{first_play, plays}
-use Rattle.jt_play.specs.Playing.{Play, acts, beats, begins, behind_first, closes, comes_down, cuts, done, goes_on, goes_up, has_left, heard_in, if_using, left_of, loaded_of, loses, meets, moves, octets_moving, opens, place_of, play_after, reads, reads_by, reads_down, reads_more, reads_one, records, round, rounds, runs, starts_again, takes, takes_by, takes_first, takes_one, takes_up, ticks, way_at}
+use Rattle.jt_play.specs.Playing.{Play, beats, begins, behind_first, closes, comes_down, cuts, done, goes_up, has_left, heard_in, left_of, loses, meets, moves, octets_moving, place_of, play_after, reads, reads_down, reads_more, reads_one, round, rounds, runs, starts_again, takes, takes_by, takes_first, takes_one, way_at}
 use Rattle.jt_play.specs.Scripts.{IsScripted, Scene, settings_in}
 use Rattle.jt_gateway.specs.Gateway.{is_line_of_b}
-use Rattle.jt_play.proofs.RuleNotes.{NotesNone, heard_keeps, rule_keeps}
+use Rattle.jt_play.proofs.RuleNotes.{NotesNone, rule_keeps}
+use Rattle.jt_play.proofs.Counts.{held_same, at_none}
 
 -- ---- worlds: the terminal recorded the same, and has the same phone
 
@@ -104,17 +103,6 @@ quiet_if p false x y a b = b
 none : (p : Play) → Quiet p p
 none p = ((refl, refl), refl, refl)
 
-held_same : (steps : List Step) (h : Held) → NotesNone steps → (held_after steps h).recorded ≡ h.recorded
-held_same [] h none_of = refl
-held_same (rule_of.Changes (Notes fix) ∷ steps) h none_of = absurd none_of
-held_same (rule_of.Changes (Forms unit) ∷ steps) h none_of = held_same steps (held_by (Forms unit) h) none_of
-held_same (rule_of.Changes Accepts ∷ steps) h none_of = held_same steps (held_by Accepts h) none_of
-held_same (rule_of.Changes (Sets code) ∷ steps) h none_of = held_same steps (held_by (Sets code) h) none_of
-held_same (rule_of.Sends older unit ∷ steps) h none_of = held_same steps h none_of
-held_same (rule_of.Says say body ∷ steps) h none_of = held_same steps h none_of
-held_same (rule_of.Opens ∷ steps) h none_of = held_same steps h none_of
-held_same (rule_of.Loses ∷ steps) h none_of = held_same steps h none_of
-
 behind_none : (steps : List Step) → NotesNone steps → NotesNone (behind_first steps)
 behind_none [] none_of = tt
 behind_none (rule_of.Changes Accepts ∷ steps) none_of = none_of
@@ -125,10 +113,6 @@ behind_none (rule_of.Sends older unit ∷ steps) none_of = none_of
 behind_none (rule_of.Says h body ∷ steps) none_of = none_of
 behind_none (rule_of.Opens ∷ steps) none_of = none_of
 behind_none (rule_of.Loses ∷ steps) none_of = none_of
-
-at_none : (s : State) (x : Option Heard) → NotesNone (rule_at s x).steps
-at_none s None = tt
-at_none s (Some x) = heard_keeps s x
 
 -- a terminal that starts anew recorded the same, and has these settings and their phone
 pub record Started (p q : Play) (settings : Settings) : Type 0 where

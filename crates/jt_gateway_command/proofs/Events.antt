@@ -1,15 +1,10 @@
 -- What an event of a gateway does, whatever lines follow.
-use Rattle.std.proofs.Common.{◌≡◌, ◌≢◌, ◌↔◌, ℕ, ◌-◌, Bool, true, false, not, if◌then◌else◌, List, ◌++◌, Result, Ok, Err, IfOk, OnOk, refl, sym, ap, subst, ◌∙◌, inl, inr, append_assoc}
+use Rattle.std.proofs.Common.{◌≡◌, ◌≢◌, ◌↔◌, ℕ, ◌-◌, Bool, true, false, not, if◌then◌else◌, List, ◌++◌, Result, Ok, Err, IfOk, refl, sym, ap, subst, ◌∙◌, inl, inr, append_assoc}
 use Rattle.std.proofs.lemmas.Bool.{cases_Bool}
-use Rattle.jt_value.specs.declared.limits.TheConstants.{FIX_LIMIT}
 use Rattle.jt_platform.specs.declared.request.Entry.{Entry}
-use Rattle.jt_octets.specs.World.{World}
-use Rattle.jt_play.specs.Playing.{is_opened, names_no_line}
-use Rattle.jt_play.specs.Scripts.{Names}
 use Rattle.jt_play.specs.declared.error.WorldError.{WorldError}
 use Rattle.jt_play.specs.declared.error.WorldError.TheVariants as refused
-use Rattle.jt_script.specs.declared.world_event.WorldEvent.{WorldEvent}
-use Rattle.jt_script.specs.declared.world_event.WorldEvent.TheVariants as line
+use Rattle.jt_play.proofs.Scenes.{names_it}
 use Rattle.jt_input.specs.EarlyEnds.{full_line}
 use Rattle.jt_input.specs.Lines.{Outcome, bad_outcome, printing}
 use Rattle.jt_input.specs.declared.status.Status.TheVariants as status
@@ -18,6 +13,7 @@ use Rattle.jt_gateway.specs.declared.event.GatewayEvent.{GatewayEvent}
 use Rattle.jt_gateway.specs.declared.event.GatewayEvent.TheVariants as asked
 use Rattle.jt_value.specs.declared.memory.Memory.{Memory}
 use Rattle.jt_input.specs.declared.hearer.Heard.{Heard}
+use Rattle.jt_world.proofs.Heard.{named}
 use Rattle.jt_gateway_command.specs.Hearing.{Does, GoesOn, IsBad, IsFull, Refuses, Steps}
 use Rattle.jt_gateway_command.specs.Script.{after_line, full_outcome, gateway_names_no_line}
 use Rattle.jt_gateway_command.specs.Texts.{event_text, is_pump, more_recorded, named_lines, pump_text, world_name}
@@ -28,36 +24,6 @@ use Rattle.jt_gateway_command.specs.declared.reading.GatewayLine.TheVariants.{Ev
 shut : (b : Bool) → not b ≡ true → b ≡ false
 shut false e = refl
 shut true e = absurd cc
-
-named : (w : World) (e : WorldEvent) → names_no_line w e ≡ true → (l : ℕ) × Names e l × (is_opened w l ≡ false)
-named w (line.Up number count) e = (number, refl, shut (is_opened w number) e)
-named w (line.Cut number) e = (number, refl, shut (is_opened w number) e)
-named w (line.Fix latitude) e = absurd cc
-named w (line.Raw fix) e = absurd cc
-named w line.Open e = absurd cc
-named w (line.Down count) e = absurd cc
-named w (line.Tick by) e = absurd cc
-named w (line.Beat n) e = absurd cc
-named w line.Run e = absurd cc
-named w line.Lost e = absurd cc
-named w line.RestartTerminal e = absurd cc
-named w line.RestartPlatform e = absurd cc
-named w (line.RestartAs edition) e = absurd cc
-
-names_it : (w : World) (e : WorldEvent) (l : ℕ) → Names e l → is_opened w l ≡ false → names_no_line w e ≡ true
-names_it w (line.Up number count) l named e = ap not (ap (is_opened w) named ∙ e)
-names_it w (line.Cut number) l named e = ap not (ap (is_opened w) named ∙ e)
-names_it w (line.Fix latitude) l named e = absurd named
-names_it w (line.Raw fix) l named e = absurd named
-names_it w line.Open l named e = absurd named
-names_it w (line.Down count) l named e = absurd named
-names_it w (line.Tick by) l named e = absurd named
-names_it w (line.Beat n) l named e = absurd named
-names_it w line.Run l named e = absurd named
-names_it w line.Lost l named e = absurd named
-names_it w line.RestartTerminal l named e = absurd named
-names_it w line.RestartPlatform l named e = absurd named
-names_it w (line.RestartAs edition) l named e = absurd named
 
 gateway_named : (g : GatewayScene) (e : GatewayEvent) → gateway_names_no_line g e ≡ true → (l : ℕ) × HasNoLine g e l
 gateway_named g (asked.A event) e = let it = named g.a.play.world event e in (it.0, (it.1, it.2))

@@ -17,7 +17,8 @@ use Rattle.jt_regions.specs.declared.change.RegionChange.{RegionChange}
 use Rattle.jt_regions.specs.declared.change.RegionChange.TheVariants as change
 use Rattle.jt_terminal_rule.specs.declared.state.State.{State}
 use Rattle.jt_terminal_rule.specs.Answers.{answer_to, takes_params, takes_regions, takes_change}
-use Rattle.jt_terminal_rule.specs.Tables.{params_after, regions_after}
+use Rattle.jt_regions.specs.Changes.{regions_after}
+use Rattle.jt_terminal_rule.specs.Tables.{params_after}
 use Rattle.jt_order.specs.Orders.{is_order_id}
 use Rattle.jt_terminal_answers.specs.Performing.{HeldTables, with_params, with_regions, with_change, message_outcome}
 use Rattle.jt_obeying.specs.Performing.{reading_outcome, AnswersWith, PerformsAsTheTerminal, EditionsLeaveTheSame}

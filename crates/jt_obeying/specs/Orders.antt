@@ -2,7 +2,7 @@
 use Rattle.std.specs.Prelude.{ℕ, ◌-◌, ◌==◌, if◌then◌else◌, Bool, List, [], ◌∷◌, map, length, get_or, slice_get, Option}
 use Rattle.std.specs.FinMap.{empty}
 use Rattle.jt_value.specs.declared.phone.Edition.{Edition}
-use Rattle.jt_terminal_rule.specs.Tables.{no_regions}
+use Rattle.jt_regions.specs.Changes.{no_regions}
 use Rattle.jt_terminal_answers.specs.Performing.{HeldTables}
 use Rattle.jt_order.specs.Orders.{OrderOf}
 use Rattle.jt_order.specs.Rules.{ruling_by}

@@ -2,7 +2,6 @@
 #![tactic(auto)]
 
 mod book;
-mod calls;
 mod log;
 mod mem_book;
 mod mem_log;

@@ -7,9 +7,8 @@ ghost use Rattle.jt_order.specs.Books.{HasUnanswered, IsBook, IsSound, IsStateOf
 ghost use Rattle.jt_order.specs.declared.book.TheConstants.{ORDER_LIMIT};
 
 use crate::book::{BookState, ORDER_LIMIT, OrderBook};
-use crate::calls::Calls;
 use crate::order::Order;
-use jt_store::StoreError;
+use jt_store::{Calls, StoreError};
 use jt_value::{Memory, Octets, Seq};
 use std::alloc::Global;
 use std::marker::Model;

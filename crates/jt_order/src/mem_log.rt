@@ -5,11 +5,10 @@ ghost use Rattle.jt_store.specs.Memory.{is_listed, InOrder};
 ghost use Rattle.jt_store.specs.Tables.{HasCause, IsSteady, Reads, Writes};
 ghost use Rattle.jt_order.specs.Books.{with_performed};
 
-use crate::calls::Calls;
 use crate::log::OrderLog;
 use crate::order::Order;
 use crate::performed::Performed;
-use jt_store::StoreError;
+use jt_store::{Calls, StoreError};
 use jt_value::Seq;
 use std::alloc::Global;
 use std::marker::Model;

@@ -16,6 +16,7 @@ use Rattle.jt_order_play.specs.declared.event.OrderEvent.TheVariants as line
 use Rattle.jt_order_play.specs.declared.error.OrderWorldError.{OrderWorldError}
 use Rattle.jt_order_play.specs.declared.error.OrderWorldError.TheVariants as refused
 use Rattle.jt_order_play.proofs.Composing.{rounds_past}
+use Rattle.jt_order_play.proofs.Scenes.{names_it}
 use Rattle.jt_order_command.specs.Hearing.{Does, GoesOn, IsBad, IsFull, Refuses, Steps}
 use Rattle.jt_order_command.specs.Script.{after_line, round_limit_outcome, full_outcome, passes_round_limit, scene_after}
 use Rattle.jt_order_command.specs.Texts.{event_text, full_line, orders_text}
@@ -57,18 +58,6 @@ named w line.Run e = absurd cc
 named w line.Lost e = absurd cc
 named w line.RestartTerminal e = absurd cc
 named w line.RestartPlatform e = absurd cc
-
-names_it : (w : OrderWorld) (e : OrderEvent) (l : ℕ) → Names e l → is_opened w l ≡ false → names_no_line w e ≡ true
-names_it w (line.Up number count) l named e = ap not (ap (is_opened w) named ∙ e)
-names_it w (line.Cut number) l named e = ap not (ap (is_opened w) named ∙ e)
-names_it w (line.Issue order) l named e = absurd named
-names_it w line.Open l named e = absurd named
-names_it w (line.Down count) l named e = absurd named
-names_it w (line.Tick by) l named e = absurd named
-names_it w line.Run l named e = absurd named
-names_it w line.Lost l named e = absurd named
-names_it w line.RestartTerminal l named e = absurd named
-names_it w line.RestartPlatform l named e = absurd named
 
 -- an order names none
 full_names_none : (w : OrderWorld) (e : OrderEvent) → finds_full w e ≡ true → names_no_line w e ≡ false

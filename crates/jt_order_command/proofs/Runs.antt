@@ -9,11 +9,9 @@ use Rattle.jt_input.specs.Text.{lines_of}
 use Rattle.jt_input.specs.declared.status.Status.{Status}
 use Rattle.jt_input.specs.declared.status.Status.TheVariants as status
 use Rattle.jt_order_octets.specs.Claim.{EachReachedIsObeyed, NoneIsRefused, AtMostOneIsAhead}
-use Rattle.jt_order_octets.specs.Reaching.{Leads, Reached}
-use Rattle.jt_order_octets.specs.World.{OrderWorld, empty}
+use Rattle.jt_order_octets.specs.Reaching.{Reached}
 use Rattle.jt_order_play.specs.Playing.{finds_full, names_no_line}
 use Rattle.jt_order_play.specs.Scripts.{OrderScene}
-use Rattle.jt_order_play.proofs.Standing.{leads_both}
 use Rattle.jt_order_command.specs.Lines.{meaning}
 use Rattle.jt_order_command.specs.Running.{IsTaken, ObeyedWhole, RunsOrders}
 use Rattle.jt_order_command.specs.Script.{after_line, round_limit_outcome, first_scene, full_outcome, passes_round_limit, order_reply, outcome_of, scene_after, world_of}
@@ -66,14 +64,6 @@ ends_so s script old now (inr part) = inr (inr (inr part.0))
 ends_so s script old now (inl told) = subst IsPlain (sym told.0) (plain (lines_of script) 1 first_scene)
 
 -- ---- the world
-
-pub still_reached : (old new : OrderWorld) → Leads old new → Reached old → Reached new
-still_reached old new leads reached = record {
-  phone = reached.phone;
-  good = reached.good;
-  setting = reached.setting;
-  leads = leads_both (empty reached.phone reached.setting) old new reached.leads leads;
-}
 
 -- ---- the run
 

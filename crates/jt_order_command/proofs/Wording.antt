@@ -1,6 +1,6 @@
 -- What the words of an order say, by what `Order::read` answers.
-use Rattle.std.proofs.Common.{◌≡◌, eqb, ℕ, ◌≤◌, ◌<◌, Bool, true, false, if◌then◌else◌, List, [], ◌∷◌, length, inl, inr, Ok, Err, refl, ap, subst, ◌∙◌, arith}
-use Rattle.std.proofs.lemmas.Bool.{cases_Bool}
+use Rattle.std.proofs.Common.{◌≡◌, eqb, ℕ, ◌≤◌, ◌<◌, Bool, true, false, if◌then◌else◌, List, [], ◌∷◌, length, inl, inr, Ok, Err, refl, ap, subst, ◌∙◌}
+use Rattle.std.proofs.lemmas.Bool.{cases_Bool, le-leb, lt-leb}
 use Rattle.std.proofs.lemmas.List.Splits.{slice_split-cons_yes, slice_split-cons_no}
 use Rattle.std.specs.List.{onto_first}
 use Rattle.std.specs.Prelude.{nat_le, ◌&&◌, is_ok}
@@ -37,12 +37,6 @@ three_words (x ∷ xs) id octets =
 
 -- ---- three tests
 
-few_is : (n most : ℕ) → n ≤ most → nat_le n most ≡ true
-few_is n most le = grind arith
-
-many_is : (n most : ℕ) → most < n → nat_le n most ≡ false
-many_is n most lt = grind arith
-
 all_true : (a b c : Bool) (x y : OrderLine) → a ≡ true → b ≡ true → c ≡ true → x ≡ (if a && (b && c) then x else y)
 all_true a b c x y one two three = rw (one, two, three) refl
 
@@ -69,7 +63,7 @@ module _ (law : AreOneToOne) (id : ℕ) (s : List ℕ) (octets : AreOctets s) wh
   order_is o r =
       let read = ((law E2013 id).reads_value s r.3.0 octets).1 r.3.1 in
       ap (λ (x : OrderOf). Event (asked.Issue x)) r.0
-      ∙ all_true (is_order_id id) (nat_le (length s) BODY_LIMIT) reads order Bad r.1 (few_is (length s) BODY_LIMIT r.2) (ap is_ok read)
+      ∙ all_true (is_order_id id) (nat_le (length s) BODY_LIMIT) reads order Bad r.1 (le-leb (length s) BODY_LIMIT r.2) (ap is_ok read)
 
   pub no_order_id : (e : OrderError) (n : ℕ) → e ≡ errors.NotOrder n → ReadsOrder E2013 id s (Err e) → Bad ≡ order_said id s
   unfolding order_said
@@ -81,11 +75,11 @@ module _ (law : AreOneToOne) (id : ℕ) (s : List ℕ) (octets : AreOctets s) wh
   unfolding order_said
   too_long e n is answers =
       let r = subst (λ (x : OrderError). ReadsOrder E2013 id s (Err x)) is answers in
-      second_false (is_order_id id) (nat_le (length s) BODY_LIMIT) reads order Bad r.1 (many_is (length s) BODY_LIMIT r.2)
+      second_false (is_order_id id) (nat_le (length s) BODY_LIMIT) reads order Bad r.1 (lt-leb (length s) BODY_LIMIT r.2)
 
   pub no_body : (e : OrderError) (refusal : Refusal) → e ≡ errors.Refused refusal → ReadsOrder E2013 id s (Err e) → Bad ≡ order_said id s
   unfolding order_said
   no_body e refusal is answers =
       let r = subst (λ (x : OrderError). ReadsOrder E2013 id s (Err x)) is answers in
       let read = ((law E2013 id).reads_reason s refusal octets).1 r.2 in
-      third_false (is_order_id id) (nat_le (length s) BODY_LIMIT) reads order Bad r.0 (few_is (length s) BODY_LIMIT r.1) (ap is_ok read)
+      third_false (is_order_id id) (nat_le (length s) BODY_LIMIT) reads order Bad r.0 (le-leb (length s) BODY_LIMIT r.1) (ap is_ok read)

@@ -16,7 +16,7 @@ use Rattle.jt_obeying.specs.World as messages
 use Rattle.jt_octets.specs.World.{Line, line_at}
 use Rattle.jt_octets.proofs.Views.{Direction}
 use Rattle.jt_octets.proofs.Meanings.{IsGood}
-use Rattle.jt_octets.proofs.Following.{set_elim}
+use Rattle.jt_octets.proofs.Following.{set_elim, same_place}
 use Rattle.jt_order_octets.specs.World.{OrderWorld, sent_at}
 use Rattle.jt_order_octets.proofs.Meanings.{UpTag, DownTag}
 use Rattle.jt_order_octets.proofs.Written.{Written}
@@ -127,9 +127,6 @@ put_twice xs number y z k = by (k == number)
     by : (b : Bool) → (if b then z else if b then y else xs k) ≡ (if b then z else xs k)
     by true = refl
     by false = refl
-
-same_place : (q place : ℕ) → suc q ≡ suc place → q ≡ place
-same_place q place e = omega (arith, e)
 
 -- in both worlds
 pub both_put : (key : List ℕ) (phones : ℕ → Phone) (issued : List OrderOf) (lines : List Line) (sents news : ℕ → Option ℕ) (xs : ℕ → messages.Line) (count place number : ℕ) (x : Line) (y : messages.Line)

@@ -1,5 +1,5 @@
 -- What a message on a line stands for in the world of messages, and what it asks.
-use Rattle.std.proofs.Common.{ℕ, ◌<◌, ◌≡◌, ◌≢◌, ◌⊎◌, List, [], ◌∷◌, ◌++◌, length, Option, Some, None, true, false, arith, refl, ap, sym, ◌∙◌, subst, inl, inr, Result, Ok, Err}
+use Rattle.std.proofs.Common.{ℕ, ◌<◌, ◌≡◌, ◌≢◌, ◌⊎◌, List, [], ◌∷◌, ◌++◌, length, Option, Some, None, true, false, arith, refl, ap, sym, ◌∙◌, subst, inl, inr, Ok, Err}
 use Rattle.std.proofs.lemmas.Bool.{cases_eq}
 use Rattle.std.proofs.lemmas.List.{length_push, get_or_append_left}
 use Rattle.jt_value.specs.Sameness.{key_of}
@@ -7,7 +7,6 @@ use Rattle.jt_value.specs.Serials.{serial_of}
 use Rattle.jt_value.specs.declared.phone.Edition.{Edition}
 use Rattle.jt_value.specs.declared.phone.Edition.TheVariants.{E2013, E2019}
 use Rattle.jt_value.specs.declared.phone.Phone.{Phone}
-use Rattle.jt_value.specs.declared.refusal.Refusal.{Refusal}
 use Rattle.jt_header.specs.Content.{IsHeader}
 use Rattle.jt_header.specs.declared.header.Header.{Header}
 use Rattle.jt_stream.specs.Unplaced.{Message as Frame}
@@ -18,6 +17,7 @@ use Rattle.jt_position.specs.declared.batch.Batch.{Batch}
 use Rattle.jt_codec.specs.Bodies.{body}
 use Rattle.jt_codec.specs.declared.message.Message.{Message}
 use Rattle.jt_codec.specs.declared.message.Message.TheVariants as message
+use Rattle.jt_codec.proofs.BodyLaws.{made}
 use Rattle.jt_subpacket.specs.Joining.{IsNamedByItsPackets}
 use Rattle.jt_platform.specs.declared.request.Request.{Request}
 use Rattle.jt_platform.specs.declared.request.Request.TheVariants as ask
@@ -96,10 +96,6 @@ down_grows p issued order m (OrderMessage place) h = let same = sym (order_kept 
 }
 
 -- ---- what a message of the terminal asks
-
-made : {A : Type 0} (make : A → Message) (r : Result A Refusal) (m : Message) → (r >>= λ x. Ok (make x)) ≡ Ok m → (x : A) × (m ≡ make x)
-made make (Ok x) m e = (x, cc)
-made make (Err r) m e = absurd cc
 
 at_position : (edition : Edition) (octets : List ℕ) (m : Message) → (body edition 0x0200).read octets 0 ≡ Ok m → (x : Position) × (m ≡ message.Position x)
 unfolding body

@@ -8,7 +8,8 @@ use Rattle.jt_regions.specs.Tables.{Regions}
 use Rattle.jt_regions.specs.declared.change.RegionChange.TheVariants as change
 use Rattle.jt_codec.specs.declared.message.Message.{Message}
 use Rattle.jt_codec.specs.declared.message.Message.TheVariants as message
-use Rattle.jt_terminal_rule.specs.Tables.{params_after, regions_after}
+use Rattle.jt_regions.specs.Changes.{regions_after}
+use Rattle.jt_terminal_rule.specs.Tables.{params_after}
 use Rattle.jt_terminal_answers.specs.Performing.{HeldTables, with_params, with_regions, message_outcome}
 use Rattle.jt_order.specs.Orders.{OrderOf}
 use Rattle.jt_order.specs.Rules.{is_last, kept_result, ruling_by}

@@ -1,5 +1,5 @@
 -- What sessions take is followed.
-use Rattle.std.proofs.Common.{ℕ, suc, ◌<◌, ◌≡◌, ◌⊎◌, List, ◌++◌, length, Option, Some, None, Bool, true, false, arith, refl, ap, sym, ◌∙◌, subst, inl, inr}
+use Rattle.std.proofs.Common.{ℕ, suc, ◌<◌, ◌≡◌, ◌⊎◌, List, ◌++◌, length, Option, Some, None, true, false, arith, refl, ap, sym, ◌∙◌, subst, inl, inr}
 use Rattle.std.specs.Prelude.{IfSome, is_none, if◌then◌else◌}
 use Rattle.std.proofs.lemmas.List.{length-set, append-nil}
 use Rattle.jt_value.specs.Sameness.{key_of}
@@ -23,9 +23,10 @@ use Rattle.jt_obeying.specs.Steps.{Outcome, Takes, ends, entries, line_after_mes
 use Rattle.jt_obeying.specs.Steps as events
 use Rattle.jt_order_turns.specs.Turns.{AnswersAreTold, TurnsAreSteps, Carries, as_answers, outcome_of}
 use Rattle.jt_octets.specs.World.{Line, Wire, line_at, with_one_taken, written, completed_item, opening_of}
-use Rattle.jt_octets.specs.Steps.{MayGoOn, MayTalk, after_take, after_talk, kept_of, line_behind}
+use Rattle.jt_octets.specs.Steps.{MayGoOn, MayTalk, after_take, after_talk, line_behind}
 use Rattle.jt_octets.specs.Steps as plain
 use Rattle.jt_octets.proofs.Views.{Msg, StreamLaws, Brings, Direction, direction_moved, direction_written, direction_still, item_of_msg}
+use Rattle.jt_octets.proofs.Taking.{session_of, over_of}
 use Rattle.jt_order_octets.specs.World.{OrderWorld, sent_at}
 use Rattle.jt_order_octets.specs.Steps.{Telling, Tells, TellsNothing, BookFails}
 use Rattle.jt_order_octets.specs.Steps as octets
@@ -47,20 +48,6 @@ said_direction : (tags : Msg → Down → Type 0) (wire : Wire) (read unread : L
     → ((m : Msg) → is_order_id m.0.id ≡ false → tags m OtherAnswer) → Direction tags (written wire (frame_said said)) read (unread ++ as_answers said)
 said_direction tags wire read unread None d is as_other = direction_still tags wire read unread d
 said_direction tags wire read unread (Some m) d is as_other = direction_written tags wire read unread m OtherAnswer d is.0 (as_other m is.1)
-
-session_of : (key : List ℕ) (k : Talked) → (k.over ≡ false → IsStateOf key k.state) → IfSome (kept_of k) (IsStateOf key)
-session_of key k fine = by k.over fine
-  where
-    by : (b : Bool) → (b ≡ false → IsStateOf key k.state) → IfSome (if b then None else Some k.state) (IsStateOf key)
-    by true fine = tt
-    by false fine = fine refl
-
-over_of : (k : Talked) (b : Bool) → k.over ≡ b → is_none (kept_of k) ≡ b
-over_of k b e = ap (λ (o : Bool). is_none (if o then None else Some k.state)) e ∙ by b
-  where
-    by : (b : Bool) → is_none (if b then None else Some k.state) ≡ b
-    by true = refl
-    by false = refl
 
 -- ---- what was asked
 

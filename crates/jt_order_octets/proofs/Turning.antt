@@ -9,9 +9,7 @@ use Rattle.jt_platform.specs.Allowed.{Opening, Allowed, makes_entry}
 use Rattle.jt_platform.specs.declared.request.Entry.{Entry}
 use Rattle.jt_platform.specs.declared.request.Request.{Request}
 use Rattle.jt_platform.specs.declared.request.Reply.{Reply}
-use Rattle.jt_platform.specs.declared.request.Reply.TheVariants as say
-use Rattle.jt_session.specs.Talk.{State, Way, Goes, Stops, answer_to, answers, asks, at_state, frame_said, message_of, turn_without_request, reads_on, saying, turn_at_reply, turn_on, IsReplied}
-use Rattle.jt_session.specs.Talk as talk
+use Rattle.jt_session.specs.Talk.{State, Way, Goes, Stops, answers, asks, at_state, frame_said, message_of, turn_without_request, reads_on, saying, turn_at_reply, turn_on, IsReplied}
 use Rattle.jt_session.specs.Sessions.{MayGo, entries_on}
 use Rattle.jt_session.specs.AnswerLaw.{IsStateOf, IsAnswer, AnswersAre}
 use Rattle.jt_session.proofs.Hubs.{reply_room}
@@ -19,9 +17,9 @@ use Rattle.jt_order.specs.Orders.{is_order_id}
 use Rattle.jt_obeying.specs.World.{opening}
 use Rattle.jt_obeying.specs.World as messages
 use Rattle.jt_obeying.specs.Steps.{answers_written, ends, entries}
-use Rattle.jt_delivery.specs.Steps as steps
 use Rattle.jt_order_turns.specs.Turns.{IsNoOrder, WritesNoOrder, as_answers, outcome_of, IsAllowedTo}
 use Rattle.jt_octets.proofs.Views.{Msg, IsMessage, item_of_msg}
+use Rattle.jt_octets.proofs.Turning.{fenced_same, silent_reply}
 
 -- what the crates below promise of sessions
 pub record SessionLaws : Type 0 where
@@ -41,33 +39,6 @@ pub record IsTurn (key : List ℕ) (number : ℕ) (m : Msg) (s : State) (a : Opt
   pub entries_are : entries_on number (turn_on (at_state s) (item_of_msg m) a way).entries ≡ entries number (outcome_of s (item_of_msg m) a way)
   pub over : (turn_on (at_state s) (item_of_msg m) a way).over ≡ ends (outcome_of s (item_of_msg m) a way)
   pub fine : (turn_on (at_state s) (item_of_msg m) a way).over ≡ false → IsStateOf key (turn_on (at_state s) (item_of_msg m) a way).state
-
-fenced_same : (r : Reply) → talk.is_fenced r ≡ steps.is_fenced r
-fenced_same (say.Registered code) = refl
-fenced_same (say.Denied n) = refl
-fenced_same say.Accepted = refl
-fenced_same (say.Stored n) = refl
-fenced_same (say.Repeat n) = refl
-fenced_same (say.Renumbered n) = refl
-fenced_same say.NotLive = refl
-fenced_same (say.Fenced other) = refl
-fenced_same (say.ListFull l) = refl
-fenced_same say.StoreFault = refl
-fenced_same say.Memory = refl
-
--- a session that is replied to without an entry writes nothing
-silent_reply : (g : Header) (r : Reply) → makes_entry r ≡ false → answer_to g r ≡ None
-silent_reply g (say.Registered code) e = absurd cc
-silent_reply g (say.Denied n) e = absurd cc
-silent_reply g say.Accepted e = absurd cc
-silent_reply g (say.Stored n) e = absurd cc
-silent_reply g (say.Repeat n) e = absurd cc
-silent_reply g (say.Renumbered n) e = absurd cc
-silent_reply g say.NotLive e = absurd cc
-silent_reply g (say.Fenced other) e = absurd cc
-silent_reply g (say.ListFull l) e = refl
-silent_reply g say.StoreFault e = refl
-silent_reply g say.Memory e = refl
 
 silent_answer : (k : State) (o : Option Msg) (r : Reply) → makes_entry r ≡ false → (answers k o r).says ≡ None
 silent_answer k None r e = refl

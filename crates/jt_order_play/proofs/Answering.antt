@@ -1,9 +1,9 @@
 -- What the terminal answers to a message that is no order names none.
-use Rattle.std.proofs.Common.{ℕ, zero, suc, ◌+◌, ◌-◌, ◌/◌, ◌<◌, ◌^◌, ◌≡◌, ◌≢◌, List, [], ◌∷◌, ◌++◌, length, map, Option, Some, None, Bool, true, false, cond, refl, sym, ◌∙◌, subst}
-use Rattle.std.specs.Prelude.{nat_le, nat_lt, ◌==◌, ◌&&◌, Result, Ok, Err, if◌then◌else◌}
+use Rattle.std.proofs.Common.{ℕ, zero, suc, ◌+◌, ◌-◌, ◌/◌, ◌<◌, ◌^◌, ◌≡◌, ◌≢◌, List, [], ◌∷◌, ◌++◌, length, map, Option, Some, None, Bool, true, false, refl, sym, ◌∙◌, subst}
+use Rattle.std.specs.Prelude.{nat_le, ◌==◌, ◌&&◌, Result, Ok, Err, if◌then◌else◌}
 use Rattle.jt_value.specs.Octets.{AreOctets}
 use Rattle.jt_value.specs.declared.limits.TheConstants.{BODY_LIMIT}
-use Rattle.jt_value.specs.declared.ids.TheConstants.{AUTH, PARAMS, POSITION_REPLY, TERMINAL_ACK, TERMINAL_RESEND}
+use Rattle.jt_value.specs.declared.ids.TheConstants.{PARAMS, POSITION_REPLY, TERMINAL_ACK, TERMINAL_RESEND}
 use Rattle.jt_value.specs.declared.refusal.Refusal.{Refusal}
 use Rattle.jt_header.specs.declared.header.Header.{Header}
 use Rattle.jt_header.specs.declared.header.Packet.{Packet as PacketFields}
@@ -16,26 +16,23 @@ use Rattle.jt_codec.specs.Bodies.{body, body_octets}
 use Rattle.jt_codec.specs.declared.message.Message.{Message}
 use Rattle.jt_codec.specs.declared.message.Message.TheVariants as message
 use Rattle.jt_register.specs.declared.reply.RegisterReply.{RegisterReply}
-use Rattle.jt_store.specs.declared.unit.Unit.{Unit as OneUnit}
 use Rattle.jt_subpacket.specs.Parts.{Message as Packet, packet_header, packet_octets}
 use Rattle.jt_subpacket.specs.Steps.{front, packets_of, piece_of}
 use Rattle.jt_terminal_rule.specs.declared.state.Phase.{Phase}
 use Rattle.jt_terminal_rule.specs.declared.state.Phase.TheVariants.{Down, Registering, Authenticating, Live}
-use Rattle.jt_terminal_rule.specs.declared.state.Acknowledgement.{Acknowledgement}
 use Rattle.jt_terminal_rule.specs.declared.state.State.{State}
 use Rattle.jt_terminal_rule.specs.declared.state.AnswerKind.{AnswerKind}
 use Rattle.jt_terminal_rule.specs.declared.state.AnswerKind.TheVariants.{General, Parameters, Position, Packets}
-use Rattle.jt_terminal_rule.specs.declared.state.GiveUp.TheVariants.{Denied}
-use Rattle.jt_terminal_rule.specs.Messages.{header_of, is_acceptance}
+use Rattle.jt_terminal_rule.specs.Messages.{header_of}
 use Rattle.jt_terminal_rule.specs.Answers.{Answer, answer_to}
-use Rattle.jt_terminal_rule.specs.Rule.{accept_oldest, after_acceptance, answer_if_live, answers, changed_by, fill_window, forget_code, gives_up, is_registered, message_limit, names, on_auth_response, on_message, on_register_reply, on_response, on_unit_response, says_answer, says_each, stays, store_code, take_reply}
+use Rattle.jt_terminal_rule.specs.Rule.{answer_if_live, answers, changed_by, fill_window, message_limit, names, on_message, says_answer, says_each}
 use Rattle.jt_order.specs.Orders.{is_order_id}
 use Rattle.jt_order_turns.specs.Frames.{NamesItsMessage, ResponsesName}
 use Rattle.jt_order_turns.specs.Heard.{Heard, Ordered, Other, Nothing, heard_at, heard_in, heard_read}
 use Rattle.jt_order_turns.specs.Turns.{NamesNoOrder, ResponsesNameNoOrder}
 use Rattle.jt_order_octets.specs.Steps.{heard_if}
 use Rattle.jt_play.proofs.Downward.{Brought}
-use Rattle.jt_order_play.proofs.Naming.{NameNone, Says, auth_id, either, fills_name, name_append, other_id}
+use Rattle.jt_order_play.proofs.Naming.{NameNone, fills_name, name_append, other_id, reply_names, response_names}
 
 -- ---- headers that were read
 
@@ -141,7 +138,7 @@ resend_id : TERMINAL_RESEND ≢ TERMINAL_ACK
 resend_id e = absurd cc
 
 module _ (responses : ResponsesName) (others : ResponsesNameNoOrder) (s : State) (h : Header) (id : h.id < 2 ^ 16) (serial : h.serial < 2 ^ 16) (plain : is_order_id h.id ≡ false) where
-  said : (a : Answer) (says : Option (AnswerKind × List ℕ)) → NamesItsMessage s h says → Says s (says_answer (changed_by s a) says)
+  said : (a : Answer) (says : Option (AnswerKind × List ℕ)) → NamesItsMessage s h says → NameNone (says_answer (changed_by s a) says).steps
   said a None named = tt
   said a (Some (General, octets)) named =
       limited (nat_le (length octets) message_limit) (header_of s.settings.phone TERMINAL_ACK s.next) octets
@@ -153,37 +150,16 @@ module _ (responses : ResponsesName) (others : ResponsesNameNoOrder) (s : State)
   said a (Some (Packets, octets)) named =
       limited (nat_le (length octets) message_limit) (header_of s.settings.phone TERMINAL_RESEND s.next) octets (other_id s.settings.phone TERMINAL_RESEND s.next octets resend_id)
 
-  answered : (a : Answer) → NamesItsMessage s h a.says → (p : Phase) → Says s (answer_if_live p s a)
+  answered : (a : Answer) → NamesItsMessage s h a.says → (p : Phase) → NameNone (answer_if_live p s a).steps
   answered a named Down = tt
   answered a named (Registering serial) = tt
   answered a named (Authenticating serial) = tt
   answered a named (Live serial) = name_append (answers s a).steps (fill_window (answers s a).state).steps (said a a.says named) (fills_name (answers s a).state)
 
-  response : (ack : Acknowledgement) (octets : List ℕ) (p : Phase) → Says s (on_response p s ack octets)
-  response ack octets Down = tt
-  response ack octets (Registering serial) = tt
-  response ack octets (Authenticating serial) = either s ((ack.id == 0x0102) && (ack.reply == serial)) (on_auth_response s serial ack.result octets) (stays s)
-      (either s (ack.result == 0) (fill_window (record s { phase = Live serial })) (forget_code s octets) (fills_name (record s { phase = Live serial })) tt) tt
-  response ack octets (Live serial) = by s.units
-    where
-      by : (units : List OneUnit) → Says s (on_unit_response s units ack octets)
-      by [] = fills_name s
-      by (unit ∷ more) = either s (nat_lt 0 s.sent && names ack unit) (cond (is_acceptance ack) (accept_oldest s unit more) (gives_up s [] (Denied octets))) (fill_window s)
-          (either s (is_acceptance ack) (accept_oldest s unit more) (gives_up s [] (Denied octets)) (fills_name (after_acceptance s unit more)) tt) (fills_name s)
-
-  authenticated : (code : List ℕ) → Says s (store_code s code)
-  authenticated code = (other_id s.settings.phone AUTH s.next _ auth_id, tt)
-
-  reply : (r : RegisterReply) (octets : List ℕ) (p : Phase) → Says s (on_register_reply p s r octets)
-  reply r octets Down = tt
-  reply r octets (Registering serial) = either s (r.reply == serial) (take_reply s r octets) (stays s) (either s (is_registered r) (store_code s r.code) (gives_up s [] (Denied octets)) (authenticated r.code) tt) tt
-  reply r octets (Authenticating serial) = tt
-  reply r octets (Live serial) = fills_name s
-
-  heard : (m : Message) → Says s (on_message s h m)
-  heard (message.PlatformAck r i result) = response (record { reply = r; id = i; result = result }) (body_octets h.edition (message.PlatformAck r i result)) s.phase
-  heard (message.RegisterReply r) = reply r (body_octets h.edition (message.RegisterReply r)) s.phase
+  heard : (m : Message) → NameNone (on_message s h m).steps
+  heard (message.PlatformAck r i result) = response_names s (record { reply = r; id = i; result = result }) (body_octets h.edition (message.PlatformAck r i result)) s.phase
+  heard (message.RegisterReply r) = reply_names s r (body_octets h.edition (message.RegisterReply r)) s.phase
   heard m = answered (answer_to s h m) (responses.message s h m) s.phase
 
-pub message_names : ResponsesName → ResponsesNameNoOrder → (s : State) (h : Header) (m : Message) → IsFine (Other h m) → Says s (on_message s h m)
+pub message_names : ResponsesName → ResponsesNameNoOrder → (s : State) (h : Header) (m : Message) → IsFine (Other h m) → NameNone (on_message s h m).steps
 message_names responses others s h m fine = heard responses others s h fine.0 fine.1 fine.2 m

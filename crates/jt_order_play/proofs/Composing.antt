@@ -1,12 +1,13 @@
 -- Calls one behind the other.
-use Rattle.std.proofs.Common.{ℕ, zero, suc, ◌+◌, ◌-◌, ◌<◌, ◌≤◌, ◌^◌, ◌≡◌, ◌≢◌, ◌⊎◌, List, [], ◌∷◌, length, Option, Some, None, IsSome, Bool, true, false, arith, refl, ap, sym, ◌∙◌, subst, inl, inr}
-use Rattle.std.specs.Prelude.{if◌then◌else◌, ◌&&◌, ◌||◌, is_none, not, Result, Ok, Err}
+use Rattle.std.proofs.Common.{ℕ, zero, suc, ◌+◌, ◌-◌, ◌<◌, ◌≤◌, ◌^◌, ◌≡◌, ◌≢◌, ◌⊎◌, [], ◌∷◌, length, Some, None, IsSome, Bool, true, false, arith, refl, ap, sym, ◌∙◌, subst, inl, inr}
+use Rattle.std.specs.Prelude.{if◌then◌else◌, ◌&&◌, ◌||◌, is_none, not, Ok, Err}
 use Rattle.std.proofs.Math.Logic.{∥∥₁_map}
 use Rattle.std.proofs.lemmas.Bool.{false≢true, and_parts, ltb-true}
-use Rattle.jt_session.specs.Talk.{State as Session}
 use Rattle.jt_terminal_rule.specs.declared.state.Event.TheVariants as event
-use Rattle.jt_octets.specs.World.{Line, line_at, newest, newest_place}
+use Rattle.jt_octets.specs.World.{Line, line_at, newest}
 use Rattle.jt_play.specs.Playing.{has_left}
+use Rattle.jt_play.proofs.Taken.{some_of}
+use Rattle.jt_play.proofs.Reading.{newest_at}
 use Rattle.jt_order_octets.specs.World.{OrderWorld, empty}
 use Rattle.jt_order_octets.specs.Reaching.{Leads, Reached}
 use Rattle.jt_order_octets.specs.Steps.{Cut, after}
@@ -16,7 +17,7 @@ use Rattle.jt_order_play.proofs.Standing.{leads_both}
 
 -- ---- worlds that are reached
 
-reached_on : (old new : OrderWorld) → Leads old new → Reached old → Reached new
+pub reached_on : (old new : OrderWorld) → Leads old new → Reached old → Reached new
 reached_on old new l r = record { phone = r.phone; good = r.good; setting = r.setting; leads = leads_both (empty r.phone r.setting) old new r.leads l }
 
 pub still_reached : (old new : OrderWorld) → ∥ Reached old ∥₁ → Leads old new → ∥ Reached new ∥₁
@@ -31,10 +32,6 @@ pub record GoesParts (line : Line) : Type 0 where
   pub is_open : line.is_open ≡ true
   pub some : IsSome line.session
   pub left : line.up.taken < length line.up.octets
-
-some_of : (o : Option Session) → not (is_none o) ≡ true → IsSome o
-some_of None e = absurd (false≢true e)
-some_of (Some s) e = refl
 
 pub goes_parts : (line : Line) → goes_on line ≡ true → GoesParts line
 goes_parts line e =
@@ -95,7 +92,7 @@ offers_next p mid now place first second =
 
 -- ---- octets down
 
-goes : (n : ℕ) (p : OrderPlay) → reads_more p ≡ true → reads (suc n) p ≡ reads n (reads_one p)
+pub goes : (n : ℕ) (p : OrderPlay) → reads_more p ≡ true → reads (suc n) p ≡ reads n (reads_one p)
 goes n p e = ap (λ (b : Bool). if b then reads n (reads_one p) else p) e
 
 pub still : (n : ℕ) (p : OrderPlay) → reads_more p ≡ false → reads n p ≡ p
@@ -165,18 +162,7 @@ went_more q mid now left w some moving e = record {
 pub ran : (p q now : OrderPlay) (left : ℕ) → q ≡ meets p (event.Tick p.clock) → WentRounds q now left → moves now ≡ false → RunsTo p now
 ran p q now left e w stuck = record { count = w.count; few = omega (arith, w.sum); is = w.is ∙ ap (rounds w.count) e; still = stuck }
 
-pub true_of : {E : Type 0} (b : Bool) → ◌≡◌ {A = Result Bool E} (Ok b) (Ok true) → b ≡ true
-true_of {E} b e = ap value e
-  where
-    value : Result Bool E → Bool
-    value (Ok x) = x
-    value (Err error) = b
-
 -- ---- the newest line
-
-pub newest_at : (lines : List Line) (place : ℕ) → length lines ≡ place + 1 → newest_place lines ≡ place
-newest_at [] place e = absurd (omega (arith, e))
-newest_at (line ∷ lines) place e = omega (arith, e)
 
 newest_is : (p : OrderPlay) (place : ℕ) (line : Line) → length p.world.base.lines ≡ place + 1 → line_at p.world.base.lines place ≡ line → newest p.world.base ≡ line
 newest_is p place line last here = ap (line_at p.world.base.lines) (newest_at p.world.base.lines place last) ∙ here

@@ -58,7 +58,7 @@ may_offer_is w place within e =
 
 -- ---- the call
 
-frame_is : (w : OrderWorld) (o : Option Header) → frame_on o (length w.results) (order_at w.issued (length w.results)) ≡ oldest_frame w o
+pub frame_is : (w : OrderWorld) (o : Option Header) → frame_on o (length w.results) (order_at w.issued (length w.results)) ≡ oldest_frame w o
 frame_is w None = refl
 frame_is w (Some first) = refl
 

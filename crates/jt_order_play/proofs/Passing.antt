@@ -17,7 +17,7 @@ use Rattle.jt_play.proofs.Wholes.{either_way}
 use Rattle.jt_order_octets.specs.World.{OrderWorld}
 use Rattle.jt_order_octets.specs.Steps.{Down, after, heard_next, response_of, with_one_read}
 use Rattle.jt_order_play.specs.Playing.{OrderPlay, reads, reads_down, reads_more, reads_one}
-use Rattle.jt_order_play.proofs.Composing.{still}
+use Rattle.jt_order_play.proofs.Composing.{still, goes}
 use Rattle.jt_order_play.proofs.Doing.{done_is}
 use Rattle.jt_order_play.proofs.Hearing.{answers_directly, heard_opens, reads_ruled, ruled_of, whole_takes}
 use Rattle.jt_order_play.proofs.Reading.{answered_base}
@@ -67,9 +67,6 @@ module _ (p : OrderPlay) (n : ℕ) (may : reads_more p ≡ true) (most : HasAtMo
       subst (λ (q : OrderPlay). HasAtMost q.world.base n) (sym (reads_ruled p (heard_next w)))
       (subst (λ (b : World). HasAtMost b n) (sym (ap (λ (v : OrderWorld). v.base) (done_is read (behind_first r.steps) opens) ∙ done_world read.base steps (opens_none read.base.terminal (behind_first r.steps) opens)))
       (subst (λ (z : Wire). left_of z ≤ n) (sym (wrote_down read.base.lines (frames_by read.base.terminal steps))) read_most))
-
-goes : (n : ℕ) (p : OrderPlay) → reads_more p ≡ true → reads (suc n) p ≡ reads n (reads_one p)
-goes n p e = ap (λ (b : Bool). if b then reads n (reads_one p) else p) e
 
 -- where nothing is left to be read, so many octets, or more, are as many as there are
 reads_stuck : (n m : ℕ) (p : OrderPlay) → reads_more (reads n p) ≡ false → HasAtMost p.world.base m → reads m p ≡ reads n p

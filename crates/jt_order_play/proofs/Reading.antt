@@ -85,7 +85,7 @@ told_cut told pushed cut x count pushed_is count_is cut_is =
 
 -- ---- frames behind frames
 
-wrote_both : (lines : List Line) (a b : List (List ℕ)) → wrote (wrote lines a) b ≡ wrote lines (a ++ b)
+pub wrote_both : (lines : List Line) (a b : List (List ℕ)) → wrote (wrote lines a) b ≡ wrote lines (a ++ b)
 wrote_both lines [] b = refl
 wrote_both lines (frame ∷ a) b = wrote_both (writing lines frame) a b
 
@@ -119,7 +119,7 @@ read_rest w Nothing takes responds log tables was log_is tables_is none =
 tables_reached : EachReachedIsObeyed → (w : OrderWorld) → ∥ Reached w ∥₁ → w.tables ≡ tables_of terminal_performing no_tables w.log
 tables_reached law w reached = ∥∥₁_elim reached (Prim.hlevel (codes, params.the_row.coded, regions.the_row.coded)) (λ (r : Reached w). (law w r).tables)
 
-refused_reached : NoneIsRefused → (w : OrderWorld) → ∥ Reached w ∥₁ → w.refused ≡ []
+pub refused_reached : NoneIsRefused → (w : OrderWorld) → ∥ Reached w ∥₁ → w.refused ≡ []
 refused_reached law w reached = ∥∥₁_elim reached (Prim.hlevel codes) (λ (r : Reached w). law w r)
 
 -- ---- the parts once an octet was read

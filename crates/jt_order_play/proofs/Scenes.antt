@@ -88,7 +88,7 @@ unopened w line.Lost l named e = absurd named
 unopened w line.RestartTerminal l named e = absurd named
 unopened w line.RestartPlatform l named e = absurd named
 
-names_it : (w : OrderWorld) (e : OrderEvent) (l : ℕ) → Names e l → is_opened w l ≡ false → names_no_line w e ≡ true
+pub names_it : (w : OrderWorld) (e : OrderEvent) (l : ℕ) → Names e l → is_opened w l ≡ false → names_no_line w e ≡ true
 names_it w (line.Up number count) l named e = ap not (ap (is_opened w) named ∙ e)
 names_it w (line.Cut number) l named e = ap not (ap (is_opened w) named ∙ e)
 names_it w (line.Issue order) l named e = absurd named

@@ -29,7 +29,7 @@ use Rattle.jt_octets.specs.World.{World, Line, completed_item, line_at, new_line
 use Rattle.jt_octets.specs.Steps as plain
 use Rattle.jt_octets.specs.Steps.{talk_after_item}
 use Rattle.jt_play.specs.Holding.{IsGoing, is_short, line_of}
-use Rattle.jt_play.proofs.Upward.{StepsUp}
+use Rattle.jt_play.proofs.Upward.{StepsUp, no_length}
 use Rattle.jt_play.proofs.Lines.{held_on}
 use Rattle.jt_play.proofs.Lines as lines
 use Rattle.jt_order_octets.specs.World.{OrderWorld}
@@ -51,10 +51,6 @@ offers_longer s now h b out out_now (Err error) o = let e = ap length o.err.1 in
 pub going_of : (over : Bool) (s : Seen) → IsSome (if over then None else Some s.state) → over ≡ false
 going_of true s some = absurd cc
 going_of false s some = refl
-
-no_rest : (rest : List Unplaced) → length rest ≤ 0 → rest ≡ []
-no_rest [] le = refl
-no_rest (x ∷ rest) le = absurd (omega (arith, le))
 
 module _ (octets down down_now : List ℕ) (taken read x : ℕ) (over over_now : Bool) (s now : OrderSeen) (hub hub_now : HubValue KeeperState) (b b_now : Book) (fed : Fed) (answer : Result (Unit {0}) StoreError)
     (held : IsOrderHeld octets taken down read over s) (some : IsSome (if over then None else Some s.session.state)) (lt : taken < length octets) (is : x ≡ get_or octets taken x)
@@ -115,7 +111,7 @@ module _ (octets down down_now : List ℕ) (taken read x : ℕ) (over over_now :
         where
           still : f.mid.session.over ≡ false
           still = f.walks.feeds.went.over ∙ (ap (λ (list : List Turn). (talk_from (before s.session) list).over) e ∙ (held.plain.going going).over)
-      by (t ∷ older) e b = b.1 ∙ ap (λ (z : List Unplaced). items (take taken octets) ++ z) (ap (λ (z : List Unplaced). items_of f.walks.feeds.turns ++ (option_to_list f.mid.session.waiting ++ z)) (no_rest b.0 few) ∙ (ap (λ (o : Option Unplaced). items_of f.walks.feeds.turns ++ (option_to_list o ++ [])) free_mid ∙ append-nil (items_of f.walks.feeds.turns)))
+      by (t ∷ older) e b = b.1 ∙ ap (λ (z : List Unplaced). items (take taken octets) ++ z) (ap (λ (z : List Unplaced). items_of f.walks.feeds.turns ++ (option_to_list f.mid.session.waiting ++ z)) (no_length b.0 few) ∙ (ap (λ (o : Option Unplaced). items_of f.walks.feeds.turns ++ (option_to_list o ++ [])) free_mid ∙ append-nil (items_of f.walks.feeds.turns)))
         where
           same : items (take taken octets ++ x ∷ []) ≡ items (take taken octets) ++ (items_of (t ∷ older) ++ b.0)
           same = b.1 ∙ (ap (λ (list : List Turn). items (take taken octets) ++ (items_of list ++ (option_to_list f.mid.session.waiting ++ b.0))) e ∙ ap (λ (o : Option Unplaced). items (take taken octets) ++ (items_of (t ∷ older) ++ (option_to_list o ++ b.0))) free_mid)

@@ -10,7 +10,8 @@ use Rattle.jt_play.specs.Playing.{left_of, way_at}
 use Rattle.jt_order_octets.specs.World.{OrderWorld, first_read}
 use Rattle.jt_order_octets.specs.Steps.{Cut, Offers, Telling, Up, after, oldest_frame, with_order_written}
 use Rattle.jt_order_play.specs.Playing.{OrderPlay, closes, goes_up, may_offer, offers_at, result_of_next, takes, takes_octet, takes_one, takes_up, told_by, with_world}
-use Rattle.jt_order_play.proofs.Composing.{GoesParts, goes_at, goes_parts, newest_at, takes_go, takes_stop}
+use Rattle.jt_play.proofs.Reading.{newest_at}
+use Rattle.jt_order_play.proofs.Composing.{GoesParts, goes_at, goes_parts, takes_go, takes_stop}
 
 -- ---- one octet less is left
 

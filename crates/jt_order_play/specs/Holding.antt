@@ -1,4 +1,5 @@
--- What the parts that run stand for. For the proofs.
+-- What the parts that run stand for. For the proofs, but for `order_play_of`, `told_places` and what these use, which are to be
+-- believed: they say what a world of orders that is played shows.
 use Rattle.std.specs.Prelude.{◌≡◌, ℕ, suc, ◌+◌, ◌<◌, ◌≤◌, List, [], ◌∷◌, ◌++◌, length, take, reverse, map, set, get_or, All, Bool, true, false, Option, None, Some, Result, Ok, Err}
 use Rattle.std.specs.List.{flat_map}
 use Rattle.jt_value.specs.Octets.{AreOctets}

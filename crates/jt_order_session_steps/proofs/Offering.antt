@@ -19,7 +19,7 @@ use Rattle.jt_order_octets.specs.World.{OrderWorld, first_read, sent_at}
 use Rattle.jt_order_octets.specs.Reaching.{Leads}
 use Rattle.jt_order_octets.specs.Steps.{Offers, after, oldest_frame, with_order_written}
 use Rattle.jt_order_play.specs.Playing.{book_of, may_offer}
-use Rattle.jt_order_play.proofs.Offering.{may_offer_is}
+use Rattle.jt_order_play.proofs.Offering.{may_offer_is, frame_is}
 use Rattle.jt_order_session_steps.specs.Steps.{IsOpen, OffersAreSteps, SessionStandsIn, StepsTo, after_call, offer_if, state_kept}
 use Rattle.jt_order_session_steps.proofs.Leading.{no_step, one_step, steps_to}
 use Rattle.jt_order_session_steps.proofs.Standing.{open_behind, stands_behind}
@@ -37,10 +37,6 @@ pub record Offered (v : OrderWorld) (place : ℕ) (sent : Option ℕ) (out out_n
   pub wrote : out_now ≡ out ++ octets
   pub leads : Leads v (with_offer v place octets sent)
   pub events : leads.events ≡ offer_if offers place
-
-frame_is : (w : OrderWorld) (o : Option Header) → frame_on o (length w.results) (order_at w.issued (length w.results)) ≡ oldest_frame w o
-frame_is w None = refl
-frame_is w (Some first) = refl
 
 -- the world with another line there, or another order that was sent last
 abbrev world_with : OrderWorld → List Line → List (Option ℕ) → OrderWorld

@@ -19,7 +19,8 @@ use Rattle.jt_codec.specs.Bodies.{HasBody, body}
 use Rattle.jt_codec.specs.Law.{AreOneToOne}
 use Rattle.jt_codec.specs.declared.message.Message.{Message}
 use Rattle.jt_codec.specs.declared.message.Message.TheVariants as message
-use Rattle.jt_terminal_rule.specs.Tables.{params_after, regions_after}
+use Rattle.jt_regions.specs.Changes.{regions_after}
+use Rattle.jt_terminal_rule.specs.Tables.{params_after}
 use Rattle.jt_regions.specs.declared.change.RegionChange.TheVariants as change
 use Rattle.jt_terminal_answers.specs.Performing.{HeldTables, message_outcome, with_params, with_regions}
 use Rattle.jt_order.specs.Books.{with_performed}
@@ -70,7 +71,7 @@ tables_are law edition t order m is reads = by ((message_outcome t m).0 == 0) re
 
 -- ---- the ledger
 
-serial_by : (count n : ℕ) (b : Bool) → (count == 2 ^ 64 - 1) ≡ b → serial_of count ≡ serial_of n → serial_of (if b then 65536 else count + 1) ≡ serial_of (n + 1)
+pub serial_by : (count n : ℕ) (b : Bool) → (count == 2 ^ 64 - 1) ≡ b → serial_of count ≡ serial_of n → serial_of (if b then 65536 else count + 1) ≡ serial_of (n + 1)
 serial_by count n true last same = let is = eqb-true count (2 ^ 64 - 1) last in omega (arith, is, same)
 serial_by count n false last same = omega (arith, same)
 
@@ -78,7 +79,7 @@ serial_by count n false last same = omega (arith, same)
 serial_next : (count n : ℕ) → serial_of count ≡ serial_of n → serial_of (next count) ≡ serial_of (n + 1)
 serial_next count n same = serial_by count n (count == 2 ^ 64 - 1) refl same
 
-some_by : (count : ℕ) (b : Bool) → nat_le 1 (if b then 65536 else count + 1) ≡ true
+pub some_by : (count : ℕ) (b : Bool) → nat_le 1 (if b then 65536 else count + 1) ≡ true
 some_by count true = refl
 some_by count false = le-leb 1 (count + 1) (omega arith)
 
@@ -89,7 +90,7 @@ last_by : {A : Type 0} (xs : List A) (x : A) → slice_get (xs ++ x ∷ []) (len
 last_by [] x = refl
 last_by (y ∷ xs) x = last_by xs x
 
-last_push : (log : List Performed) (p : Performed) → last_performed (log ++ p ∷ []) ≡ Some p
+pub last_push : (log : List Performed) (p : Performed) → last_performed (log ++ p ∷ []) ≡ Some p
 last_push log p =
     let place : length (log ++ p ∷ []) - 1 ≡ length log = let len = length_push log p in omega (arith, len) in
     ap (slice_get (log ++ p ∷ [])) place ∙ last_by log p

@@ -221,9 +221,6 @@ begun_of_front s l xs ys held held_now log log_now begun = begun_by s l xs ys (d
 pub same_state : (s : State) → IsSame s s
 same_state s = record { settings = refl; time = refl; last = refl }
 
-pub same_on : (old mid now : State) → IsSame old mid → IsSame mid now → IsSame old now
-same_on old mid now one two = record { settings = two.settings ∙ one.settings; time = two.time ∙ one.time; last = two.last ∙ one.last }
-
 pub same_params : (s : State) → AreSameParams s s
 same_params s = record { timing = refl; params = refl }
 

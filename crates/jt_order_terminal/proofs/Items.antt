@@ -14,6 +14,7 @@ use Rattle.jt_stream.specs.Unplaced.{Unplaced, Fault, items, unplaced}
 use Rattle.jt_store.specs.Vaults.{Held}
 use Rattle.jt_terminal_rule.specs.declared.state.GiveUp.{GiveUp}
 use Rattle.jt_terminal.specs.Feeding.{Brings}
+use Rattle.jt_terminal.proofs.Items.{brings_then, drop_front, none_left}
 use Rattle.jt_order.specs.declared.performed.Performed.{Performed}
 use Rattle.jt_order_turns.specs.Heard.{heard_at}
 use Rattle.jt_order_terminal.specs.Terminals.{Done, FailsAt, StandsForLine, does_at, does_at_items, does_at_octets, items_behind}
@@ -47,15 +48,6 @@ brings_by some unplaced_are old new octets told item is gains =
 
 brings_none : (s : Splitting) → Brings s s [] []
 brings_none s seen are stands = (ap items (append-nil seen) ∙ sym (append-nil (items seen)), subst (StandsFor s) (sym (append-nil seen)) stands)
-
-brings_then : (old mid now : Splitting) (a b : List ℕ) (xs ys : List Unplaced) → AreOctets a → Brings old mid a xs → Brings mid now b ys → Brings old now (a ++ b) (xs ++ ys)
-brings_then old mid now a b xs ys are one two seen octets stands =
-    let first = one seen octets stands in
-    let next = two (seen ++ a) (AreOctets-append seen a octets are) first.1 in
-    let same : seen ++ (a ++ b) ≡ (seen ++ a) ++ b = sym (append_assoc seen a b) in (
-      ap items same ∙ (next.0 ∙ (ap (λ (l : List Unplaced). l ++ ys) first.0 ∙ append_assoc (items seen) xs ys)),
-      subst (StandsFor now) (sym same) next.1,
-    )
 
 -- ---- one piece of octets
 
@@ -144,14 +136,6 @@ front_whole s now a b octets count all fed =
     record { front = octets; back = []; parts = sym (append-nil octets); whole = λ e. refl; fed = subst (λ some. HasFed s now a b some None) (take_all count octets all) fed }
 
 -- ---- what a stream that stood for octets was fed
-
-drop_front : {A : Type 0} (xs ys : List A) → drop (length xs) (xs ++ ys) ≡ ys
-drop_front [] ys = refl
-drop_front (x ∷ xs) ys = drop_front xs ys
-
-none_left : {A : Type 0} (xs ys : List A) → xs ++ ys ≡ xs → ys ≡ []
-none_left [] ys e = e
-none_left (x ∷ xs) ys e = none_left xs ys (let rest : xs ++ ys ≡ xs = cc in rest)
 
 new_are : HasFront → (s now : Splitting) (seen octets front back : List ℕ) (gone : List Unplaced) → octets ≡ front ++ back → StandsForLine s seen → Brings s now front gone
     → (more : List Unplaced) × (items_behind seen octets ≡ gone ++ more)

@@ -6,7 +6,7 @@
 -- Committing has the lemmas of an order that is committed. Causes has those of calls that did not fail yet. A message is an owned enum of many
 -- variants, and each drop of it multiplies the goals behind it: so one is dropped in hear_message and in perform_known alone, behind one call.
 mod Causes
-mod Committing
+pub mod Committing
 pub mod Doing
 mod Feeding
 mod Items

@@ -23,7 +23,7 @@ use Rattle.jt_play.proofs.Acting.{held_is, machine_down, some_held}
 use Rattle.jt_play.proofs.Beginning.{cut_open}
 use Rattle.jt_play.proofs.Cutting.{OpensNone, done_world, down_same, quiet_world}
 use Rattle.jt_play.proofs.Opening.{NoneOpens, opens_none, rule_keeps}
-use Rattle.jt_play.proofs.Rounds.{newest_new}
+use Rattle.jt_play.proofs.Rounds.{newest_new, newest_set}
 use Rattle.jt_play.proofs.Starting.{started_new}
 use Rattle.jt_order_octets.specs.World.{OrderWorld}
 use Rattle.jt_order_octets.specs.Steps.{Does, after}
@@ -35,7 +35,7 @@ use Rattle.jt_order_terminal_steps.specs.Standing.{TerminalParts, TerminalStands
 use Rattle.jt_order_terminal_steps.specs.Calls.{EventFails, EventIsDone, EventLeaves}
 use Rattle.jt_order_terminal_steps.specs.Claim.{EventIsSteps, FailedEventIsSteps, FirstStartStands, LeadsTo, StartIsAStep}
 use Rattle.jt_order_terminal_steps.proofs.Owning.{OwnLeads, done_own, leads_to, own_both, own_one}
-use Rattle.jt_order_terminal_steps.proofs.Lines.{Most, lines_nothing, most_after_call, newest_set, wrote_line}
+use Rattle.jt_order_terminal_steps.proofs.Lines.{Most, lines_nothing, most_after_call, wrote_line}
 
 -- ---- the world, in other words
 

@@ -25,7 +25,8 @@ use Rattle.jt_order_terminal_steps.specs.Standing.{AreNext, TerminalParts, Termi
 use Rattle.jt_order_terminal_steps.specs.Calls.{FeedFails, FeedIsDone, FeedLeaves}
 use Rattle.jt_order_terminal_steps.specs.Claim.{FailedFeedIsRead, FailedFeedIsSteps, FeedIsRead, FeedIsSteps, units_told}
 use Rattle.jt_order_terminal_steps.proofs.Owning.{OwnLeads, leads_to}
-use Rattle.jt_order_terminal_steps.proofs.Lines.{Most, most_after_call, newest_set}
+use Rattle.jt_play.proofs.Rounds.{newest_set}
+use Rattle.jt_order_terminal_steps.proofs.Lines.{Most, most_after_call}
 use Rattle.jt_order_terminal_steps.proofs.Octet.{IsAt, items_up, parts_of}
 use Rattle.jt_order_terminal_steps.proofs.Octets.{Fell, Went, fails, goes, seen_in}
 

@@ -2,18 +2,21 @@
 use Rattle.std.proofs.Common.{ℕ, zero, suc, ◌<◌, ◌≤◌, ◌≡◌, List, [], ◌∷◌, length, set, Option, Some, None, Bool, true, false, arith, refl, ap, sym, ◌∙◌, subst}
 use Rattle.std.specs.Prelude.{map, ◌==◌}
 use Rattle.std.proofs.lemmas.Bool.{eqb-false, eqb-true}
-use Rattle.std.proofs.lemmas.List.{get_or-set_other, get_or-set_same, length-append, length-map, take-append-le}
+use Rattle.std.proofs.lemmas.List.{get_or-set_other, get_or-set_same, length-append, take-append-le}
 use Rattle.jt_stream.specs.Unplaced.{Unplaced}
 use Rattle.jt_session.specs.Talk.{State}
 use Rattle.jt_order_terminal.specs.Terminals.{StandsForLine}
 use Rattle.jt_octets.specs.World.{Line, World, completed_item, line_at, new_line, newest, newest_place, taken_of, written}
 use Rattle.jt_octets.specs.Steps.{line_behind, shut, talk_after_item}
 use Rattle.jt_octets.specs.Steps as plain
+use Rattle.jt_octets.proofs.Exactly.{same_place}
+use Rattle.jt_play.proofs.Fair.{shut_place}
+use Rattle.jt_play.proofs.Shutting.{shut_down}
 use Rattle.jt_order_octets.specs.World.{OrderWorld, first_read}
 use Rattle.jt_order_octets.specs.Steps.{Cut, Does, Down, Event, Issues, MayCome, Offers, RestartPlatform, Up, after, oldest_frame, results_after, with_order_written}
 use Rattle.jt_order_terminal_steps.specs.Standing.{TerminalParts, TerminalStandsIn}
 use Rattle.jt_order_terminal_steps.specs.Claim.{IsOfTerminal, TerminalStandsOn}
-use Rattle.jt_order_terminal_steps.proofs.Lines.{Most, same_place}
+use Rattle.jt_order_terminal_steps.proofs.Lines.{Most}
 
 -- ---- a line that the terminal finds as it was
 
@@ -47,16 +50,6 @@ alike_set lines i new lt most same = subst (λ (n : ℕ). Alike (line_at lines (
 -- of the newest line no more was read than was written
 most_at : (lines : List Line) (i : ℕ) → Most lines → line_at lines i ≡ line_at lines (newest_place lines) → (line_at lines i).down.taken ≤ length (line_at lines i).down.octets
 most_at lines i most e = subst (λ (l : Line). l.down.taken ≤ length l.down.octets) (sym e) most
-
-shut_place : (lines : List Line) → newest_place (map shut lines) ≡ newest_place lines
-shut_place [] = refl
-shut_place (line ∷ lines) = length-map lines shut
-
-shut_there : (lines : List Line) (n : ℕ) → (line_at (map shut lines) n).down ≡ (line_at lines n).down
-shut_there [] zero = refl
-shut_there [] (suc n) = refl
-shut_there (line ∷ lines) zero = refl
-shut_there (line ∷ lines) (suc n) = shut_there lines n
 
 -- ---- the world
 
@@ -101,7 +94,7 @@ module _ (w : OrderWorld) (t : TerminalParts) (stands : TerminalStandsIn w t) wh
   stands_on (Down takes responds) may other = absurd (other tt)
   stands_on (Cut i) may other = stands_there (after w (Cut i)) refl refl refl refl (alike_set w.base.lines i (shut (line_at w.base.lines i)) may.opened stands.most (λ same. alike_same (line_at w.base.lines i) (shut (line_at w.base.lines i)) (most_at w.base.lines i stands.most same) refl))
   stands_on RestartPlatform may other = stands_there (after w RestartPlatform) refl refl refl refl
-      (alike_same (newest w.base) (newest (after w RestartPlatform).base) stands.most (ap (λ (n : ℕ). (line_at (map shut w.base.lines) n).down) (shut_place w.base.lines) ∙ shut_there w.base.lines (newest_place w.base.lines)))
+      (alike_same (newest w.base) (newest (after w RestartPlatform).base) stands.most (ap (λ (n : ℕ). (line_at (map shut w.base.lines) n).down) (shut_place w.base.lines) ∙ shut_down w.base.lines (newest_place w.base.lines)))
 
 pub terminal_stands_on : TerminalStandsOn
 terminal_stands_on w event t may other stands = stands_on w t stands event may other

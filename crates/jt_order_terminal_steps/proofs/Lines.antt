@@ -1,25 +1,14 @@
 -- The newest line, read and written, and worlds that differ there.
 use Rattle.std.proofs.Common.{ℕ, zero, suc, ◌+◌, ◌<◌, ◌≤◌, ◌≡◌, List, [], ◌∷◌, ◌++◌, length, set, arith, refl, ap, sym, ◌∙◌, subst, append_assoc}
 use Rattle.std.specs.List.{flat_map}
-use Rattle.std.proofs.lemmas.List.{append-nil, get_or-set_same, length-set, set-get_or, set-set}
+use Rattle.std.proofs.lemmas.List.{append-nil, set-get_or, set-set}
 use Rattle.jt_octets.specs.World.{Line, line_at, new_line, newest_place, written}
+use Rattle.jt_octets.proofs.Exactly.{same_place}
 use Rattle.jt_play.proofs.Acting.{wrote_sent}
 use Rattle.jt_play.proofs.Cutting.{wrote}
+use Rattle.jt_play.proofs.Rounds.{newest_set}
 use Rattle.jt_order_octets.specs.World.{OrderWorld}
 use Rattle.jt_order_terminal_steps.specs.Standing.{TerminalParts, after_call, line_after_call}
-
-pub same_place : (lines : List Line) (place : ℕ) (x : Line) → newest_place (set lines place x) ≡ newest_place lines
-same_place [] zero x = refl
-same_place [] (suc place) x = refl
-same_place (line ∷ lines) zero x = refl
-same_place (line ∷ lines) (suc place) x = length-set lines place x
-
-newest_within : (lines : List Line) → 0 < length lines → newest_place lines < length lines
-newest_within [] some = absurd (omega arith)
-newest_within (line ∷ lines) some = omega arith
-
-pub newest_set : (lines : List Line) (x : Line) → 0 < length lines → line_at (set lines (newest_place lines) x) (newest_place (set lines (newest_place lines) x)) ≡ x
-newest_set lines x some = ap (line_at (set lines (newest_place lines) x)) (same_place lines (newest_place lines) x) ∙ get_or-set_same lines (newest_place lines) x new_line (newest_within lines some)
 
 -- no more of the newest line was read than was written
 abbrev pub Most : List Line → Type 0

@@ -2,9 +2,9 @@
 use Rattle.std.proofs.Common.{ℕ, ◌+◌, ◌-◌, ◌<◌, ◌≡◌, ◌⊎◌, inl, inr, List, [], ◌∷◌, ◌++◌, length, set, Option, Some, None, Bool, true, false, arith, refl, ap, sym, ◌∙◌, subst}
 use Rattle.std.specs.Coded.{codes}
 use Rattle.std.specs.Option.{option_to_list}
-use Rattle.std.specs.Prelude.{◌^◌, ◌==◌, if◌then◌else◌, is_none, nat_le, slice_get}
+use Rattle.std.specs.Prelude.{◌^◌, ◌==◌, if◌then◌else◌, is_none, slice_get}
 use Rattle.std.proofs.Math.Logic.{∥∥₁_elim}
-use Rattle.std.proofs.lemmas.Bool.{eqb-true, le-leb, lt-ltb}
+use Rattle.std.proofs.lemmas.Bool.{le-leb, lt-ltb}
 use Rattle.std.proofs.lemmas.List.{append-nil, length-append, length_push}
 use Rattle.jt_value.specs.Octets.{AreOctets}
 use Rattle.jt_value.specs.Serials.{serial_of}
@@ -31,13 +31,14 @@ use Rattle.jt_order.specs.declared.performed.Performed.{Performed}
 use Rattle.jt_order.specs.declared.rules.Ruling.{Ruling}
 use Rattle.jt_order.specs.declared.rules.Ruling.TheVariants.{Again, Performs, Refuses}
 use Rattle.jt_order.specs.Rules.{ruling_by}
-use Rattle.jt_obeying.specs.Orders.{last_performed, no_tables, ruling, tables_of}
+use Rattle.jt_obeying.specs.Orders.{no_tables, ruling, tables_of}
 use Rattle.jt_obeying.specs.Performing.{terminal_performing}
 use Rattle.jt_order_turns.specs.Frames.{order_in}
 use Rattle.jt_order_turns.specs.Heard.{Heard, Ordered, Other, Nothing, heard_at}
 use Rattle.jt_order_terminal.specs.Ledgers.{IsLedgerOf, Ledger}
 use Rattle.jt_order_terminal.specs.Terminals.{Done, by_ruling, does_at, does_at_items, next, then_done}
-use Rattle.jt_octets.specs.World.{World, Line, Wire, completed_item, newest, newest_place, taken_of, with_one_taken}
+use Rattle.jt_order_terminal.proofs.Committing.{serial_by, some_by, last_push}
+use Rattle.jt_octets.specs.World.{World, Wire, completed_item, newest, newest_place, taken_of, with_one_taken}
 use Rattle.jt_octets.specs.Steps.{MayAccept, accepting}
 use Rattle.jt_octets.proofs.Exact.{Behind, one_behind}
 use Rattle.jt_octets.proofs.Views.{StreamLaws}
@@ -51,7 +52,7 @@ use Rattle.jt_play.proofs.Reading.{heard_phone, none_behind}
 use Rattle.jt_play.proofs.Rounds.{behind_frames, some_left}
 use Rattle.jt_play.proofs.Upward.{grown, octet_of}
 use Rattle.jt_order_octets.specs.World.{OrderWorld}
-use Rattle.jt_order_octets.specs.Claim.{EachReachedIsObeyed, NoneIsRefused}
+use Rattle.jt_order_octets.specs.Claim.{EachReachedIsObeyed}
 use Rattle.jt_order_octets.specs.Reaching.{Reached}
 use Rattle.jt_order_octets.specs.Steps.{Down, MayRead, after, after_read, heard_next, response_of, tables_by_ruling, with_one_read}
 use Rattle.jt_order_play.specs.Playing.{done}
@@ -61,7 +62,7 @@ use Rattle.jt_order_play.proofs.Composing.{still_reached}
 use Rattle.jt_order_play.proofs.Doing.{done_is, quiet_opens}
 use Rattle.jt_order_play.proofs.Hearing.{TakesNone, accepts_quietly, after_log, answers_directly, cut_steps, cut_takes, does_few, does_ruled, does_send, heard_names, heard_opens, name_behind, ruled_of, ruling_is, takes_steps, whole_takes}
 use Rattle.jt_order_play.proofs.Naming.{NameNone, quiet_names, steps_fine}
-use Rattle.jt_order_play.proofs.Reading.{answered_base}
+use Rattle.jt_order_play.proofs.Reading.{answered_base, wrote_both, refused_reached}
 use Rattle.jt_order_play.proofs.Standing.{leads_one}
 use Rattle.jt_order_terminal_steps.specs.Standing.{TerminalParts, after_call, line_after_call}
 use Rattle.jt_order_terminal_steps.proofs.Events.{behind_nothing}
@@ -80,22 +81,9 @@ brought laws wire lt = by (completed_item wire) (one_behind laws wire lt)
 
 -- ---- the ledger behind an order
 
-serial_by : (count n : ℕ) (b : Bool) → (count == 2 ^ 64 - 1) ≡ b → serial_of count ≡ serial_of n → serial_of (if b then 65536 else count + 1) ≡ serial_of (n + 1)
-serial_by count n true last same = let is = eqb-true count (2 ^ 64 - 1) last in omega (arith, is, same)
-serial_by count n false last same = omega (arith, same)
-
-some_by : (count : ℕ) (b : Bool) → nat_le 1 (if b then 65536 else count + 1) ≡ true
-some_by count true = refl
-some_by count false = le-leb 1 (count + 1) (omega arith)
-
 last_by : {A : Type 0} (xs : List A) (x : A) → slice_get (xs ++ x ∷ []) (length xs) ≡ Some x
 last_by [] x = refl
 last_by (y ∷ xs) x = last_by xs x
-
-last_push : (log : List Performed) (p : Performed) → last_performed (log ++ p ∷ []) ≡ Some p
-last_push log p =
-    let place : length (log ++ p ∷ []) - 1 ≡ length log = let len = length_push log p in omega (arith, len) in
-    ap (slice_get (log ++ p ∷ [])) place ∙ last_by log p
 
 ledger_push : (log : List Performed) (l : Ledger) (p : Performed) (tables : HeldTables) → IsLedgerOf log l → tables ≡ tables_of terminal_performing no_tables (log ++ p ∷ [])
     → IsLedgerOf (log ++ p ∷ []) (record { count = next l.count; last = Some p; tables = tables })
@@ -157,13 +145,6 @@ read_rest w Nothing takes responds log tables was log_is tables_is none =
 
 tables_reached : EachReachedIsObeyed → (w : OrderWorld) → ∥ Reached w ∥₁ → w.tables ≡ tables_of terminal_performing no_tables w.log
 tables_reached law w reached = ∥∥₁_elim reached (Prim.hlevel (codes, params.the_row.coded, regions.the_row.coded)) (λ (r : Reached w). (law w r).tables)
-
-refused_reached : NoneIsRefused → (w : OrderWorld) → ∥ Reached w ∥₁ → w.refused ≡ []
-refused_reached law w reached = ∥∥₁_elim reached (Prim.hlevel codes) (λ (r : Reached w). law w r)
-
-wrote_both : (lines : List Line) (a b : List (List ℕ)) → wrote (wrote lines a) b ≡ wrote lines (a ++ b)
-wrote_both lines [] b = refl
-wrote_both lines (frame ∷ a) b = wrote_both _ a b
 
 -- ---- what is done
 

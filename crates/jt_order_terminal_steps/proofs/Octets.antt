@@ -24,7 +24,7 @@ use Rattle.jt_order_terminal.specs.Terminals.{CommitsFirst, Done, does_at, does_
 use Rattle.jt_octets.specs.World.{Line, Wire, completed_item, newest, taken_of}
 use Rattle.jt_octets.proofs.Views.{StreamLaws}
 use Rattle.jt_play.proofs.Downward.{Brought}
-use Rattle.jt_play.proofs.Rounds.{some_left}
+use Rattle.jt_play.proofs.Rounds.{some_left, newest_set}
 use Rattle.jt_play.proofs.Upward.{grown, octet_of}
 use Rattle.jt_order_octets.specs.World.{OrderWorld}
 use Rattle.jt_order_octets.specs.Reaching.{Reached}
@@ -35,7 +35,7 @@ use Rattle.jt_order_terminal_steps.specs.Standing.{AreNext, TerminalParts, after
 use Rattle.jt_order_terminal_steps.specs.Claim.{EndsAtGiveUp, items_read}
 use Rattle.jt_order_terminal_steps.proofs.Events.{behind_nothing}
 use Rattle.jt_order_terminal_steps.proofs.Owning.{OwnLeads, leads_of, own_both, own_none}
-use Rattle.jt_order_terminal_steps.proofs.Lines.{behind_both, newest_set}
+use Rattle.jt_order_terminal_steps.proofs.Lines.{behind_both}
 use Rattle.jt_order_terminal_steps.proofs.Octet.{CutAt, IsAt, brought, cut_either, does_settings, does_up, parts_of, whole_at, whole_leads}
 
 -- ---- lists

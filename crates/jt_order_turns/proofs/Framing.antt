@@ -18,7 +18,8 @@ use Rattle.jt_codec.specs.declared.message.Message.TheVariants as message
 use Rattle.jt_terminal_rule.specs.declared.state.State.{State}
 use Rattle.jt_terminal_rule.specs.declared.state.AnswerKind.TheVariants.{Position}
 use Rattle.jt_terminal_rule.specs.Answers.{answer_to, answer_to_lack, only_says, responds, takes_params, takes_regions, tells_position}
-use Rattle.jt_terminal_rule.specs.Tables.{params_after, regions_after}
+use Rattle.jt_regions.specs.Changes.{regions_after}
+use Rattle.jt_terminal_rule.specs.Tables.{params_after}
 use Rattle.jt_order.specs.Orders.{OrderOf, IsOrder}
 use Rattle.jt_terminal_answers.specs.Performing.{HeldTables, with_params, with_regions, message_outcome}
 use Rattle.jt_obeying.specs.Orders.{Performing, order_at, performed_over, tables_behind}

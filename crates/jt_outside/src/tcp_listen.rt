@@ -11,7 +11,7 @@ use crate::tcp_link::TcpLink;
 use crate::{Accepted, Listen};
 use std::io::ErrorKind;
 use std::marker::Model;
-use std::net::{Net, TcpListener, TcpStream};
+use std::net::{Net, OpenListener, TcpListener, TcpStream};
 use std::os::fd::AsRawFd;
 use std::time::Duration;
 use std::{io, thread, time};
@@ -27,22 +27,31 @@ const WRITE_WAITS: u32 = 12;
 // How many connections the system keeps for the accepts to come (this project's own; it may keep fewer).
 const BACKLOG: i32 = 4_096;
 
-// The system has no descriptor left, by the number that it gives.
+// The system has no descriptor left, or no memory for a socket, by the numbers that it gives.
 const ENFILE: i32 = 23;
 
-// How often an accept waits where descriptors are short, a second each time (this project's own).
+const ENOBUFS: i32 = 105;
+
+// How often an accept waits where descriptors or memory are short, a second each time (this project's own).
 const MOST_WAITS: u32 = 600;
 
-/// Listens by TCP on every address of IPv4. The links' reads wait for 60 seconds, their writes likewise. Where the process has no
-/// descriptor left an accept waits a second and tries again, 600 times; then it fails.
+// How many connections in a row that failed before they were accepted an accept passes over, and how long it waits behind each, in
+// milliseconds: ten minutes in all (this project's own).
+const MOST_PASSED: u32 = 60_000;
+
+const PASSED_WAIT: u64 = 10;
+
+/// Listens by TCP on every address of IPv4. The links' reads wait for 60 seconds, their writes likewise. Where descriptors or memory
+/// are short an accept waits a second and tries again, 600 times; then it fails. A connection that failed before it was accepted is
+/// passed over: the accept waits for 10 milliseconds and takes the next one. It fails where 60,000 in a row failed so.
 #[derive(Drop)]
-pub struct TcpListen<R> {
+pub struct TcpListen<R: Net> {
     rt: R,
-    listener: Option<TcpListener>,
+    listener: Option<R::Listener>,
     faults: u64,
 }
 
-impl<R> Model for TcpListen<R> {
+impl<R: Net> Model for TcpListen<R> {
     ghost use Rattle.std.specs.Prelude.{◌≤◌, ◌-◌, ◌^◌, ℕ};
 
     ghost Value = { ℕ };
@@ -52,7 +61,7 @@ impl<R> Model for TcpListen<R> {
     ghost invariant = { λ l. l.faults ≤ 2 ^ 64 - 1 };
 }
 
-impl<R: Net<Listener = TcpListener, Stream = TcpStream>> TcpListen<R> {
+impl<R: Net<Stream = TcpStream>> TcpListen<R> {
     /// A listener with no fault so far, which listens nowhere yet and keeps the runtime.
     pub fn new(rt: R) -> TcpListen<R>
         ensures { result ≡ 0 }
@@ -66,25 +75,33 @@ impl<R: Net<Listener = TcpListener, Stream = TcpStream>> TcpListen<R> {
 }
 
 // Listens at the port, with room for more connections to come than std asks for. Where the system refuses that, std's room stays.
-fn open<R: Net<Listener = TcpListener, Stream = TcpStream>>(
-    rt: &R,
-    port: u16,
-) -> io::Result<TcpListener> {
+fn open<R: Net<Stream = TcpStream>>(rt: &R, port: u16) -> io::Result<R::Listener> {
     let listener = TcpListener::bind(rt, ("0.0.0.0", port))?;
     let _ = libc::net::listen(listener.as_raw_fd(), BACKLOG);
     Ok(listener)
 }
 
-// Whether an accept may succeed later: descriptors or memory are short.
+// Whether descriptors or memory are short: the connection is still there to be accepted.
 fn is_short(error: &io::Error) -> bool {
     matches!(
         error.raw_os_error(),
-        Some(libc::EMFILE | ENFILE | libc::ENOMEM)
+        Some(libc::EMFILE | ENFILE | libc::ENOMEM | ENOBUFS)
     )
 }
 
-// The next stream that comes.
-fn accept_on<R: time::Clock>(rt: &R, listener: &TcpListener) -> io::Result<TcpStream> {
+// Whether the listener itself can't accept. Every other error is of one connection, of the network or of a firewall.
+fn is_of_listener(error: &io::Error) -> bool {
+    matches!(
+        error.raw_os_error(),
+        None | Some(libc::EBADF | libc::EINVAL | libc::ENOTSOCK)
+    )
+}
+
+// What the next accept gives. It waits where descriptors or memory are short.
+fn accept_patiently<R: Net<Stream = TcpStream> + time::Clock>(
+    rt: &R,
+    listener: &R::Listener,
+) -> io::Result<TcpStream> {
     for _ in 0..MOST_WAITS {
         match listener.accept() {
             Err(error) if is_short(&error) => thread::sleep(rt, Duration::from_secs(1)),
@@ -96,17 +113,37 @@ fn accept_on<R: time::Clock>(rt: &R, listener: &TcpListener) -> io::Result<TcpSt
     Ok(stream)
 }
 
-fn next_stream<R: time::Clock>(rt: &R, listener: &Option<TcpListener>) -> io::Result<TcpStream> {
-    let Some(listener) = listener else {
-        return Err(io::Error::from(ErrorKind::NotConnected));
-    };
-    let stream = accept_on(rt, listener)?;
+fn set_waits(stream: &TcpStream) -> io::Result<()> {
     stream.set_read_timeout(Some(Duration::from_secs(WAIT)))?;
-    stream.set_write_timeout(Some(Duration::from_secs(WRITE_WAIT)))?;
-    Ok(stream)
+    stream.set_write_timeout(Some(Duration::from_secs(WRITE_WAIT)))
 }
 
-impl<R: Net<Listener = TcpListener, Stream = TcpStream> + time::Clock> Listen for TcpListen<R> {
+// The next stream that comes. What failed for one connection is passed over.
+fn accept_stream<R: Net<Stream = TcpStream> + time::Clock>(
+    rt: &R,
+    listener: &R::Listener,
+) -> io::Result<TcpStream> {
+    for _ in 0..MOST_PASSED {
+        match accept_patiently(rt, listener) {
+            Ok(stream) if set_waits(&stream).is_ok() => return Ok(stream),
+            Err(error) if is_short(&error) || is_of_listener(&error) => return Err(error),
+            _ => thread::sleep(rt, Duration::from_millis(PASSED_WAIT)),
+        }
+    }
+    Err(io::Error::from(ErrorKind::ConnectionAborted))
+}
+
+fn next_stream<R: Net<Stream = TcpStream> + time::Clock>(
+    rt: &R,
+    listener: &Option<R::Listener>,
+) -> io::Result<TcpStream> {
+    match listener {
+        Some(listener) => accept_stream(rt, listener),
+        None => Err(io::Error::from(ErrorKind::NotConnected)),
+    }
+}
+
+impl<R: Net<Stream = TcpStream> + time::Clock> Listen for TcpListen<R> {
     type Link = TcpLink;
 
     ghost pool = { λ _. untold };

@@ -1,4 +1,5 @@
--- The reply to a request as a function. `law_answers` says that each reply that is allowed is this one.
+-- The reply to a request as a function (this project's own). To be believed where a world is played; `law_answers` says that each reply
+-- that is allowed is this one.
 use Rattle.std.specs.Prelude.{◌<◌, ◌↔◌, ◌+◌, ◌-◌, ℕ, List, [], ◌∷◌, length, Bool, false, ◌==◌, ◌&&◌, ◌||◌, IsTrue, if◌then◌else◌, Option, None, Some, nat_lt, bytes_eq}
 use Rattle.jt_value.specs.declared.limits.TheConstants.{SERIAL_WINDOW}
 use Rattle.jt_value.specs.Sameness.{key_of}

@@ -1,4 +1,5 @@
--- The tables that a hub keeps of its history, and what they tell. A step definition for the proofs; no public clause cites it.
+-- The tables that a hub keeps of its history, and what they tell. A step definition for the proofs, but for `Logged`, which is to be
+-- believed: its entries are the history that a hub shows.
 use Rattle.std.specs.Prelude.{◌≡◌, ◌<◌, ◌≤◌, ℕ, List, [], Bool, true, false, ◌==◌, ◌&&◌, ◌||◌, not, Option, None, Some, IsSome, if◌then◌else◌}
 use Rattle.std.specs.BTreeMap.{is_at}
 use Rattle.std.specs.Cmp.Lexicographic.{slice_cmp}

@@ -176,7 +176,7 @@ unopened w line.RestartTerminal l named e = absurd named
 unopened w line.RestartPlatform l named e = absurd named
 unopened w (line.RestartAs edition) l named e = absurd named
 
-names_it : (w : World) (e : WorldEvent) (l : ℕ) → Names e l → is_opened w l ≡ false → names_no_line w e ≡ true
+pub names_it : (w : World) (e : WorldEvent) (l : ℕ) → Names e l → is_opened w l ≡ false → names_no_line w e ≡ true
 names_it w (line.Up number count) l named e = ap not (ap (is_opened w) named ∙ e)
 names_it w (line.Cut number) l named e = ap not (ap (is_opened w) named ∙ e)
 names_it w (line.Fix latitude) l named e = absurd named

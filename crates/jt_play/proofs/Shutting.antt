@@ -1,25 +1,26 @@
 -- All ends at the platform are gone, one after another; and what a new hub then begins over.
-use Rattle.std.proofs.Common.{ℕ, zero, suc, ◌+◌, ◌-◌, ◌<◌, ◌≤◌, ◌≡◌, List, [], ◌∷◌, ◌++◌, length, take, drop, set, map, get_or, Option, Some, None, Bool, true, false, arith, refl, ap, sym, ◌∙◌, subst}
+use Rattle.std.proofs.Common.{ℕ, zero, suc, ◌+◌, ◌-◌, ◌<◌, ◌≤◌, ◌≡◌, List, [], ◌∷◌, ◌++◌, length, take, drop, set, map, get_or, Some, None, true, false, arith, refl, ap, sym, ◌∙◌, subst}
 use Rattle.std.specs.List.{flat_map}
 use Rattle.std.proofs.lemmas.Bool.{false≢true}
 use Rattle.std.proofs.lemmas.Grind.{flat_map-append}
 use Rattle.std.proofs.lemmas.List.{append-nil, reverse-append, length-map}
 use Rattle.jt_value.specs.Sameness.{key_of, same_key}
 use Rattle.jt_store.specs.Memory.{KeeperState, Stock, tables_of}
-use Rattle.jt_store.specs.Verdicts.{Shelf, alone}
+use Rattle.jt_store.specs.Verdicts.{Shelf}
 use Rattle.jt_subpacket.specs.Partials.{Partial}
 use Rattle.jt_platform.specs.declared.request.Entry.{Entry}
-use Rattle.jt_platform.specs.History.{newest, closed, tables_after}
+use Rattle.jt_platform.specs.History.{newest, tables_after}
 use Rattle.jt_platform.specs.Hub.{HubValue}
 use Rattle.jt_platform.specs.Laws.{AreOf, HistoriesTell, shelf_of}
 use Rattle.jt_terminal.specs.Line.{partial_of}
 use Rattle.jt_terminal_steps.specs.Running.{TerminalValue}
-use Rattle.jt_octets.specs.World.{World, Line, Wire, line_at, new_line, newest_place, taken_of}
+use Rattle.jt_octets.specs.World.{World, Line, line_at, newest_place, taken_of}
 use Rattle.jt_octets.specs.Steps.{RestartPlatform, after, shut}
 use Rattle.jt_octets.specs.Reaching.{Leads}
 use Rattle.jt_play.specs.Holding.{IsRunning, Numbered, blank, heard_on, lines_in, past_of, play_of, shelf_in, shut_lines, taken_on}
 use Rattle.jt_play.proofs.Downward.{leads_one}
 use Rattle.jt_play.proofs.Platforms.{alone_again, shelf_is}
+use Rattle.jt_play.proofs.Fair.{shut_place}
 
 -- ---- lines
 
@@ -53,11 +54,7 @@ shut_in : (lines : List Numbered) → lines_in (shut_lines lines) ≡ map shut (
 shut_in [] = refl
 shut_in (x ∷ lines) = ap (λ (rest : List Line). shut x.line ∷ rest) (shut_in lines)
 
-shut_place : (lines : List Line) → newest_place (map shut lines) ≡ newest_place lines
-shut_place [] = refl
-shut_place (line ∷ lines) = length-map lines shut
-
-shut_down : (lines : List Line) (place : ℕ) → (line_at (map shut lines) place).down ≡ (line_at lines place).down
+pub shut_down : (lines : List Line) (place : ℕ) → (line_at (map shut lines) place).down ≡ (line_at lines place).down
 shut_down [] zero = refl
 shut_down [] (suc place) = refl
 shut_down (line ∷ lines) zero = refl

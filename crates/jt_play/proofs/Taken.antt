@@ -139,7 +139,7 @@ pub record GoesParts (line : Line) : Type 0 where
   pub left : line.up.taken < length line.up.octets
   pub has : has_left line.up ≡ true
 
-some_of : (o : Option Session) → not (is_none o) ≡ true → IsSome o
+pub some_of : (o : Option Session) → not (is_none o) ≡ true → IsSome o
 some_of None e = absurd (false≢true e)
 some_of (Some s) e = refl
 

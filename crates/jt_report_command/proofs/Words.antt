@@ -9,10 +9,9 @@ use Rattle.jt_value.specs.declared.phone.Edition.{Edition}
 use Rattle.jt_value.specs.declared.phone.Edition.TheVariants.{E2013, E2019}
 use Rattle.jt_value.specs.declared.phone.Phone.{Phone}
 use Rattle.jt_register.specs.Registration.{terminal_len}
-use Rattle.jt_report_command.specs.ReportWords.{ReportValues}
+use Rattle.jt_report_command.specs.ReportWords.{AreSpoken, ReportValues}
 use Rattle.jt_report_command.specs.Values.{octets_in, plate_most, terminal_most}
 use Rattle.jt_words.specs.PhoneDigits.{phone_in, phone_of, some_of}
-use Rattle.jt_report_command.specs.Settings.{AreSpoken}
 
 first_holds : (a b : Bool) → (a && b) ≡ true → a ≡ true
 first_holds true b h = refl

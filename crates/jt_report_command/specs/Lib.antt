@@ -10,7 +10,6 @@ pub mod Noting
 pub mod Reading
 pub mod NotingSteps
 pub mod Report
-pub mod Settings
 pub mod Came
 pub mod Running
 pub mod Answered

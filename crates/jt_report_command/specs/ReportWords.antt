@@ -59,3 +59,7 @@ pub record AreWords (told : ReportValues) (words : List (List ℕ)) : Type 0 whe
   pub written : Written
   pub words_are : AreCommand written words
   pub tells : TellsWords written told
+
+-- there are words of `report` that tell this
+abbrev pub AreSpoken : ReportValues → Type 0
+AreSpoken told = (words : List (List ℕ)) × AreWords told words

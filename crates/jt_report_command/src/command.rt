@@ -15,10 +15,10 @@ ghost use Rattle.jt_report_command.specs.Answered.{HasAll, WereFine};
 ghost use Rattle.jt_report_command.specs.Came.{report_text};
 ghost use Rattle.jt_report_command.specs.Steps.{TellsAttempts, VaultKeeps, came_at, came_of, status_at, status_of_refusal};
 ghost use Rattle.jt_report_command.specs.Running.{EndsSo, RunsReport, scene_of};
-ghost use Rattle.jt_report_command.specs.Settings.{AreSpoken, settings_of};
+ghost use Rattle.jt_report_command.specs.ReportWords.{AreSpoken};
+ghost use Rattle.jt_terminal_rule.specs.PlainSettings.{settings_of};
 ghost use Rattle.jt_report_command.specs.declared.noting.FixesError.TheVariants as noted;
 
-use crate::settings::settings_for;
 use crate::telling::{tell_bad_line, tell_outcome};
 use crate::{FixesError, ReportWords, note_fixes};
 use jt_agent::report_all;
@@ -26,6 +26,7 @@ use jt_input::{EarlyEnd, Status, answer_early_end};
 use jt_outside::{Clock, Dial, Sink, Source};
 use jt_store::{StoreError, Vault};
 use jt_terminal::Terminal;
+use jt_terminal_rule::settings_for;
 use jt_value::Memory;
 use std::alloc::Global;
 

@@ -12,7 +12,7 @@ ghost use Rattle.jt_agent.specs.declared.reporting.Outcome.{Outcome};
 ghost use Rattle.jt_agent.specs.declared.reporting.Outcome.TheVariants.{Done, Memory};
 ghost use Rattle.jt_report_command.specs.Answered.{HasAll, HasAnswers, WereFine};
 ghost use Rattle.jt_report_command.specs.Running.{RunsReport, Scene};
-ghost use Rattle.jt_report_command.specs.Settings.{settings_of};
+ghost use Rattle.jt_terminal_rule.specs.PlainSettings.{settings_of};
 
 /// Want of memory before anything was done is a run of `report`, whatever it was told.
 pub fn law_without_memory()

@@ -10,7 +10,6 @@ mod options;
 mod printing;
 mod readers;
 mod report_words;
-mod settings;
 mod telling;
 
 pub use bad_lines::push_bad_line_of;
@@ -20,4 +19,3 @@ pub use line::{FixLine, fix_line};
 pub use noting::{FixesError, note_fixes};
 pub use printing::{push_outcome, status_of};
 pub use report_words::ReportWords;
-pub use settings::settings_for;

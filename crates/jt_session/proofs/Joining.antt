@@ -55,7 +55,7 @@ pub stops_over : (k : Talked) (item : Unplaced) (asked : Option Request) → (tu
 stops_over k item None = refl
 stops_over k item (Some q) = refl
 
-way_not_short : (k : Talked) (item : Unplaced) (asked : Option Request) (way : Way) → (turn_on k item asked way).over ≡ false → ran_short way ≡ false
+pub way_not_short : (k : Talked) (item : Unplaced) (asked : Option Request) (way : Way) → (turn_on k item asked way).over ≡ false → ran_short way ≡ false
 way_not_short k item asked (Goes answer) on = refl
 way_not_short k item asked (Stops None) on = absurd (false≢true (sym on ∙ stops_over k item asked))
 way_not_short k item asked (Stops (Some r)) on = refl

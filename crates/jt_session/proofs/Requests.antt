@@ -24,6 +24,7 @@ use Rattle.jt_codec.specs.Bodies.{body, id_of}
 use Rattle.jt_codec.specs.Law.{AreOneToOne, AreUnderTheirIds}
 use Rattle.jt_codec.specs.declared.message.Message.{Message}
 use Rattle.jt_codec.specs.declared.message.Message.TheVariants as message
+use Rattle.jt_codec.proofs.BodyLaws.{made}
 use Rattle.jt_subpacket.specs.Fates.{taken_by}
 use Rattle.jt_subpacket.specs.Joining.{IsNamedByItsPackets}
 use Rattle.jt_subpacket.specs.declared.taken.Fate.{Fate}
@@ -36,16 +37,12 @@ use Rattle.jt_session.specs.AnswerLaw.{IsOf, IsOtherId, MayAsk, RequestsAre}
 
 -- ---- the table at the ids that ask something of their own
 
-made : {A : Type 0} (make : A → Message) (r : Result A Refusal) (m : Message) → (r >>= λ x. Ok (make x)) ≡ Ok m → (x : A) × (m ≡ make x)
-made make (Ok x) m e = (x, cc)
-made make (Err r) m e = absurd cc
-
-at_register : (edition : Edition) (octets : List ℕ) (m : Message) → (body edition 0x0100).read octets 0 ≡ Ok m → (x : Register) × (m ≡ message.Register x)
+pub at_register : (edition : Edition) (octets : List ℕ) (m : Message) → (body edition 0x0100).read octets 0 ≡ Ok m → (x : Register) × (m ≡ message.Register x)
 unfolding body
 at_register E2013 octets m e = made message.Register ((register E2013).read octets 0) m e
 at_register E2019 octets m e = made message.Register ((register E2019).read octets 0) m e
 
-at_auth : (edition : Edition) (octets : List ℕ) (m : Message) → (body edition 0x0102).read octets 0 ≡ Ok m → (x : Auth) × (m ≡ message.Auth x)
+pub at_auth : (edition : Edition) (octets : List ℕ) (m : Message) → (body edition 0x0102).read octets 0 ≡ Ok m → (x : Auth) × (m ≡ message.Auth x)
 unfolding body
 at_auth E2013 octets m e = made message.Auth ((auth E2013).read octets 0) m e
 at_auth E2019 octets m e = made message.Auth ((auth E2019).read octets 0) m e
@@ -66,7 +63,7 @@ at_batch E2013 octets = refl
 at_batch E2019 octets = refl
 
 -- a message that asks nothing of its own
-abbrev is_plain : Message → Bool
+abbrev pub is_plain : Message → Bool
 is_plain (message.Register x) = false
 is_plain (message.Auth x) = false
 is_plain message.Deregister = false
@@ -89,7 +86,7 @@ other_id edition id octets m e plain = record {
     no_unit (inl is) = let found = made message.Position (position.read octets 0) m (sym (at_position edition octets) ∙ subst (λ n. (body edition n).read octets 0 ≡ Ok m) is e) in not_plain m (message.Position found.0) found.1 plain refl
     no_unit (inr is) = let found = made message.Batch (batch.read octets 0) m (sym (at_batch edition octets) ∙ subst (λ n. (body edition n).read octets 0 ≡ Ok m) is e) in not_plain m (message.Batch found.0) found.1 plain refl
 
-some_is : (a b : ℕ) → ◌≡◌ {A = Option ℕ} (Some a) (Some b) → b ≡ a
+pub some_is : (a b : ℕ) → ◌≡◌ {A = Option ℕ} (Some a) (Some b) → b ≡ a
 some_is a b e = cc
 
 may_read : (h : Header) (octets : List ℕ) (m : Message) → id_of m ≡ Some h.id → (body h.edition h.id).read octets 0 ≡ Ok m → MayAsk h.phone h.id (request_of h octets m)
@@ -110,7 +107,7 @@ module _ (one : AreOneToOne) (under : AreUnderTheirIds) where
 
 -- ---- the message that a frame brings
 
-whole_named : (h : Header) (fate : Fate) (m : Header × List ℕ) → whole_of h fate ≡ Some m → (id : ℕ) × (serial : ℕ) × (octets : List ℕ) × (fate ≡ Whole id serial octets) × (m ≡ (record h { id = id; serial = serial; packet = None }, octets))
+pub whole_named : (h : Header) (fate : Fate) (m : Header × List ℕ) → whole_of h fate ≡ Some m → (id : ℕ) × (serial : ℕ) × (octets : List ℕ) × (fate ≡ Whole id serial octets) × (m ≡ (record h { id = id; serial = serial; packet = None }, octets))
 whole_named h (Whole id serial octets) m e = (id, serial, octets, refl, cc)
 whole_named h (TooMany total) m e = absurd cc
 whole_named h (Resend first missing) m e = absurd cc
@@ -127,7 +124,7 @@ named_by law s h octets (Some packet) m good is e =
     let named = law s.partial h octets whole.2 whole.0 whole.1 good.serial (rw is fields.0) packet is fields.1 whole.3 in
     (ap (λ x. x.0.phone) whole.4, ap (λ x. x.0.id) whole.4 ∙ named.0)
 
-own_asks : (own : Bool) (m : Option (Header × List ℕ)) (q : Request) → (if own then asked_by m else None) ≡ Some q → asked_by m ≡ Some q
+pub own_asks : (own : Bool) (m : Option (Header × List ℕ)) (q : Request) → (if own then asked_by m else None) ≡ Some q → asked_by m ≡ Some q
 own_asks true m q e = e
 own_asks false m q e = absurd cc
 

@@ -6,8 +6,8 @@ use Rattle.jt_stream.specs.Unplaced.{Unplaced}
 use Rattle.jt_platform.specs.Allowed.{makes_entry}
 use Rattle.jt_platform.specs.declared.request.Request.{Request}
 use Rattle.jt_platform.specs.declared.request.Reply.{Reply}
-use Rattle.jt_session.specs.Talk.{Turn, Way, Goes, Stops, Talked, talk_from, at_state, start, items_of, asks, turn_on, FitsFrom, IsReplied}
-use Rattle.jt_session.proofs.Joining.{items_append, stops_over}
+use Rattle.jt_session.specs.Talk.{Turn, Way, Goes, Stops, Talked, talk_from, at_state, start, items_of, asks, FitsFrom, IsReplied}
+use Rattle.jt_session.proofs.Joining.{items_append, way_not_short}
 use Rattle.jt_session.specs.Law.{reply_in, replies_of, ran_short, short_at, IsOneTalk}
 
 head_is : {A : Type 0} (x y : A) (xs ys : List A) → x ∷ xs ≡ y ∷ ys → x ≡ y
@@ -24,14 +24,9 @@ abbrev NoneShort : List Turn → Type 0
 NoneShort [] = Unit {0}
 NoneShort (t ∷ older) = (ran_short t.way ≡ false) × NoneShort older
 
-way_on : (k : Talked) (item : Unplaced) (asked : Option Request) (way : Way) → (turn_on k item asked way).over ≡ false → ran_short way ≡ false
-way_on k item asked (Goes r) on = refl
-way_on k item asked (Stops (Some r)) on = refl
-way_on k item asked (Stops None) on = absurd (false≢true (sym on ∙ stops_over k item asked))
-
 none_short : (k : Talked) (turns : List Turn) → FitsFrom k turns → (talk_from k turns).over ≡ false → NoneShort turns
 none_short k [] fits on = tt
-none_short k (t ∷ older) fits on = (way_on (talk_from k older) t.item (asks (talk_from k older).state t.item) t.way on, none_short k older fits.2 fits.0)
+none_short k (t ∷ older) fits on = (way_not_short (talk_from k older) t.item (asks (talk_from k older).state t.item) t.way on, none_short k older fits.2 fits.0)
 
 -- at one item and after the same reply a session goes on in one way
 way_is : (item : Unplaced) (asked : Option Request) (w v : Way) (more other : List Reply) → IsReplied item asked w → IsReplied item asked v → ran_short w ≡ false → ran_short v ≡ false → more ++ reply_in w ≡ other ++ reply_in v → w ≡ v

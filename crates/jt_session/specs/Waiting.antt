@@ -1,4 +1,5 @@
--- What a session keeps of the item whose request waits. For the proofs.
+-- What a session keeps of the item whose request waits. For the proofs, but for `state_of` and `waiting_of`, which are to be believed:
+-- they say what a session shows of its state, and of the item that waits.
 use Rattle.std.specs.Prelude.{◌≡◌, ℕ, ◌≤◌, List, Bool, IsTrue, true, is_some, if◌then◌else◌, Option, None, Some}
 use Rattle.std.specs.Option.{option_map}
 use Rattle.jt_header.specs.Content.{IsHeader}

@@ -55,7 +55,8 @@ use Rattle.sqlite.specs.contracts.Unknown
 use Rattle.std.specs.contracts.alloc.Global
 use Rattle.std.specs.contracts.impls.GlobalAllocator.TheImpl as global
 use Rattle.std.specs.contracts.string.String as Text
-use Rattle.jt_sql.specs.contracts.sql_keeper.SqlKeeper
+use Rattle.jt_sql.specs.contracts.adopted_keeper.AdoptedKeeper
+use Rattle.jt_sql.specs.contracts.opens.InFile
 
 option_send : (R : RattleType) → IsSend R → IsSend (Option.the_row R)
 option_send R s = search (sendable, crosses) depth 20
@@ -445,9 +446,14 @@ runtime_send = search (sendable, crosses) depth 40 fits 100000
 text_send : IsSend (Text.the_field Global.the_row global.ghosts).row
 text_send = search (sendable, crosses) depth 40 fits 100000
 
-pub keeper_send : IsSend (SqlKeeper.the_row LibcRuntime.the_row)
-keeper_send =
+in_file_send : IsSend (InFile.the_row LibcRuntime.the_row)
+in_file_send =
     let runtime = runtime_send in
     let text = text_send in
     let connection = option_within (Connection.the_row (FileStore.the_row file its_disk) its_store) its_connection in
+    search (sendable, crosses) depth 40 fits 100000
+
+pub keeper_send : IsSend (AdoptedKeeper.the_row (InFile.the_row LibcRuntime.the_row))
+keeper_send =
+    let file = in_file_send in
     search (sendable, crosses) depth 40 fits 100000

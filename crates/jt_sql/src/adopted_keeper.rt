@@ -5,6 +5,7 @@ ghost use Rattle.jt_value.specs.declared.limits.TheConstants.{ROW_LIMIT};
 
 use crate::answers::{added, answered, changed};
 use crate::keeping;
+use crate::opens::{Opens, is_shut};
 use jt_store::{Keeper, Registered, Row, StoreError};
 use jt_value::Phone;
 use jt_value::limits::ROW_LIMIT;
@@ -53,7 +54,7 @@ impl<S: Alter> AdoptedKeeper<Connection<S>> {
     }
 }
 
-impl<S: Alter> Keeper for AdoptedKeeper<Connection<S>> {
+impl<O: Opens> Keeper for AdoptedKeeper<O> {
     ghost tables = { λ _. None };
 
     ghost limit = { λ _. ROW_LIMIT };
@@ -67,12 +68,24 @@ impl<S: Alter> Keeper for AdoptedKeeper<Connection<S>> {
         alloc: Global,
         phone: &Phone,
     ) -> Result<Option<Registered>, StoreError> {
-        let answer = keeping::registered(alloc, &mut self.connection, phone);
+        let answer = match self.connection.opened() {
+            Ok(connection) => keeping::registered(alloc, connection, phone),
+            Err(refused) => Err(refused),
+        };
+        if is_shut(&answer) {
+            self.connection.let_go();
+        }
         answered(&mut self.faults, answer)
     }
 
     fn plate_owner(&mut self, alloc: Global, plate: &[u8]) -> Result<Option<Phone>, StoreError> {
-        let answer = keeping::plate_owner(alloc, &mut self.connection, plate);
+        let answer = match self.connection.opened() {
+            Ok(connection) => keeping::plate_owner(alloc, connection, plate),
+            Err(refused) => Err(refused),
+        };
+        if is_shut(&answer) {
+            self.connection.let_go();
+        }
         answered(&mut self.faults, answer)
     }
 
@@ -81,7 +94,13 @@ impl<S: Alter> Keeper for AdoptedKeeper<Connection<S>> {
         alloc: Global,
         terminal: &[u8],
     ) -> Result<Option<Phone>, StoreError> {
-        let answer = keeping::terminal_owner(alloc, &mut self.connection, terminal);
+        let answer = match self.connection.opened() {
+            Ok(connection) => keeping::terminal_owner(alloc, connection, terminal),
+            Err(refused) => Err(refused),
+        };
+        if is_shut(&answer) {
+            self.connection.let_go();
+        }
         answered(&mut self.faults, answer)
     }
 
@@ -91,17 +110,35 @@ impl<S: Alter> Keeper for AdoptedKeeper<Connection<S>> {
         phone: &Phone,
         registered: &Registered,
     ) -> Result<(), StoreError> {
-        let answer = keeping::register(alloc, &mut self.connection, phone, registered);
+        let answer = match self.connection.opened() {
+            Ok(connection) => keeping::register(alloc, connection, phone, registered),
+            Err(refused) => Err(refused),
+        };
+        if is_shut(&answer) {
+            self.connection.let_go();
+        }
         changed(&mut self.faults, answer)
     }
 
     fn unregister(&mut self, alloc: Global, phone: &Phone) -> Result<(), StoreError> {
-        let answer = keeping::unregister(alloc, &mut self.connection, phone);
+        let answer = match self.connection.opened() {
+            Ok(connection) => keeping::unregister(alloc, connection, phone),
+            Err(refused) => Err(refused),
+        };
+        if is_shut(&answer) {
+            self.connection.let_go();
+        }
         changed(&mut self.faults, answer)
     }
 
     fn last(&mut self, alloc: Global, phone: &Phone) -> Result<Option<u64>, StoreError> {
-        let answer = keeping::last(alloc, &mut self.connection, phone);
+        let answer = match self.connection.opened() {
+            Ok(connection) => keeping::last(alloc, connection, phone),
+            Err(refused) => Err(refused),
+        };
+        if is_shut(&answer) {
+            self.connection.let_go();
+        }
         answered(&mut self.faults, answer)
     }
 
@@ -111,7 +148,13 @@ impl<S: Alter> Keeper for AdoptedKeeper<Connection<S>> {
         phone: &Phone,
         number: u64,
     ) -> Result<Option<Row>, StoreError> {
-        let answer = keeping::row_at(alloc, &mut self.connection, phone, number);
+        let answer = match self.connection.opened() {
+            Ok(connection) => keeping::row_at(alloc, connection, phone, number),
+            Err(refused) => Err(refused),
+        };
+        if is_shut(&answer) {
+            self.connection.let_go();
+        }
         answered(&mut self.faults, answer)
     }
 
@@ -121,12 +164,24 @@ impl<S: Alter> Keeper for AdoptedKeeper<Connection<S>> {
         phone: &Phone,
         number: u64,
     ) -> Result<Option<Row>, StoreError> {
-        let answer = keeping::row_from(alloc, &mut self.connection, phone, number);
+        let answer = match self.connection.opened() {
+            Ok(connection) => keeping::row_from(alloc, connection, phone, number),
+            Err(refused) => Err(refused),
+        };
+        if is_shut(&answer) {
+            self.connection.let_go();
+        }
         answered(&mut self.faults, answer)
     }
 
     fn append(&mut self, alloc: Global, phone: &Phone, row: &Row) -> Result<(), StoreError> {
-        let answer = keeping::append(alloc, &mut self.connection, phone, row);
+        let answer = match self.connection.opened() {
+            Ok(connection) => keeping::append(alloc, connection, phone, row),
+            Err(refused) => Err(refused),
+        };
+        if is_shut(&answer) {
+            self.connection.let_go();
+        }
         added(&mut self.faults, ROW_LIMIT, answer)
     }
 }

@@ -4,6 +4,7 @@ ghost use Rattle.std.specs.Prelude.{◌≡◌, None, true};
 ghost use Rattle.jt_value.specs.declared.limits.TheConstants.{FIX_LIMIT};
 
 use crate::answers::{added, answered, changed};
+use crate::opens::{Opens, is_shut};
 use crate::vaulting;
 use jt_position::Fix;
 use jt_store::{Loaded, StoreError, Unit, Vault};
@@ -53,7 +54,7 @@ impl<S: Alter> AdoptedVault<Connection<S>> {
     }
 }
 
-impl<S: Alter> Vault for AdoptedVault<Connection<S>> {
+impl<O: Opens> Vault for AdoptedVault<O> {
     ghost holds = { λ _. None };
 
     ghost limit = { λ _. FIX_LIMIT };
@@ -63,27 +64,57 @@ impl<S: Alter> Vault for AdoptedVault<Connection<S>> {
     ghost may_fail = { λ _. true };
 
     fn load(&mut self, alloc: Global) -> Result<Loaded, StoreError> {
-        let answer = vaulting::load(alloc, &mut self.connection);
+        let answer = match self.connection.opened() {
+            Ok(connection) => vaulting::load(alloc, connection),
+            Err(refused) => Err(refused),
+        };
+        if is_shut(&answer) {
+            self.connection.let_go();
+        }
         answered(&mut self.faults, answer)
     }
 
     fn note_fix(&mut self, _alloc: Global, fix: &Fix) -> Result<(), StoreError> {
-        let answer = vaulting::note_fix(&mut self.connection, fix);
+        let answer = match self.connection.opened() {
+            Ok(connection) => vaulting::note_fix(connection, fix),
+            Err(refused) => Err(refused),
+        };
+        if is_shut(&answer) {
+            self.connection.let_go();
+        }
         added(&mut self.faults, FIX_LIMIT, answer)
     }
 
     fn form(&mut self, _alloc: Global, unit: &Unit) -> Result<(), StoreError> {
-        let answer = vaulting::form(&mut self.connection, unit);
+        let answer = match self.connection.opened() {
+            Ok(connection) => vaulting::form(connection, unit),
+            Err(refused) => Err(refused),
+        };
+        if is_shut(&answer) {
+            self.connection.let_go();
+        }
         changed(&mut self.faults, answer)
     }
 
     fn accept(&mut self, _alloc: Global) -> Result<(), StoreError> {
-        let answer = vaulting::accept(&mut self.connection);
+        let answer = match self.connection.opened() {
+            Ok(connection) => vaulting::accept(connection),
+            Err(refused) => Err(refused),
+        };
+        if is_shut(&answer) {
+            self.connection.let_go();
+        }
         changed(&mut self.faults, answer)
     }
 
     fn set_code(&mut self, _alloc: Global, code: Option<&[u8]>) -> Result<(), StoreError> {
-        let answer = vaulting::set_code(&mut self.connection, code);
+        let answer = match self.connection.opened() {
+            Ok(connection) => vaulting::set_code(connection, code),
+            Err(refused) => Err(refused),
+        };
+        if is_shut(&answer) {
+            self.connection.let_go();
+        }
         changed(&mut self.faults, answer)
     }
 }

@@ -1,6 +1,6 @@
 //! The table of all recorded fixes, at places from 0 on. Each call is a part of a transaction.
 
-use crate::opening::found;
+use crate::asking::{all_rows, change, one_row, value};
 use crate::places::{count_places, place_behind};
 use crate::refused::Refused;
 use jt_position::{Fix, FixError};
@@ -18,7 +18,7 @@ const ADD: &str = "INSERT INTO fix (place, body) VALUES (?1, ?2)";
 
 /// How many fixes are recorded.
 pub(crate) fn count<S: Alter>(work: &mut Transaction<'_, S>) -> Result<i64, Refused> {
-    let last = found(work.query_row(LAST, &[]))?;
+    let last = one_row(work, LAST, &[])?;
     place_behind(last)
 }
 
@@ -29,7 +29,7 @@ pub(crate) fn count_all<S: Alter>(work: &mut Transaction<'_, S>) -> Result<i64, 
 
 // The fix in the only column. Octets that are no fix are refused.
 fn fix_in(alloc: Global, row: &Row) -> Result<Fix, Refused> {
-    let octets: Vec<u8> = row.get(0)?;
+    let octets: Vec<u8> = value(row, 0)?;
     match Fix::read(alloc, octets.as_slice()) {
         Ok(fix) => Ok(fix),
         Err(FixError::Memory) => Err(Refused::Memory),
@@ -43,7 +43,7 @@ pub(crate) fn from<S: Alter>(
     work: &mut Transaction<'_, S>,
     place: i64,
 ) -> Result<Seq<Fix>, Refused> {
-    let found = work.query_all(FROM, params![place])?;
+    let found = all_rows(work, FROM, params![place])?;
     let mut fixes = Seq::new(alloc);
     for row in &found {
         fixes.push(fix_in(alloc, row)?)?;
@@ -57,6 +57,6 @@ pub(crate) fn add<S: Alter>(
     place: i64,
     fix: &Fix,
 ) -> Result<(), Refused> {
-    work.execute(ADD, params![place, fix.as_slice()])?;
+    change(work, ADD, params![place, fix.as_slice()])?;
     Ok(())
 }

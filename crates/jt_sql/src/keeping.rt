@@ -3,8 +3,9 @@
 ghost use Rattle.std.specs.Prelude.{◌<◌, ◌≤◌, ◌^◌, IfOk, IfSome};
 
 use crate::answers::Adding;
+use crate::asking::make;
 use crate::migration::migrate_all;
-use crate::opening::begun;
+use crate::opening::{begun, settled};
 use crate::refused::Refused;
 use crate::versions::version;
 use crate::{registrations, rows};
@@ -26,10 +27,7 @@ const MAKE: &str = "CREATE TABLE meta (version INTEGER); \
 // Makes the tables in a new file, migrates those of the earlier version, and refuses all others.
 fn prepare<S: Alter>(alloc: Global, work: &mut Transaction<'_, S>) -> Result<(), Refused> {
     match version(work)? {
-        None => {
-            work.execute_batch(MAKE)?;
-            Ok(())
-        }
+        None => { make(work, MAKE) }
         Some(VERSION) => Ok(()),
         Some(EARLIER) => migrate_all(alloc, work),
         Some(_) => Err(Refused::Failed),
@@ -53,9 +51,8 @@ pub(crate) fn registered<S: Alter>(
     phone: &Phone,
 ) -> Result<Option<Registered>, Refused> {
     let mut work = begin(alloc, connection)?;
-    let found = registrations::read(&mut work, phone.digits.as_slice())?;
-    work.commit()?;
-    Ok(found)
+    let found = registrations::read(&mut work, phone.digits.as_slice());
+    settled(work, found)
 }
 
 /// The phone of 2019 with the digits of the one that is registered with this plate.
@@ -65,9 +62,8 @@ pub(crate) fn plate_owner<S: Alter>(
     plate: &[u8],
 ) -> Result<Option<Phone>, Refused> {
     let mut work = begin(alloc, connection)?;
-    let owner = registrations::plate_owner(&mut work, plate)?;
-    work.commit()?;
-    Ok(owner)
+    let owner = registrations::plate_owner(&mut work, plate);
+    settled(work, owner)
 }
 
 /// The phone of 2019 with the digits of the one that is registered with this terminal id.
@@ -77,9 +73,8 @@ pub(crate) fn terminal_owner<S: Alter>(
     terminal: &[u8],
 ) -> Result<Option<Phone>, Refused> {
     let mut work = begin(alloc, connection)?;
-    let owner = registrations::terminal_owner(&mut work, terminal)?;
-    work.commit()?;
-    Ok(owner)
+    let owner = registrations::terminal_owner(&mut work, terminal);
+    settled(work, owner)
 }
 
 /// Registers the phone, or replaces its registration.
@@ -90,9 +85,8 @@ pub(crate) fn register<S: Alter>(
     registered: &Registered,
 ) -> Result<(), Refused> {
     let mut work = begin(alloc, connection)?;
-    registrations::set(&mut work, phone.digits.as_slice(), registered)?;
-    work.commit()?;
-    Ok(())
+    let done = registrations::set(&mut work, phone.digits.as_slice(), registered);
+    settled(work, done)
 }
 
 /// Removes the phone's registration, if there is one.
@@ -102,9 +96,8 @@ pub(crate) fn unregister<S: Alter>(
     phone: &Phone,
 ) -> Result<(), Refused> {
     let mut work = begin(alloc, connection)?;
-    registrations::remove(&mut work, phone.digits.as_slice())?;
-    work.commit()?;
-    Ok(())
+    let done = registrations::remove(&mut work, phone.digits.as_slice());
+    settled(work, done)
 }
 
 /// The number of the phone's last row.
@@ -116,9 +109,8 @@ pub(crate) fn last<S: Alter>(
     ensures { IfOk result (λ last. IfSome last (λ number. number < 2 ^ 47)) }
 {
     let mut work = begin(alloc, connection)?;
-    let last = rows::last(&mut work, phone.digits.as_slice())?;
-    work.commit()?;
-    Ok(last)
+    let last = rows::last(&mut work, phone.digits.as_slice());
+    settled(work, last)
 }
 
 /// The phone's row of this number.
@@ -129,9 +121,8 @@ pub(crate) fn row_at<S: Alter>(
     number: u64,
 ) -> Result<Option<Row>, Refused> {
     let mut work = begin(alloc, connection)?;
-    let row = rows::at(&mut work, phone.digits.as_slice(), number)?;
-    work.commit()?;
-    Ok(row)
+    let row = rows::at(&mut work, phone.digits.as_slice(), number);
+    settled(work, row)
 }
 
 /// The phone's row of the least number from this one on.
@@ -145,9 +136,8 @@ pub(crate) fn row_from<S: Alter>(
         IfSome found (λ row. (number ≤ row.number) × (row.number < 2 ^ 47))) }
 {
     let mut work = begin(alloc, connection)?;
-    let row = rows::from(&mut work, phone.digits.as_slice(), number)?;
-    work.commit()?;
-    Ok(row)
+    let row = rows::from(&mut work, phone.digits.as_slice(), number);
+    settled(work, row)
 }
 
 /// Puts a row at the end of the phone's.
@@ -158,7 +148,6 @@ pub(crate) fn append<S: Alter>(
     row: &Row,
 ) -> Result<Adding, Refused> {
     let mut work = begin(alloc, connection)?;
-    let adding = rows::append(&mut work, phone.digits.as_slice(), row)?;
-    work.commit()?;
-    Ok(adding)
+    let adding = rows::append(&mut work, phone.digits.as_slice(), row);
+    settled(work, adding)
 }

@@ -4,6 +4,7 @@ ghost use Rattle.std.specs.Prelude.{None, IsTrue};
 ghost use Rattle.jt_store.specs.Migrating.{AreAppended};
 ghost use Rattle.jt_store.specs.Tables.{MayAppend};
 
+use crate::asking::{all_rows, change, value};
 use crate::phones::phone_of;
 use crate::refused::{Refused, refused_by};
 use crate::{registrations, rows};
@@ -27,12 +28,12 @@ pub(crate) fn migrate_all<S: Alter>(
     alloc: Global,
     work: &mut Transaction<'_, S>,
 ) -> Result<(), Refused> {
-    let found = work.query_all(PHONES, &[])?;
+    let found = all_rows(work, PHONES, &[])?;
     for row in &found {
-        let octets: Vec<u8> = row.get(0)?;
+        let octets: Vec<u8> = value(row, 0)?;
         migrate_one(alloc, work, octets.as_slice())?;
     }
-    work.execute(SET_VERSION, &[])?;
+    change(work, SET_VERSION, &[])?;
     Ok(())
 }
 

@@ -1,5 +1,6 @@
 //! The places of a table's rows, which are 0, 1, 2 and so on. Each call is a part of a transaction.
 
+use crate::asking::value;
 use crate::refused::Refused;
 use sqlite::{Alter, Row, Transaction};
 
@@ -8,7 +9,7 @@ pub(crate) fn place_behind(last: Option<Row>) -> Result<i64, Refused> {
     let Some(row) = last else {
         return Ok(0);
     };
-    let place: i64 = row.get(0)?;
+    let place: i64 = value(&row, 0)?;
     match place.checked_add(1) {
         Some(behind) if behind > 0 => Ok(behind),
         _ => Err(Refused::Failed),
@@ -26,7 +27,7 @@ pub(crate) fn count_places<S: Alter>(
         let Some(row) = rows.next()? else {
             return Ok(place);
         };
-        let found: i64 = row.get(0)?;
+        let found: i64 = value(row, 0)?;
         if found != place {
             return Err(Refused::Failed);
         }

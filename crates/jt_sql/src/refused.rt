@@ -7,7 +7,7 @@ use std::alloc::{AllocError, AllocFailed};
 
 /// Why a call on the database gave up.
 #[derive(Clone, Copy, Debug, PartialEq, Eq)]
-pub(crate) enum Refused {
+pub enum Refused {
     /// The database refused, or what it holds is not what these stores write.
     Failed,
     /// An earlier fault of the disk has shut the connection.

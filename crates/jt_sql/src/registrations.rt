@@ -1,11 +1,11 @@
 //! The table of registrations. Each call is a part of a transaction.
 
-use crate::opening::found;
+use crate::asking::{change, one_row, value};
 use crate::phones::phone_of;
 use crate::refused::Refused;
 use jt_store::Registered;
 use jt_value::{Edition, Octets, Phone};
-use sqlite::{Alter, Transaction, params};
+use sqlite::{Alter, Row, Transaction, params};
 
 const READ: &str = "SELECT plate, terminal FROM registered WHERE phone = ?1";
 
@@ -23,13 +23,17 @@ pub(crate) fn read<S: Alter>(
     work: &mut Transaction<'_, S>,
     phone: &[u8],
 ) -> Result<Option<Registered>, Refused> {
-    let Some(row) = found(work.query_row(READ, params![phone]))? else {
+    let Some(row) = one_row(work, READ, params![phone])? else {
         return Ok(None);
     };
-    Ok(Some(Registered {
-        plate: Octets::from_vec(row.get(0)?),
-        terminal: Octets::from_vec(row.get(1)?),
-    }))
+    Ok(Some(registered_in(&row)?))
+}
+
+// The plate and the terminal id in the two columns.
+fn registered_in(row: &Row) -> Result<Registered, Refused> {
+    let plate = Octets::from_vec(value(row, 0)?);
+    let terminal = Octets::from_vec(value(row, 1)?);
+    Ok(Registered { plate, terminal })
 }
 
 // The phone of 2019 with the digits in the one row that is found, if one is.
@@ -38,10 +42,10 @@ fn owner<S: Alter>(
     sql: &str,
     name: &[u8],
 ) -> Result<Option<Phone>, Refused> {
-    let Some(row) = found(work.query_row(sql, params![name]))? else {
+    let Some(row) = one_row(work, sql, params![name])? else {
         return Ok(None);
     };
-    let digits: Vec<u8> = row.get(0)?;
+    let digits: Vec<u8> = value(&row, 0)?;
     Ok(Some(phone_of(Edition::E2019, digits.as_slice())?))
 }
 
@@ -69,12 +73,12 @@ pub(crate) fn set<S: Alter>(
 ) -> Result<(), Refused> {
     let plate = registered.plate.as_slice();
     let terminal = registered.terminal.as_slice();
-    work.execute(SET, params![phone, plate, terminal])?;
+    change(work, SET, params![phone, plate, terminal])?;
     Ok(())
 }
 
 /// Removes what is kept under a phone's octets, if there is anything.
 pub(crate) fn remove<S: Alter>(work: &mut Transaction<'_, S>, phone: &[u8]) -> Result<(), Refused> {
-    work.execute(REMOVE, params![phone])?;
+    change(work, REMOVE, params![phone])?;
     Ok(())
 }

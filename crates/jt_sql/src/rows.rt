@@ -3,7 +3,7 @@
 ghost use Rattle.std.specs.Prelude.{◌<◌, ◌≤◌, ◌^◌, IfOk, IfSome};
 
 use crate::answers::Adding;
-use crate::opening::found;
+use crate::asking::{all_rows, change, one_row, value};
 use crate::refused::Refused;
 use jt_store::Row;
 use jt_value::limits::ROW_LIMIT;
@@ -57,12 +57,12 @@ fn number_in(value: i64) -> Result<u64, Refused>
 fn row_in(row: &sqlite::Row) -> Result<Row, Refused>
     ensures { IfOk result (λ read. read.number < 2 ^ 47) }
 {
-    let number = number_in(row.get(0)?)?;
-    let id: u32 = row.get(1)?;
+    let number = number_in(value(row, 0)?)?;
+    let id: u32 = value(row, 1)?;
     let Ok(id) = u16::try_from(id) else {
         return Err(Refused::Failed);
     };
-    let body = Octets::from_vec(row.get(2)?);
+    let body = Octets::from_vec(value(row, 2)?);
     Ok(Row { number, id, body })
 }
 
@@ -73,10 +73,10 @@ pub(crate) fn last<S: Alter>(
 ) -> Result<Option<u64>, Refused>
     ensures { IfOk result (λ last. IfSome last (λ number. number < 2 ^ 47)) }
 {
-    let Some(row) = found(work.query_row(LAST, params![phone]))? else {
+    let Some(row) = one_row(work, LAST, params![phone])? else {
         return Ok(None);
     };
-    let number = number_in(row.get(0)?)?;
+    let number = number_in(value(&row, 0)?)?;
     Ok(Some(number))
 }
 
@@ -92,7 +92,7 @@ fn find<S: Alter>(
     let Ok(number) = i64::try_from(number) else {
         return Ok(None);
     };
-    let Some(row) = found(work.query_row(sql, params![phone, number]))? else {
+    let Some(row) = one_row(work, sql, params![phone, number])? else {
         return Ok(None);
     };
     let row = row_in(&row)?;
@@ -130,7 +130,7 @@ pub(crate) fn all<S: Alter>(
     work: &mut Transaction<'_, S>,
     phone: &[u8],
 ) -> Result<Seq<Row>, Refused> {
-    let found = work.query_all(ALL, params![phone])?;
+    let found = all_rows(work, ALL, params![phone])?;
     let mut rows = Seq::new(alloc);
     // Each row of the database goes as its own row is made, so that all are held once.
     for row in found {
@@ -141,7 +141,7 @@ pub(crate) fn all<S: Alter>(
 
 /// Removes all rows of a phone.
 pub(crate) fn remove<S: Alter>(work: &mut Transaction<'_, S>, phone: &[u8]) -> Result<(), Refused> {
-    work.execute(REMOVE, params![phone])?;
+    change(work, REMOVE, params![phone])?;
     Ok(())
 }
 
@@ -155,14 +155,14 @@ pub(crate) fn add<S: Alter>(
         return Err(Refused::Failed);
     };
     let body = row.body.as_slice();
-    work.execute(ADD, params![phone, number, i64::from(row.id), body])?;
+    change(work, ADD, params![phone, number, i64::from(row.id), body])?;
     Ok(())
 }
 
 // The key that is found, or 0 where there is no row.
 fn key<S: Alter>(work: &mut Transaction<'_, S>, sql: &str) -> Result<i64, Refused> {
-    match found(work.query_row(sql, &[]))? {
-        Some(row) => Ok(row.get(0)?),
+    match one_row(work, sql, &[])? {
+        Some(row) => value(&row, 0),
         None => Ok(0),
     }
 }
@@ -172,6 +172,14 @@ fn may_be_full<S: Alter>(work: &mut Transaction<'_, S>) -> Result<bool, Refused>
     let least = key(work, LEAST_KEY)?;
     let greatest = key(work, GREATEST_KEY)?;
     Ok(greatest.saturating_sub(least) >= KEYS)
+}
+
+// How many rows a phone has.
+fn count_of<S: Alter>(work: &mut Transaction<'_, S>, phone: &[u8]) -> Result<u64, Refused> {
+    match one_row(work, COUNT, params![phone])? {
+        Some(row) => value(&row, 0),
+        None => Err(Refused::Failed),
+    }
 }
 
 // Whether a phone has as many rows as it may have. The numbers of its rows differ, so they are counted only once the last
@@ -186,7 +194,7 @@ fn is_full<S: Alter>(
             if !may_be_full(work)? {
                 return Ok(false);
             }
-            let count: u64 = work.query_row(COUNT, params![phone])?.get(0)?;
+            let count = count_of(work, phone)?;
             Ok(count >= ROW_LIMIT)
         }
         _ => Ok(false),

@@ -1,5 +1,6 @@
 //! The one row of a vault's state. Each call is a part of a transaction.
 
+use crate::asking::{all_rows, change, value};
 use crate::refused::Refused;
 use jt_value::Octets;
 use sqlite::{Alter, Row, Transaction, params};
@@ -28,8 +29,8 @@ pub(crate) struct State {
 
 /// A serial that stands in a column.
 pub(crate) fn serial_in(row: &Row, column: usize) -> Result<u16, Refused> {
-    let value: u32 = row.get(column)?;
-    match u16::try_from(value) {
+    let number: u32 = value(row, column)?;
+    match u16::try_from(number) {
         Ok(serial) => Ok(serial),
         Err(_) => Err(Refused::Failed),
     }
@@ -37,7 +38,7 @@ pub(crate) fn serial_in(row: &Row, column: usize) -> Result<u16, Refused> {
 
 // The code in the last column.
 fn code_in(row: &Row) -> Result<Option<Octets>, Refused> {
-    let code: Option<Vec<u8>> = row.get(4)?;
+    let code: Option<Vec<u8>> = value(row, 4)?;
     match code {
         Some(octets) => Ok(Some(Octets::from_vec(octets))),
         None => Ok(None),
@@ -46,7 +47,7 @@ fn code_in(row: &Row) -> Result<Option<Octets>, Refused> {
 
 /// The state. A table with no state, or with two, is refused.
 pub(crate) fn read<S: Alter>(work: &mut Transaction<'_, S>) -> Result<State, Refused> {
-    let rows = work.query_all(READ, &[])?;
+    let rows = all_rows(work, READ, &[])?;
     match rows.as_slice() {
         [row] => state_in(row),
         _ => Err(Refused::Failed),
@@ -55,8 +56,8 @@ pub(crate) fn read<S: Alter>(work: &mut Transaction<'_, S>) -> Result<State, Ref
 
 // The state in the five columns.
 fn state_in(row: &Row) -> Result<State, Refused> {
-    let units_accepted = row.get(0)?;
-    let fixes_accepted = row.get(1)?;
+    let units_accepted = value(row, 0)?;
+    let fixes_accepted = value(row, 1)?;
     let mark = serial_in(row, 2)?;
     let next = serial_in(row, 3)?;
     let code = code_in(row)?;
@@ -80,7 +81,7 @@ fn changed_one(rows: usize) -> Result<(), Refused> {
 
 /// Sets the serial of the next unit.
 pub(crate) fn set_next<S: Alter>(work: &mut Transaction<'_, S>, next: u16) -> Result<(), Refused> {
-    changed_one(work.execute(SET_NEXT, params![i64::from(next)])?)
+    changed_one(change(work, SET_NEXT, params![i64::from(next)])?)
 }
 
 /// Sets how many units and fixes are accepted, and the serial of the last unit that is.
@@ -90,7 +91,7 @@ pub(crate) fn set_accepted<S: Alter>(
     fixes: i64,
     mark: u16,
 ) -> Result<(), Refused> {
-    changed_one(work.execute(SET_ACCEPTED, params![units, fixes, i64::from(mark)])?)
+    changed_one(change(work, SET_ACCEPTED, params![units, fixes, i64::from(mark)])?)
 }
 
 /// Sets the platform's code, or removes it.
@@ -98,5 +99,5 @@ pub(crate) fn set_code<S: Alter>(
     work: &mut Transaction<'_, S>,
     code: Option<&[u8]>,
 ) -> Result<(), Refused> {
-    changed_one(work.execute(SET_CODE, params![code])?)
+    changed_one(change(work, SET_CODE, params![code])?)
 }

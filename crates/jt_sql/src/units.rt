@@ -1,6 +1,6 @@
 //! The table of all units, at places from 0 on. Each call is a part of a transaction.
 
-use crate::opening::found;
+use crate::asking::{all_rows, change, one_row, value};
 use crate::places::{count_places, place_behind};
 use crate::refused::Refused;
 use crate::state::serial_in;
@@ -23,8 +23,8 @@ const ADD: &str = "INSERT INTO unit (place, serial, id, body, fixes) VALUES (?1,
 fn unit_in(row: &Row) -> Result<Unit, Refused> {
     let serial = serial_in(row, 0)?;
     let id = serial_in(row, 1)?;
-    let body = Octets::from_vec(row.get(2)?);
-    let count = row.get(3)?;
+    let body = Octets::from_vec(value(row, 2)?);
+    let count = value(row, 3)?;
     Ok(Unit {
         serial,
         id,
@@ -35,7 +35,7 @@ fn unit_in(row: &Row) -> Result<Unit, Refused> {
 
 /// How many units were formed.
 pub(crate) fn count<S: Alter>(work: &mut Transaction<'_, S>) -> Result<i64, Refused> {
-    let last = found(work.query_row(LAST, &[]))?;
+    let last = one_row(work, LAST, &[])?;
     place_behind(last)
 }
 
@@ -49,7 +49,7 @@ pub(crate) fn at<S: Alter>(
     work: &mut Transaction<'_, S>,
     place: i64,
 ) -> Result<Option<Unit>, Refused> {
-    let Some(row) = found(work.query_row(AT, params![place]))? else {
+    let Some(row) = one_row(work, AT, params![place])? else {
         return Ok(None);
     };
     let unit = unit_in(&row)?;
@@ -62,7 +62,7 @@ pub(crate) fn from<S: Alter>(
     work: &mut Transaction<'_, S>,
     place: i64,
 ) -> Result<Seq<Unit>, Refused> {
-    let found = work.query_all(FROM, params![place])?;
+    let found = all_rows(work, FROM, params![place])?;
     let mut units = Seq::new(alloc);
     for row in &found {
         units.push(unit_in(row)?)?;
@@ -78,7 +78,8 @@ pub(crate) fn add<S: Alter>(
 ) -> Result<(), Refused> {
     let serial = i64::from(unit.serial);
     let body = unit.body.as_slice();
-    work.execute(
+    change(
+        work,
         ADD,
         params![place, serial, i64::from(unit.id), body, unit.count],
     )?;

@@ -4,7 +4,8 @@ ghost use Rattle.std.specs.Prelude.{IfOk};
 ghost use Rattle.jt_store.specs.Vaults.{AreInOrder};
 
 use crate::answers::Adding;
-use crate::opening::begun;
+use crate::asking::make;
+use crate::opening::{begun, settled};
 use crate::order::{are_in_order, may_form};
 use crate::refused::Refused;
 use crate::state::{self, State};
@@ -29,10 +30,7 @@ const MAKE: &str = "CREATE TABLE meta (version INTEGER); \
 // Makes the tables in a new file, and refuses another version.
 fn prepare<S: Alter>(work: &mut Transaction<'_, S>) -> Result<(), Refused> {
     match version(work)? {
-        None => {
-            work.execute_batch(MAKE)?;
-            Ok(())
-        }
+        None => { make(work, MAKE) }
         Some(VERSION) => Ok(()),
         Some(_) => Err(Refused::Failed),
     }
@@ -124,9 +122,8 @@ pub(crate) fn load<S: Alter>(
     ensures { IfOk result (λ loaded. AreInOrder loaded.mark loaded.next loaded.units loaded.code) }
 {
     let mut work = begin(connection)?;
-    let loaded = load_within(alloc, &mut work)?;
-    work.commit()?;
-    Ok(loaded)
+    let loaded = load_within(alloc, &mut work);
+    settled(work, loaded)
 }
 
 // Whether as many fixes as may be are recorded and not accepted.
@@ -154,9 +151,8 @@ pub(crate) fn note_fix<S: Alter>(
     fix: &Fix,
 ) -> Result<Adding, Refused> {
     let mut work = begin(connection)?;
-    let adding = note_within(&mut work, fix)?;
-    work.commit()?;
-    Ok(adding)
+    let adding = note_within(&mut work, fix);
+    settled(work, adding)
 }
 
 // Puts a unit behind the others. A serial that would not be in order is refused.
@@ -173,9 +169,8 @@ fn form_within<S: Alter>(work: &mut Transaction<'_, S>, unit: &Unit) -> Result<(
 /// Puts a unit of the next fixes behind the others.
 pub(crate) fn form<S: Alter>(connection: &mut Connection<S>, unit: &Unit) -> Result<(), Refused> {
     let mut work = begin(connection)?;
-    form_within(&mut work, unit)?;
-    work.commit()?;
-    Ok(())
+    let done = form_within(&mut work, unit);
+    settled(work, done)
 }
 
 // Accepts the oldest unit that is not accepted. Where none is, the call is refused.
@@ -192,9 +187,8 @@ fn accept_within<S: Alter>(work: &mut Transaction<'_, S>) -> Result<(), Refused>
 /// Accepts the oldest unit that is not accepted.
 pub(crate) fn accept<S: Alter>(connection: &mut Connection<S>) -> Result<(), Refused> {
     let mut work = begin(connection)?;
-    accept_within(&mut work)?;
-    work.commit()?;
-    Ok(())
+    let done = accept_within(&mut work);
+    settled(work, done)
 }
 
 /// Sets the platform's code, or removes it.
@@ -203,7 +197,6 @@ pub(crate) fn set_code<S: Alter>(
     code: Option<&[u8]>,
 ) -> Result<(), Refused> {
     let mut work = begin(connection)?;
-    state::set_code(&mut work, code)?;
-    work.commit()?;
-    Ok(())
+    let done = state::set_code(&mut work, code);
+    settled(work, done)
 }

@@ -1,5 +1,6 @@
 //! The version of a file, which says what its tables mean.
 
+use crate::asking::value;
 use crate::refused::Refused;
 use sqlite::{Alter, Error, Row, Transaction};
 
@@ -19,7 +20,7 @@ pub(crate) fn version<S: Alter>(work: &mut Transaction<'_, S>) -> Result<Option<
 // The version in the only row. No row, and two, are refused.
 fn only_version(rows: &[Row]) -> Result<Option<i64>, Refused> {
     match rows {
-        [row] => Ok(Some(row.get(0)?)),
+        [row] => Ok(Some(value(row, 0)?)),
         _ => Err(Refused::Failed),
     }
 }

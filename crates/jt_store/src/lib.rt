@@ -17,6 +17,7 @@ mod rows;
 mod unit;
 mod vault;
 
+pub use calls::Calls;
 pub use digits::Digits;
 pub use error::StoreError;
 pub use keeper::Keeper;

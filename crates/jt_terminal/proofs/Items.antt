@@ -157,11 +157,11 @@ refused_brings some unplaced_are old new octets item refusal is gains = brings_g
 pub more_brings : HasItems → AreItems → (old new : Splitting) (octets : List ℕ) (item : StreamItem) → item ≡ answer.More → Gains old new octets (stream_items item new) → Brings old new octets []
 more_brings some unplaced_are old new octets item is gains = brings_gained some unplaced_are old new octets [] (subst (λ i. Gains old new octets (stream_items i new)) is gains)
 
-drop_front : {A : Type 0} (xs ys : List A) → drop (length xs) (xs ++ ys) ≡ ys
+pub drop_front : {A : Type 0} (xs ys : List A) → drop (length xs) (xs ++ ys) ≡ ys
 drop_front [] ys = refl
 drop_front (x ∷ xs) ys = drop_front xs ys
 
-none_left : {A : Type 0} (xs ys : List A) → xs ++ ys ≡ xs → ys ≡ []
+pub none_left : {A : Type 0} (xs ys : List A) → xs ++ ys ≡ xs → ys ≡ []
 none_left [] ys e = e
 none_left (x ∷ xs) ys e = none_left xs ys (let rest : xs ++ ys ≡ xs = cc in rest)
 
@@ -245,7 +245,7 @@ cut_frame old stream state held octets front back item parts brings cut tables l
 
 -- ---- octets behind octets
 
-brings_then : (old mid now : Splitting) (a b : List ℕ) (xs ys : List Unplaced) → AreOctets a → Brings old mid a xs → Brings mid now b ys → Brings old now (a ++ b) (xs ++ ys)
+pub brings_then : (old mid now : Splitting) (a b : List ℕ) (xs ys : List Unplaced) → AreOctets a → Brings old mid a xs → Brings mid now b ys → Brings old now (a ++ b) (xs ++ ys)
 brings_then old mid now a b xs ys are one two seen octets stands =
     let first = one seen octets stands in
     let next = two (seen ++ a) (AreOctets-append seen a octets are) first.1 in

@@ -15,8 +15,8 @@ mod Begins
 mod Naming
 mod Ending
 mod Idling
-mod Items
+pub mod Items
 mod Judging
 mod Lateness
-mod Looping
+pub mod Looping
 mod Staying

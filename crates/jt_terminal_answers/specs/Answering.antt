@@ -7,7 +7,8 @@ use Rattle.jt_regions.specs.declared.change.RegionChange.{RegionChange}
 use Rattle.jt_terminal_rule.specs.declared.state.State.{State}
 use Rattle.jt_terminal_rule.specs.Answers.{Answer, timing_after}
 use Rattle.jt_terminal_rule.specs.Rule.{changed_by}
-use Rattle.jt_terminal_rule.specs.Tables.{params_after, regions_after}
+use Rattle.jt_regions.specs.Changes.{regions_after}
+use Rattle.jt_terminal_rule.specs.Tables.{params_after}
 
 -- nothing was done of an answer, or times and tables are all the answer's and nothing else is another
 abbrev pub AllOrNothing : State → Answer → State → Type 0

@@ -7,7 +7,8 @@ use Rattle.jt_regions.specs.declared.change.RegionChange.TheVariants as change
 use Rattle.jt_regions.specs.Tables.{Regions}
 use Rattle.jt_codec.specs.declared.message.Message.{Message}
 use Rattle.jt_codec.specs.declared.message.Message.TheVariants as message
-use Rattle.jt_terminal_rule.specs.Tables.{params_after, regions_after}
+use Rattle.jt_regions.specs.Changes.{regions_after}
+use Rattle.jt_terminal_rule.specs.Tables.{params_after}
 
 -- what messages change: the parameters and the regions that a terminal holds
 pub record HeldTables : Type 0 where

@@ -1,7 +1,7 @@
 -- The answers to the platform are steps of the machine.
-use Rattle.std.proofs.Common.{ℕ, zero, suc, ◌≡◌, ◌≢◌, ◌<◌, ◌≤◌, ◌+◌, ◌-◌, ◌*◌, ◌/◌, ◌%◌, ◌^◌, min, List, [], ◌∷◌, ◌++◌, length, take, drop, Option, Some, None, Bool, true, false, cond, refl, ap, sym, ◌∙◌, subst, arith}
+use Rattle.std.proofs.Common.{ℕ, zero, suc, ◌≡◌, ◌≢◌, ◌<◌, ◌≤◌, ◌+◌, ◌-◌, ◌*◌, ◌/◌, ◌^◌, min, List, [], ◌∷◌, ◌++◌, length, drop, Option, Some, None, Bool, true, false, cond, refl, ap, sym, ◌∙◌, subst, arith}
 use Rattle.std.specs.Prelude.{nat_lt, nat_le, not, ◌==◌, ◌&&◌, slice_get, map}
-use Rattle.std.proofs.lemmas.Bool.{ltb-true, leb-true, leb-false}
+use Rattle.std.proofs.lemmas.Bool.{ltb-true, leb-true}
 use Rattle.std.proofs.lemmas.List.{length-take}
 use Rattle.jt_value.specs.Serials.{gap_of, serial_of}
 use Rattle.jt_header.specs.Content.{IsHeader}
@@ -11,20 +11,16 @@ use Rattle.jt_subpacket.specs.Parts.{Message as Packet, packet_header}
 use Rattle.jt_subpacket.specs.Steps.{front, packets_of, piece_of}
 use Rattle.jt_terminal_rule.specs.declared.settings.Settings.{Settings}
 use Rattle.jt_terminal_rule.specs.declared.state.State.{State}
-use Rattle.jt_terminal_rule.specs.declared.state.Timing.{Timing}
-use Rattle.jt_terminal_rule.specs.declared.state.Acknowledgement.{Acknowledgement}
-use Rattle.jt_terminal_rule.specs.declared.state.Phase.{Phase}
-use Rattle.jt_terminal_rule.specs.declared.state.Phase.TheVariants.{Down, Registering, Authenticating, Live}
+use Rattle.jt_terminal_rule.specs.declared.state.Phase.TheVariants.{Live}
 use Rattle.jt_terminal_rule.specs.Messages.{AreSettings, frame_of, header_of}
 use Rattle.jt_terminal_rule.specs.Answers.{Answer, id_of_answer}
 use Rattle.jt_terminal_rule.specs.declared.state.AnswerKind.{AnswerKind}
 use Rattle.jt_terminal_rule.specs.declared.state.AnswerKind.TheVariants.{General, Parameters, Position, Packets}
 use Rattle.jt_terminal_rule.specs.Steps.{Machine, MayRun, MaySay, auths_by, is_in, machine_run, machine_after}
 use Rattle.jt_terminal_rule.specs.Steps as step
-use Rattle.jt_terminal_rule.specs.Rule.{Ruled, after_packets, answer_packets, answers, changed_by, message_limit, says_answer, says_each, says_packets, sends, stays}
+use Rattle.jt_terminal_rule.specs.Rule.{after_packets, answer_packets, answers, changed_by, message_limit, says_answer, says_each, says_packets, sends}
 use Rattle.jt_terminal_rule.specs.Machines.{machine_of, as_steps, frames_by, held_after, MayCommit, IsInOrder, Agrees}
 use Rattle.jt_terminal_rule.specs.Law.{AreSteps}
-use Rattle.jt_terminal_rule.proofs.Composing.{may_append}
 use Rattle.jt_terminal_rule.proofs.Speaking.{at, good_header}
 
 -- ---- serials

@@ -18,7 +18,7 @@ use Rattle.jt_terminal_rule.specs.declared.state.Acknowledgement.{Acknowledgemen
 use Rattle.jt_terminal_rule.specs.Messages.{AreSettings, header_of, is_acceptance}
 use Rattle.jt_terminal_rule.specs.Steps.{Machine, hears, lets_in, auths_by}
 use Rattle.jt_terminal_rule.specs.declared.state.State.{State}
-use Rattle.jt_terminal_rule.specs.Rule.{Ruled, fill_window, window, answers, answer_if_live, Heard, Whole, Refused, Lacks, TooMany, on_hearing, on_response, on_unit_response, on_auth_response, on_register_reply, take_reply, on_message, response_in, names, say_heartbeat, heartbeat_if_silent, is_silent, on_beat, repeat_sending, steps_again, oldest_again, watch_and_fill, has_passed, repeat_wait, on_tick, gives_up, accept_oldest, and_then}
+use Rattle.jt_terminal_rule.specs.Rule.{Ruled, fill_window, window, answers, answer_if_live, Whole, Refused, Lacks, TooMany, on_response, on_unit_response, on_auth_response, on_register_reply, take_reply, on_message, response_in, names, say_heartbeat, is_silent, on_beat, repeat_sending, oldest_again, watch_and_fill, has_passed, repeat_wait, gives_up, accept_oldest, and_then}
 use Rattle.jt_terminal_rule.specs.Rule as rule
 use Rattle.jt_terminal_rule.specs.declared.state.Event.TheVariants as event
 use Rattle.jt_terminal_rule.specs.Machines.{machine_of, held_after, IsPhase, IsInOrder, Agrees}
@@ -29,16 +29,13 @@ use Rattle.jt_terminal_rule.proofs.Numbering.{length-numbered}
 use Rattle.jt_terminal_rule.proofs.Composing.{and_then_steps, stays_steps, behind_any}
 use Rattle.jt_terminal_rule.proofs.Filling.{window_steps, acceptance_steps, unit_written}
 use Rattle.jt_terminal_rule.proofs.Speaking.{at, keep_order, keep_agrees, opened_steps, authenticates_steps, beat_steps, lost_steps, denied_steps, sets_steps, say_register, say_auth, code_short}
+use Rattle.jt_terminal_rule.proofs.Lasting.{and_right}
 
 -- ---- tests
 
 and_left : (a b : Bool) → (a && b) ≡ true → a ≡ true
 and_left true b e = refl
 and_left false b e = absurd cc
-
-and_right : (a b : Bool) → (a && b) ≡ true → b ≡ true
-and_right true b e = e
-and_right false b e = absurd cc
 
 or_false : (b : Bool) → (b || false) ≡ b
 or_false true = refl

@@ -17,21 +17,14 @@ use Rattle.jt_terminal_rule.specs.declared.state.Phase.{Phase}
 use Rattle.jt_terminal_rule.specs.declared.state.Phase.TheVariants.{Down, Registering, Authenticating, Live}
 use Rattle.jt_terminal_rule.specs.declared.state.GiveUp.TheVariants.{Denied}
 use Rattle.jt_terminal_rule.specs.Forming.{batch_unit, fitting, position_unit, unit_of}
-use Rattle.jt_terminal_rule.specs.Messages.{frame_of, header_of, is_acceptance}
-use Rattle.jt_terminal_rule.specs.Rule.{Step, Ruled, accept_oldest, and_then, on_unit_response, answers, answer_if_live, on_auth_response, store_code, fill, fill_window, forget_code, form_unit, gives_up, is_registered, names, send_next, one_sent, or_stays, on_message, on_register_reply, take_reply, on_response, sends, send_unit, stays, window}
+use Rattle.jt_terminal_rule.specs.Messages.{is_acceptance}
+use Rattle.jt_terminal_rule.specs.Rule.{Ruled, accept_oldest, and_then, on_unit_response, answers, answer_if_live, on_auth_response, store_code, fill, fill_window, forget_code, form_unit, gives_up, is_registered, names, send_next, one_sent, or_stays, on_register_reply, take_reply, on_response, sends, send_unit, stays, window}
 use Rattle.jt_terminal_rule.specs.Rule as rule
 use Rattle.jt_terminal_rule.specs.Unsaid.{EachFrameIsOneLess, frames_in, unsaid, unsaid_in, unsent}
 use Rattle.jt_terminal_rule.specs.Answers.{Answer, answer_to, only_says}
 use Rattle.jt_terminal_rule.proofs.Answering.{answers_lists, answers_phase, answers_sent}
 use Rattle.jt_terminal_rule.proofs.Speaking.{at}
-
-sends-append : (settings : Settings) (a b : List Step) → sends settings (a ++ b) ≡ sends settings a ++ sends settings b
-sends-append settings [] b = refl
-sends-append settings (rule.Sends older unit ∷ a) b = ap (λ (fs : List (List ℕ)). frame_of (header_of settings.phone unit.id unit.serial) unit.body ∷ fs) (sends-append settings a b)
-sends-append settings (rule.Says h body ∷ a) b = ap (λ (fs : List (List ℕ)). frame_of h body ∷ fs) (sends-append settings a b)
-sends-append settings (rule.Changes change ∷ a) b = sends-append settings a b
-sends-append settings (rule.Opens ∷ a) b = sends-append settings a b
-sends-append settings (rule.Loses ∷ a) b = sends-append settings a b
+use Rattle.jt_terminal_rule.proofs.Composing.{sends_append}
 
 -- ---- the window
 
@@ -91,7 +84,7 @@ module _ (settings : Settings) where
           let more = rest r.state one.within in
           let first = one.less in
           let then_less = more.less in
-          let both = ap (λ (fs : List (List ℕ)). length fs) (sends-append settings r.steps (fill n r.state).steps) ∙ length-append (sends settings r.steps) (sends settings (fill n r.state).steps) in
+          let both = ap (λ (fs : List (List ℕ)). length fs) (sends_append settings r.steps (fill n r.state).steps) ∙ length-append (sends settings r.steps) (sends settings (fill n r.state).steps) in
           record { less = omega (arith, both, first, then_less); within = more.within }
 
   -- ---- phases
@@ -220,7 +213,7 @@ module _ (settings : Settings) where
       let units = ap (λ (us : List OneUnit). length us) lists.0 in
       let waiting = ap (λ (fs : List (List ℕ)). length fs) lists.1 in
       let rest = fills_less r.state serial (answers_phase (at s (Live serial)) a) (omega (arith, sent, units, le)) in
-      let both = ap (λ (fs : List (List ℕ)). length fs) (sends-append settings r.steps (fill_window r.state).steps) ∙ length-append (sends settings r.steps) (sends settings (fill_window r.state).steps) in
+      let both = ap (λ (fs : List (List ℕ)). length fs) (sends_append settings r.steps (fill_window r.state).steps) ∙ length-append (sends settings r.steps) (sends settings (fill_window r.state).steps) in
       omega (arith, both, rest, sent, units, waiting)
 
 -- ---- answers

@@ -19,7 +19,8 @@ use Rattle.jt_terminal_rule.specs.declared.state.AnswerKind.{AnswerKind}
 use Rattle.jt_terminal_rule.specs.declared.state.AnswerKind.TheVariants.{General, Parameters, Position, Packets}
 use Rattle.jt_value.specs.declared.limits.TheConstants.{BODY_LIMIT}
 use Rattle.jt_value.specs.declared.ids.TheConstants.{PARAMS, POSITION_REPLY, TERMINAL_ACK, TERMINAL_RESEND}
-use Rattle.jt_terminal_rule.specs.Tables.{params_after, regions_after}
+use Rattle.jt_regions.specs.Changes.{regions_after}
+use Rattle.jt_terminal_rule.specs.Tables.{params_after}
 
 -- the id of a message that a terminal answers with
 abbrev pub id_of_answer : AnswerKind → ℕ

@@ -2,6 +2,7 @@ pub mod Forming
 pub mod Law
 pub mod Machines
 pub mod Messages
+pub mod PlainSettings
 pub mod Rule
 pub mod Steps
 pub mod Tails

@@ -28,11 +28,12 @@ use Rattle.jt_terminal_rule.specs.Forming.{unit_of}
 use Rattle.jt_terminal_rule.specs.declared.state.Acknowledgement.{Acknowledgement}
 use Rattle.jt_terminal_rule.specs.Messages.{is_acceptance, header_of, frame_of, register_octets, auth_octets}
 use Rattle.jt_params.specs.declared.param.Param.{Param}
-use Rattle.jt_params.specs.Tables.{Table, param_of}
+use Rattle.jt_params.specs.Tables.{param_of}
 use Rattle.jt_params.specs.declared.param.ParamValue.TheVariants.{Dword}
 use Rattle.jt_subpacket.specs.Parts.{Message as Packet}
 use Rattle.jt_subpacket.specs.Steps.{packets_of}
-use Rattle.jt_terminal_rule.specs.Tables.{set_params, no_regions}
+use Rattle.jt_regions.specs.Changes.{no_regions}
+use Rattle.jt_terminal_rule.specs.Tables.{set_params}
 use Rattle.jt_terminal_rule.specs.declared.state.AnswerKind.{AnswerKind}
 use Rattle.jt_terminal_rule.specs.Answers.{Answer, id_of_answer, answer_to, answer_to_refused, answer_to_lack}
 

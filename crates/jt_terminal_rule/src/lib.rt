@@ -3,6 +3,7 @@
 #![tactic(auto)]
 
 mod laws;
+mod plain_settings;
 mod queue;
 mod saying;
 mod settings;
@@ -12,6 +13,7 @@ mod waits;
 mod window;
 
 pub use laws::{law_examples, law_forming, law_rule, law_unsaid, law_waits};
+pub use plain_settings::settings_for;
 pub use queue::Queue;
 pub use saying::{
     frame, header, heartbeat_if_silent, lose, now_in, on_open, repeat_sending, say_auth,

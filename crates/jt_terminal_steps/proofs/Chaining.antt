@@ -7,7 +7,6 @@ use Rattle.jt_terminal_rule.specs.declared.state.Phase.{Phase}
 use Rattle.jt_terminal_rule.specs.declared.state.Phase.TheVariants.{Down, Registering, Authenticating, Live}
 use Rattle.jt_terminal_rule.specs.declared.settings.Settings.{Settings}
 use Rattle.jt_terminal_rule.specs.declared.state.GiveUp.{GiveUp}
-use Rattle.jt_terminal_rule.specs.Messages.{frame_of, header_of}
 use Rattle.jt_terminal_rule.specs.declared.state.State.{State}
 use Rattle.jt_terminal_rule.specs.Rule.{Step, Ruled, after_acceptance, and_then, fill, fill_window, send_next, or_stays, stays, sends}
 use Rattle.jt_subpacket.specs.Parts.{Message as Packet}
@@ -15,15 +14,8 @@ use Rattle.jt_terminal_rule.specs.declared.state.AnswerKind.{AnswerKind}
 use Rattle.jt_terminal_rule.specs.Answers.{Answer}
 use Rattle.jt_terminal_rule.specs.Machines.{held_after}
 use Rattle.jt_terminal_rule.specs.Rule as rule
+use Rattle.jt_terminal_rule.proofs.Composing.{sends_append}
 use Rattle.jt_terminal_steps.specs.Running.{CutShort, MayBeCut, Ran, Went, accept_first, holds_after, took}
-
-pub sends-append : (settings : Settings) (a b : List Step) → sends settings (a ++ b) ≡ sends settings a ++ sends settings b
-sends-append settings [] b = refl
-sends-append settings (rule.Sends older unit ∷ a) b = ap (λ (fs : List (List ℕ)). frame_of (header_of settings.phone unit.id unit.serial) unit.body ∷ fs) (sends-append settings a b)
-sends-append settings (rule.Says h body ∷ a) b = ap (λ (fs : List (List ℕ)). frame_of h body ∷ fs) (sends-append settings a b)
-sends-append settings (rule.Changes change ∷ a) b = sends-append settings a b
-sends-append settings (rule.Opens ∷ a) b = sends-append settings a b
-sends-append settings (rule.Loses ∷ a) b = sends-append settings a b
 
 pub holds_after-append : (a b : List Step) (held : Option Held) → holds_after (a ++ b) held ≡ holds_after b (holds_after a held)
 holds_after-append [] b held = refl
@@ -56,7 +48,7 @@ ran_behind : (settings : Settings) (steps : List Step) (r : Ruled) (state : Stat
 ran_behind settings steps r state old mid now out out_mid out_now end held sent ran = record {
   is_state = ran.is_state;
   held = ran.held ∙ (ap (holds_after r.steps) held ∙ sym (holds_after-append steps r.steps old));
-  out = ran.out ∙ (ap (λ (o : List (List ℕ)). o ++ sends settings r.steps) sent ∙ (append_assoc out (sends settings steps) (sends settings r.steps) ∙ ap (λ (o : List (List ℕ)). out ++ o) (sym (sends-append settings steps r.steps))));
+  out = ran.out ∙ (ap (λ (o : List (List ℕ)). o ++ sends settings r.steps) sent ∙ (append_assoc out (sends settings steps) (sends settings r.steps) ∙ ap (λ (o : List (List ℕ)). out ++ o) (sym (sends_append settings steps r.steps))));
   is_end = ran.is_end;
 }
 

@@ -1,4 +1,3 @@
 pub mod HexPieces
 pub mod Lines
 pub mod NamedValues
-pub mod TimeLaws

@@ -2,8 +2,7 @@
 
 ghost use Rattle.std.specs.Prelude.{◌≡◌, ◌/◌, ◌%◌, ◌&&◌, nat_le, pos};
 ghost use Rattle.jiff.specs.Words.{days_in_month};
-ghost use Rattle.jt_position.specs.Moments.{decimal_of};
-ghost use Rattle.jt_text.specs.Times.{are_decimal, is_date, is_time, names_moment};
+ghost use Rattle.jt_position.specs.Moments.{are_decimal, decimal_of, is_date, is_time, names_moment};
 
 // Both digits are at most 9.
 #[inline(always)]
@@ -62,7 +61,7 @@ fn is_time(hour: u8, minute: u8, second: u8) -> bool
 }
 
 // Whether the time names a moment.
-#[tactic(auto, unfolding(crate::specs::Times::names_moment))]
+#[tactic(auto, unfolding(jt_position::specs::Moments::names_moment))]
 pub(crate) fn names_moment(time: &[u8; 6]) -> bool
     ensures { result ≡ names_moment time.now }
 {

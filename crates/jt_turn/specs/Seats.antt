@@ -1,4 +1,5 @@
--- What a seat of the table keeps for a pass, before, in and after an act. For the proofs; the model of a pass cites it.
+-- What a seat of the table keeps for a pass, before, in and after an act. For the proofs, but for `told`, which is to be believed, with
+-- `shown` and `known_or`: it says what a pass shows.
 use Rattle.std.specs.Prelude.{◌≡◌, ◌≤◌, ◌+◌, ◌%◌, ◌^◌, ◌++◌, ◌∷◌, ◌==◌, if◌then◌else◌, ℕ, Bool, true, false, List, [], Option, Some, None, IfSome}
 use mathlib.Core.List.{IsPrefix}
 use Rattle.jt_turn.specs.declared.entry.Entry.{Entry}

@@ -13,6 +13,7 @@ use Rattle.jt_play.specs.declared.error.WorldError.{WorldError}
 use Rattle.jt_play.specs.declared.error.WorldError.TheVariants as refused
 use Rattle.jt_play.specs.Playing.{Play, entries_between, finds_full, is_opened, names_no_line, play_after}
 use Rattle.jt_play.specs.Scripts.{IsScripted, Names, Scene, settings_in, totals_of}
+use Rattle.jt_play.proofs.Scenes.{names_it}
 use Rattle.jt_script.specs.declared.world_event.WorldEvent.{WorldEvent}
 use Rattle.jt_script.specs.declared.world_event.WorldEvent.TheVariants as line
 use Rattle.jt_script.specs.declared.reading.EventLine.{EventLine}
@@ -34,7 +35,7 @@ use Rattle.jt_world.proofs.Editions.{scene_is}
 
 -- ---- which line of communication an event names
 
-named : (w : World) (e : WorldEvent) → names_no_line w e ≡ true → (l : ℕ) × Names e l × (is_opened w l ≡ false)
+pub named : (w : World) (e : WorldEvent) → names_no_line w e ≡ true → (l : ℕ) × Names e l × (is_opened w l ≡ false)
 named w (line.Up number count) e = (number, refl, shut (is_opened w number) e)
   where
     shut : (b : Bool) → not b ≡ true → b ≡ false
@@ -56,21 +57,6 @@ named w line.Lost e = absurd cc
 named w line.RestartTerminal e = absurd cc
 named w line.RestartPlatform e = absurd cc
 named w (line.RestartAs edition) e = absurd cc
-
-names_it : (w : World) (e : WorldEvent) (l : ℕ) → Names e l → is_opened w l ≡ false → names_no_line w e ≡ true
-names_it w (line.Up number count) l named e = ap not (ap (is_opened w) named ∙ e)
-names_it w (line.Cut number) l named e = ap not (ap (is_opened w) named ∙ e)
-names_it w (line.Fix latitude) l named e = absurd named
-names_it w (line.Raw fix) l named e = absurd named
-names_it w line.Open l named e = absurd named
-names_it w (line.Down count) l named e = absurd named
-names_it w (line.Tick by) l named e = absurd named
-names_it w (line.Beat n) l named e = absurd named
-names_it w line.Run l named e = absurd named
-names_it w line.Lost l named e = absurd named
-names_it w line.RestartTerminal l named e = absurd named
-names_it w line.RestartPlatform l named e = absurd named
-names_it w (line.RestartAs edition) l named e = absurd named
 
 -- what a step says of the line that is named
 abbrev pub TellsLine : {T : Type 0} → World → WorldEvent → Result T WorldError → Type 0

@@ -7,6 +7,7 @@ use Rattle.std.proofs.lemmas.Str.Parse.{digit_from_value}
 use Rattle.jt_input.proofs.Lacking.{Lacks-append, lacks_all}
 use Rattle.jt_value.specs.declared.limits.TheConstants.{FIX_LIMIT}
 use Rattle.jt_input.specs.Text.{AreLines, Cuts, IsLine, Lacks, lines_of}
+use Rattle.jt_input.proofs.Lines.{AreLines-append}
 use Rattle.jt_play.specs.Playing.{Play, finds_full, names_no_line, play_after}
 use Rattle.jt_play.specs.Scripts.{settings_in}
 use Rattle.jt_script.specs.EventLines.{meaning}
@@ -47,10 +48,6 @@ made_last count = ends_from first 1 (make_lines count)
 
 -- ---- the lines of the script that is made
 
-lines_before : (some more : List (List ℕ)) → AreLines some → AreLines more → AreLines (some ++ more)
-lines_before [] more each others = others
-lines_before (line ∷ some) more each others = (each.0, lines_before some more each.1 others)
-
 digits_lack : (ds : List ℕ) → AllDigits 10 ds → Lacks 10 ds
 digits_lack [] d = tt
 digits_lack (c ∷ cs) d = ((λ e. absurd (omega (arith, digit_from_value c d.0, e))), digits_lack cs d.1)
@@ -90,13 +87,13 @@ newest_small RestartPlatform newest k small = omega (arith, small)
 rounds_lack : (k left newest : ℕ) → k + left ≤ 2 ^ 32 → newest ≤ k + 1 → AreLines (rounds_from k left newest)
 rounds_lack k zero newest few small = tt
 rounds_lack k (suc left) newest few small =
-    lines_before (round_lines k newest) (rounds_from (k + 1) left (newest_after (round_end k) newest))
+    AreLines-append (round_lines k newest) (rounds_from (k + 1) left (newest_after (round_end k) newest))
     (fix_lacks k (omega (arith, few)), (lacks_all 10 tick_line refl, (up_lacks newest k (omega (arith, few, small)), (down_lacks k, ends_lack (round_end k)))))
     (rounds_lack (k + 1) left (newest_after (round_end k) newest) (omega (arith, few)) (newest_small (round_end k) newest k small))
 
 lines_made : (count : ℕ) → count < 2 ^ 32 → AreLines (make_lines count)
 lines_made count few =
-    (open_lacks, lines_before (rounds_from 0 count 1) (open_line ∷ run_line ∷ []) (rounds_lack 0 count 1 (omega (arith, few)) (omega arith)) (open_lacks, (lacks_all 10 run_line refl, tt)))
+    (open_lacks, AreLines-append (rounds_from 0 count 1) (open_line ∷ run_line ∷ []) (rounds_lack 0 count 1 (omega (arith, few)) (omega arith)) (open_lacks, (lacks_all 10 run_line refl, tt)))
 
 pub script_lines : ((text rest begun : List ℕ) (lines : List (List ℕ)) → Cuts text lines begun → lines_of (text ++ rest) ≡ lines ++ lines_of (begun ++ rest))
     → (count : ℕ) → count < 2 ^ 32 → lines_of (make_script count) ≡ make_lines count

@@ -7,7 +7,7 @@
 -- (Made), where a relation stands of the world, the lines to come and the whole rehearsal (Stands).
 
 mod Editions
-mod Heard
+pub mod Heard
 mod Rehearsals
 mod Made
 mod Lasts

@@ -12,7 +12,7 @@ use Rattle.jt_play.specs.Laws.{first_play}
 use Rattle.jt_play.specs.Playing.{Play, entries_between, finds_full, names_no_line, play_after}
 use Rattle.jt_play.specs.Scripts.{settings_in, totals_of}
 use Rattle.jt_terminal_rule.specs.declared.settings.Settings.{Settings}
-use Rattle.jt_report_command.specs.Settings.{settings_of}
+use Rattle.jt_terminal_rule.specs.PlainSettings.{settings_of}
 use Rattle.jt_script.specs.declared.reading.EventLine.{EventLine}
 use Rattle.jt_script.specs.declared.reading.EventLine.TheVariants.{Passed, Event, Bad}
 use Rattle.jt_script.specs.EventLines.{meaning}

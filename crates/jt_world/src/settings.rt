@@ -7,8 +7,7 @@ ghost use Rattle.jt_world.specs.Rehearsal.{the_identity, the_phone, the_plate, t
 
 use jt_platform::Fleet;
 use jt_play::Identity;
-use jt_report_command::settings_for;
-use jt_terminal_rule::Settings;
+use jt_terminal_rule::{Settings, settings_for};
 use jt_value::{Edition, Memory, Octets, Phone, Seq};
 use std::alloc::Global;
 

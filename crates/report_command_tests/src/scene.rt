@@ -3,7 +3,7 @@
 ghost use Rattle.std.specs.Prelude.{IfOk, IfSome};
 ghost use Rattle.jt_outside.specs.ScriptLink.{IsUntouched};
 ghost use Rattle.jt_report_command.specs.Telling.{values_in_words};
-ghost use Rattle.jt_report_command.specs.Settings.{AreSpoken};
+ghost use Rattle.jt_report_command.specs.ReportWords.{AreSpoken};
 
 use jt_input::Status;
 use jt_outside::{MemSink, MemSource, ScriptClock, ScriptDial, ScriptLink};

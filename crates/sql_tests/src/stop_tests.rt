@@ -2,10 +2,10 @@ use crate::stopped_files::{
     Stopping, Stops, files_of, limits, open_new, open_synced, open_written,
 };
 use crate::{keeper_calls, vault_calls};
-use jt_sql::{AdoptedKeeper, AdoptedVault, SqlKeeper, SqlVault};
-use jt_store::{MemKeeper, MemVault};
+use jt_sql::{SqlKeeper, SqlVault};
+use jt_store::{Keeper, MemKeeper, MemVault, Vault};
 use jt_value::{Edition, Phone, Seq};
-use sqlite::{Connection, FileStore, Files};
+use sqlite::{Alter, Connection, Files};
 use std::alloc::Global;
 use std::test::Fail;
 
@@ -41,12 +41,8 @@ const HELD: [vault_calls::Call; 5] = [
 
 const HELD_LOOKS: [vault_calls::Call; 2] = [vault_calls::Call::Load, vault_calls::Call::Oldest];
 
-type Keeping = AdoptedKeeper<Connection<FileStore<Stopping>>>;
-
-type Holding = AdoptedVault<Connection<FileStore<Stopping>>>;
-
 // Makes the calls up to the first that is refused, and counts those before it.
-fn keep(alloc: Global, keeper: &mut Keeping) -> usize {
+fn keep<K: Keeper>(alloc: Global, keeper: &mut K) -> usize {
     for (done, call) in KEPT.iter().enumerate() {
         if let keeper_calls::Said::Refused(_) = keeper_calls::answer(alloc, keeper, *call) {
             return done;
@@ -55,7 +51,7 @@ fn keep(alloc: Global, keeper: &mut Keeping) -> usize {
     KEPT.len()
 }
 
-fn hold(alloc: Global, vault: &mut Holding) -> usize {
+fn hold<V: Vault>(alloc: Global, vault: &mut V) -> usize {
     for (done, call) in HELD.iter().enumerate() {
         if let vault_calls::Said::Refused(_) = vault_calls::answer(alloc, vault, *call) {
             return done;
@@ -82,24 +78,34 @@ fn held(alloc: Global, count: usize) -> MemVault {
 }
 
 // Whether the keeper has what so many of the calls leave.
-fn keeps(alloc: Global, keeper: &mut Keeping, count: usize) -> bool {
+fn keeps<K: Keeper>(alloc: Global, keeper: &mut K, count: usize) -> bool {
     let mut wanted = kept(alloc, count);
+    let is_same = keep_the_same(alloc, keeper, &mut wanted);
+    drop(wanted);
+    is_same
+}
+
+// Whether two keepers answer the same.
+fn keep_the_same<K: Keeper, L: Keeper>(alloc: Global, keeper: &mut K, wanted: &mut L) -> bool {
     for call in KEPT_LOOKS {
-        if keeper_calls::answer(alloc, keeper, call)
-            != keeper_calls::answer(alloc, &mut wanted, call)
-        {
+        if keeper_calls::answer(alloc, keeper, call) != keeper_calls::answer(alloc, wanted, call) {
             return false;
         }
     }
     true
 }
 
-fn holds(alloc: Global, vault: &mut Holding, count: usize) -> bool {
+fn holds<V: Vault>(alloc: Global, vault: &mut V, count: usize) -> bool {
     let mut wanted = held(alloc, count);
+    let is_same = hold_the_same(alloc, vault, &mut wanted);
+    drop(wanted);
+    is_same
+}
+
+// Whether two vaults answer the same.
+fn hold_the_same<V: Vault, W: Vault>(alloc: Global, vault: &mut V, wanted: &mut W) -> bool {
     for call in HELD_LOOKS {
-        if vault_calls::answer(alloc, vault, call)
-            != vault_calls::answer(alloc, &mut wanted, call)
-        {
+        if vault_calls::answer(alloc, vault, call) != vault_calls::answer(alloc, wanted, call) {
             return false;
         }
     }
@@ -130,28 +136,42 @@ fn hold_in(alloc: Global, log_calls: u64, db_calls: u64) -> (usize, Files<Stoppi
 }
 
 // Whether a keeper over the connection has what so many calls leave, or those and one more.
-fn keeps_some(
+fn keeps_some<S: Alter + Drop>(
     alloc: Global,
-    connection: Option<Connection<FileStore<Stopping>>>,
+    connection: Option<Connection<S>>,
     done: usize,
 ) -> bool {
-    let Some(connection) = connection else {
-        return false;
-    };
-    let mut keeper = SqlKeeper::over(connection);
-    keeps(alloc, &mut keeper, done) || keeps(alloc, &mut keeper, done.saturating_add(1))
+    match connection {
+        Some(connection) => keeps_over(alloc, connection, done),
+        None => false,
+    }
 }
 
-fn holds_some(
+fn keeps_over<S: Alter + Drop>(alloc: Global, connection: Connection<S>, done: usize) -> bool {
+    let mut keeper = SqlKeeper::over(connection);
+    let is_kept = keeps(alloc, &mut keeper, done)
+        || keeps(alloc, &mut keeper, done.saturating_add(1));
+    drop(keeper);
+    is_kept
+}
+
+fn holds_some<S: Alter + Drop>(
     alloc: Global,
-    connection: Option<Connection<FileStore<Stopping>>>,
+    connection: Option<Connection<S>>,
     done: usize,
 ) -> bool {
-    let Some(connection) = connection else {
-        return false;
-    };
+    match connection {
+        Some(connection) => holds_over(alloc, connection, done),
+        None => false,
+    }
+}
+
+fn holds_over<S: Alter + Drop>(alloc: Global, connection: Connection<S>, done: usize) -> bool {
     let mut vault = SqlVault::over(connection);
-    holds(alloc, &mut vault, done) || holds(alloc, &mut vault, done.saturating_add(1))
+    let is_kept = holds(alloc, &mut vault, done)
+        || holds(alloc, &mut vault, done.saturating_add(1));
+    drop(vault);
+    is_kept
 }
 
 // Whether the files, opened again after a stop of the process and after one of the machine, have what the calls left that were

@@ -3,7 +3,8 @@ use Rattle.jt_terminal_steps.proofs.Chaining.{any_err}
 use Rattle.jt_order_terminal.specs.declared.fault.OrderFault.TheVariants as faults
 use Rattle.jt_order_terminal.specs.Feeding.{HasFed, scene}
 use Rattle.jt_order_terminal.proofs.Causes.{failed_on, steady_at_first, steady_on}
-use Rattle.jt_order_terminal.proofs.Doing.{nothing_done, params_on, same_on, same_params, same_state}
+use Rattle.jt_terminal.proofs.Looping.{same_on}
+use Rattle.jt_order_terminal.proofs.Doing.{nothing_done, params_on, same_params, same_state}
 use Rattle.jt_order_terminal.proofs.Items.{cut_more, fed_more, fed_nothing, front_given_up, front_whole}
 use Rattle.jt_order_terminal.proofs.hearing.hear.Goals as goal
 

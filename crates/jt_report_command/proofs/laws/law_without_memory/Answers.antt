@@ -1,5 +1,5 @@
 use Rattle.jt_terminal_steps.specs.Running.{IsStarted}
-use Rattle.jt_report_command.specs.Settings.{settings_of}
+use Rattle.jt_terminal_rule.specs.PlainSettings.{settings_of}
 use Rattle.jt_report_command.proofs.Runs.{runs_none}
 use Rattle.jt_report_command.proofs.laws.law_without_memory.Goals as goal
 

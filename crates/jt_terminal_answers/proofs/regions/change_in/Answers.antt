@@ -1,5 +1,5 @@
 use Rattle.std.proofs.Common.{Ok}
-use Rattle.jt_terminal_rule.proofs.Tabling.{change_says}
+use Rattle.jt_regions.proofs.Changing.{change_says}
 use Rattle.jt_terminal_answers.proofs.regions.change_in.Goals as goal
 
 pub returns-in-Ok-clause-ok : goal.returns-in-Ok-clause-ok

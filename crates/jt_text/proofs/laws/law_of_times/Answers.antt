@@ -1,4 +1,4 @@
-use Rattle.jt_text.proofs.TimeLaws.{names}
+use Rattle.jt_position.proofs.MomentLaws.{names}
 use Rattle.jt_text.proofs.laws.law_of_times.Goals as goal
 
 pub returns : goal.returns

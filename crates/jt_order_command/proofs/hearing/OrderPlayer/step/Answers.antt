@@ -2,12 +2,12 @@ use Rattle.std.proofs.Common.{subst}
 use Rattle.jt_order_octets.specs.Reaching.{Reached}
 use Rattle.jt_order_play.specs.Scripts.{OrderScene}
 use Rattle.jt_order_command.specs.Hearing.{Steps}
-use Rattle.jt_order_command.proofs.Runs.{still_reached}
+use Rattle.jt_order_play.proofs.Composing.{reached_on}
 use Rattle.jt_order_command.proofs.hearing.OrderPlayer.step.Goals as goal
 
 pub returns-clause-reached : goal.returns-clause-reached
 returns-clause-reached c =
-    subst (λ (old : OrderScene). Reached old.play.world → Reached c.step.new.self.play.world) c.self.view_is (still_reached _ _ c.step.ensures.leads)
+    subst (λ (old : OrderScene). Reached old.play.world → Reached c.step.new.self.play.world) c.self.view_is (reached_on _ _ c.step.ensures.leads)
 
 pub returns-clause-steps : goal.returns-clause-steps
 returns-clause-steps c =

@@ -1,6 +1,7 @@
 use Rattle.std.proofs.Common.{◌≡◌, List, ℕ, ◌++◌, true, append_assoc, sym, ◌∙◌}
 use Rattle.std.specs.Prelude.{codes}
-use Rattle.jt_text.specs.Times.{digits_at, names_moment, time_text}
+use Rattle.jt_position.specs.Moments.{names_moment}
+use Rattle.jt_text.specs.Times.{digits_at, time_text}
 use Rattle.jt_text.proofs.fields.position.put_time.Goals as goal
 
 -- the text of a time that names a moment, in front of another

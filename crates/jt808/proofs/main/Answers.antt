@@ -1,8 +1,0 @@
-use denote.Exit.{no}
-use denote.Param.Send.{arg_send, param_send}
-use Rattle.jt_sql.proofs.Crosses.{keeper_send}
-use Rattle.jt808.proofs.main.Goals as goal
-
--- src/main.rt:77:13
-pub run-requires-send-P : goal.run-requires-send-P
-run-requires-send-P g c κs = param_send _ _ (arg_send _ no _ keeper_send)

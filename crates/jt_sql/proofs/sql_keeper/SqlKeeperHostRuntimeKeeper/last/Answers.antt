@@ -1,8 +1,0 @@
-use Rattle.std.proofs.Common.{◌≡◌}
-use Rattle.jt_value.specs.Sameness.{key_of}
-use Rattle.jt_store.specs.Tables.{Tables, last_of}
-use Rattle.jt_sql.proofs.Untelling.{reads}
-use Rattle.jt_sql.proofs.sql_keeper.SqlKeeperHostRuntimeKeeper.last.Goals as goal
-
-pub returns-clause-answer : goal.returns-clause-answer
-returns-clause-answer c = reads c.answered.result c.answered.ensures.untold (λ (t : Tables) last. last ≡ last_of (t.rows (key_of c.args.phone.now)))

@@ -1,6 +1,0 @@
-use Rattle.jt_store.specs.Tables.{Tables, IsOwner, terminals}
-use Rattle.jt_sql.proofs.Untelling.{reads}
-use Rattle.jt_sql.proofs.sql_keeper.SqlKeeperHostRuntimeKeeper.terminal_owner.Goals as goal
-
-pub returns-clause-answer : goal.returns-clause-answer
-returns-clause-answer c = reads c.answered.result c.answered.ensures.untold (λ (t : Tables) found. IsOwner terminals t.registered c.args.terminal.now found)
