@@ -96,12 +96,8 @@ fn expect_told(rt: &impl Abort, alloc: Global, outside: InMemory, text: &str, fi
 #[test]
 fn all_fixes_and_then_none(rt: HostRuntime) {
     let alloc = rt.alloc();
-    let first = relayed(
-        &rt,
-        alloc,
-        stores(&rt, alloc, THREE_FIXES, 9, (0, 0)),
-        Status::Done,
-    );
+    let first = stores(&rt, alloc, THREE_FIXES, 9, (0, 0));
+    let first = relayed(&rt, alloc, first, Status::Done);
     let second = relayed(&rt, alloc, first, Status::Done);
     let text = "relayed=3 of 3\nrelayed=0 of 3\n";
     expect_told(&rt, alloc, second, text, 3);
@@ -139,65 +135,36 @@ fn expect_relay(
     expect_told(rt, alloc, outside, text, fixes);
 }
 
-// The keeper's first four calls put the rows; the relay asks it for a row three times. The vault's first call loads it, and the next
-// ones record.
 #[test]
-fn relays_that_end_early(rt: HostRuntime) {
-    let rows: &[(&[Put], u64, (u64, u64), (Status, &str, u64))] = &[
-        (
-            THREE_FIXES,
-            2,
-            (0, 0),
-            (Status::StoreFault, "vault full at 2\n", 2),
-        ),
-        // The vault is full at that fix too, and then it is told that the fix is too long.
-        (A_LONG_FIX, 2, (0, 0), (Status::Refused, "long at 5\n", 2)),
-        (
-            THREE_FIXES,
-            9,
-            (5, 0),
-            (Status::StoreFault, "store fault\n", 0),
-        ),
-        (
-            THREE_FIXES,
-            9,
-            (6, 0),
-            (Status::StoreFault, "store fault\n", 1),
-        ),
-        (
-            THREE_FIXES,
-            9,
-            (7, 0),
-            (Status::StoreFault, "store fault\n", 3),
-        ),
-        (
-            THREE_FIXES,
-            9,
-            (0, 1),
-            (Status::StoreFault, "store fault\n", 0),
-        ),
-        (
-            THREE_FIXES,
-            9,
-            (0, 2),
-            (Status::StoreFault, "store fault\n", 0),
-        ),
-        (
-            THREE_FIXES,
-            9,
-            (0, 3),
-            (Status::StoreFault, "store fault\n", 1),
-        ),
-        (
-            THREE_FIXES,
-            9,
-            (0, 4),
-            (Status::StoreFault, "store fault\n", 2),
-        ),
-    ];
-    for &(put, limit, failing, ends) in rows {
-        assert!(rt; limit <= 9);
-        expect_relay(&rt, rt.alloc(), put, limit, failing, ends);
+fn a_full_vault(rt: HostRuntime) {
+    let ends = (Status::StoreFault, "vault full at 2\n", 2);
+    expect_relay(&rt, rt.alloc(), THREE_FIXES, 2, (0, 0), ends);
+}
+
+// The vault is full at that fix too, and then it is told that the fix is too long.
+#[test]
+fn a_long_fix(rt: HostRuntime) {
+    let ends = (Status::Refused, "long at 5\n", 2);
+    expect_relay(&rt, rt.alloc(), A_LONG_FIX, 2, (0, 0), ends);
+}
+
+// The keeper's call that fails, or the vault's, and how many fixes are recorded then. The keeper's first four calls put the rows;
+// the relay asks it for a row three times. The vault's first call loads it, and the next ones record.
+const FAULTS: &[(u64, u64, u64)] = &[
+    (5, 0, 0),
+    (6, 0, 1),
+    (7, 0, 3),
+    (0, 1, 0),
+    (0, 2, 0),
+    (0, 3, 1),
+    (0, 4, 2),
+];
+
+#[test]
+fn each_call_fails_in_turn(rt: HostRuntime) {
+    for &(keeper, vault, fixes) in FAULTS {
+        let ends = (Status::StoreFault, "store fault\n", fixes);
+        expect_relay(&rt, rt.alloc(), THREE_FIXES, 9, (keeper, vault), ends);
     }
 }
 
