@@ -351,5 +351,5 @@ fn expect_behind(rt: &impl Abort, alloc: Global, edition: Edition, front: &[Both
     let mut all = Vec::new(alloc);
     push_in(rt, edition, front, &mut all);
     push_in(rt, edition, rows, &mut all);
-    assert!(rt; first_wrong(alloc, edition, all.as_slice()) == front.len() + rows.len());
+    assert!(rt; first_wrong(alloc, edition, all.as_slice()) == all.len());
 }
