@@ -85,7 +85,7 @@ const BAD: &[&[u8]] = &[
 #[test]
 fn bad_lines_of_gateways(rt: HostRuntime) {
     let alloc = rt.alloc();
-    for line in BAD {
+    for &line in BAD {
         expect(
             &rt,
             alloc,
