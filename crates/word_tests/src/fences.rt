@@ -32,16 +32,7 @@ fn points_in_regions(rt: HostRuntime) {
             raw 00000000000000030000000206bc3e42000000000000240101000000\n\
             raw 00000000000000030000000206bc3e3d000000000000240101000000\n\
             raw 00000000000000030000000206bc3e3e000000000000240101000000\n",
-            "fix 1 enter polygon 5\n\
-            fix 3 leave polygon 5\n\
-            fix 4 enter polygon 5\n\
-            fix 5 leave polygon 5\n\
-            fix 6 enter polygon 5\n\
-            fix 7 leave polygon 5\n\
-            fix 8 enter polygon 5\n\
-            fix 9 leave polygon 5\n\
-            fix 10 enter polygon 5\n\
-            fixes=10 events=9\n",
+            "fix 1 enter polygon 5\nfix 3 leave polygon 5\nfix 4 enter polygon 5\nfix 5 leave polygon 5\nfix 6 enter polygon 5\nfix 7 leave polygon 5\nfix 8 enter polygon 5\nfix 9 leave polygon 5\nfix 10 enter polygon 5\nfixes=10 events=9\n",
         ),
         // An L: a horizontal edge is border, and its latitude is passed beside it.
         (
@@ -77,15 +68,7 @@ fn points_in_regions(rt: HostRuntime) {
             fix 8\n\
             fix 9\n\
             fix 11\n",
-            "fix 1 enter rectangle 9\n\
-            fix 1 enter polygon 2\n\
-            fix 1 enter polygon 3\n\
-            fix 1 enter polygon 4\n\
-            fix 2 leave rectangle 9\n\
-            fix 2 leave polygon 2\n\
-            fix 4 leave polygon 4\n\
-            fix 5 leave polygon 3\n\
-            fixes=5 events=8\n",
+            "fix 1 enter rectangle 9\nfix 1 enter polygon 2\nfix 1 enter polygon 3\nfix 1 enter polygon 4\nfix 2 leave rectangle 9\nfix 2 leave polygon 2\nfix 4 leave polygon 4\nfix 5 leave polygon 3\nfixes=5 events=8\n",
         ),
         // Coordinates at 0 and 2^32 - 1: a rectangle and a square that are all there is, and the half of it in which no longitude is above
         // the latitude.
@@ -98,14 +81,7 @@ fn points_in_regions(rt: HostRuntime) {
             raw 0000000000000003fffffffefffffffe000000000000240101000000\n\
             raw 00000000000000030000000000000001000000000000240101000000\n\
             raw 00000000000000030000000000000000000000000000240101000000\n",
-            "fix 1 enter rectangle 1\n\
-            fix 1 enter polygon 1\n\
-            fix 1 enter polygon 2\n\
-            fix 2 leave polygon 2\n\
-            fix 3 enter polygon 2\n\
-            fix 4 leave polygon 2\n\
-            fix 5 enter polygon 2\n\
-            fixes=5 events=7\n",
+            "fix 1 enter rectangle 1\nfix 1 enter polygon 1\nfix 1 enter polygon 2\nfix 2 leave polygon 2\nfix 3 enter polygon 2\nfix 4 leave polygon 2\nfix 5 enter polygon 2\nfixes=5 events=7\n",
         ),
     ];
     expect(&rt, rt.alloc(), &["fence"], Status::Done, rows);
@@ -139,8 +115,7 @@ fn regions_and_runs(rt: HostRuntime) {
         ),
         // The greatest limit of speed is above each speed.
         (
-            b"rectangles 000100000007000201312d0a06bc3e4001312d0006bc3e4affff00\n\
-            raw 000000000000000301312d0006bc3e400000ffff0000240101000000\n",
+            b"rectangles 000100000007000201312d0a06bc3e4001312d0006bc3e4affff00\nraw 000000000000000301312d0006bc3e400000ffff0000240101000000\n",
             "fix 1 enter rectangle 7\nfixes=1 events=1\n",
         ),
         // A fix outside ends a run: behind it 10 seconds are wanted anew.
@@ -206,10 +181,7 @@ fn regions_and_runs(rt: HostRuntime) {
         ),
         // In one change another region of the id stands before the equal one: only what the change leaves counts.
         (
-            b"rectangles 000100000007000001312d0a06bc3e4001312d0006bc3e4a\n\
-            fix 20000010\n\
-            rectangles 010200000007000001312d0b06bc3e4001312d0006bc3e4a00000007000001312d0a06bc3e4001312d0006bc3e4a\n\
-            fix 20000010\n",
+            b"rectangles 000100000007000001312d0a06bc3e4001312d0006bc3e4a\nfix 20000010\nrectangles 010200000007000001312d0b06bc3e4001312d0006bc3e4a00000007000001312d0a06bc3e4001312d0006bc3e4a\nfix 20000010\n",
             "fix 1 enter rectangle 7\nfixes=2 events=1\n",
         ),
         // A region that is gone is not left.
@@ -228,11 +200,7 @@ fn regions_and_runs(rt: HostRuntime) {
         ),
         // A deletion of other ids, and of the other kind, leaves it.
         (
-            b"polygon 000000070000000401312d0006bc3e4001312d0006bc3e4a01312d0a06bc3e4a01312d0a06bc3e40\n\
-            fix 20000010\n\
-            delete-polygons 0100000008\n\
-            delete-rectangles 0100000007\n\
-            fix 20000011\n",
+            b"polygon 000000070000000401312d0006bc3e4001312d0006bc3e4a01312d0a06bc3e4a01312d0a06bc3e40\nfix 20000010\ndelete-polygons 0100000008\ndelete-rectangles 0100000007\nfix 20000011\n",
             "fix 1 enter polygon 7\nfix 2 leave polygon 7\nfixes=2 events=2\n",
         ),
         // The alarms of one fix: rectangles before polygons, then by id, then enter, leave, over.
@@ -242,17 +210,7 @@ fn regions_and_runs(rt: HostRuntime) {
             polygon 000000010002003c00000401312d0006bc3e4001312d0006bc3e4a01312d0a06bc3e4a01312d0a06bc3e40\n\
             raw 000000000000000301312d0506bc3e45000002590000240101000000\n\
             fix 0\n",
-            "fix 1 enter rectangle 7\n\
-            fix 1 enter rectangle 9\n\
-            fix 1 over rectangle 9\n\
-            fix 1 enter polygon 1\n\
-            fix 1 over polygon 1\n\
-            fix 1 enter polygon 7\n\
-            fix 2 leave rectangle 7\n\
-            fix 2 leave rectangle 9\n\
-            fix 2 leave polygon 1\n\
-            fix 2 leave polygon 7\n\
-            fixes=2 events=10\n",
+            "fix 1 enter rectangle 7\nfix 1 enter rectangle 9\nfix 1 over rectangle 9\nfix 1 enter polygon 1\nfix 1 over polygon 1\nfix 1 enter polygon 7\nfix 2 leave rectangle 7\nfix 2 leave rectangle 9\nfix 2 leave polygon 1\nfix 2 leave polygon 7\nfixes=2 events=10\n",
         ),
     ];
     expect(&rt, rt.alloc(), &["fence"], Status::Done, rows);
@@ -324,10 +282,7 @@ fn bad_lines_of_tracks(rt: HostRuntime) {
             "line 1 refused\n",
         ),
         (
-            b"rectangles 000100000007000001312d0a06bc3e4001312d0006bc3e4a\n\
-            fix 20000000\n\
-            rectangles 020200000007000001312d0a06bc3e4001312d0006bc3e4a00000008000000000000000000000000000000000000\n\
-            fix 0\n",
+            b"rectangles 000100000007000001312d0a06bc3e4001312d0006bc3e4a\nfix 20000000\nrectangles 020200000007000001312d0a06bc3e4001312d0006bc3e4a00000008000000000000000000000000000000000000\nfix 0\n",
             "fix 1 enter rectangle 7\nline 3 refused\n",
         ),
     ];
