@@ -4,7 +4,7 @@ use Rattle.std.specs.Prelude.{Result, Ok, Err}
 use Rattle.jt_store.specs.declared.error.StoreError.{StoreError}
 use Rattle.jt_store.specs.declared.error.StoreError.TheVariants.{Failed, Full, Memory}
 use Rattle.jt_store.specs.Tables.{Reads}
-use Rattle.jt_sql.specs.Untold.{IsNotFull}
+use Rattle.jt_store_answers.specs.Untold.{IsNotFull}
 
 pub reads : {H : Type 0} {T : Type 0} (r : Result T StoreError) → IsNotFull r → (P : H → T → Type 0) → Reads None None P r
 reads (Ok x) is P = (refl, tt)

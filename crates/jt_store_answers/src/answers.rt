@@ -4,14 +4,15 @@ ghost use Rattle.std.specs.Prelude.{◌≡◌, ◌≤◌, ◌-◌, ◌^◌, ℕ,
 ghost use Rattle.jt_store.specs.Tables.{HasCause, IsSteady, Tables, Writes, WritesWithin};
 ghost use Rattle.jt_value.specs.Counts.{Rose};
 ghost use Rattle.jt_store.specs.Vaults.{Held, pending_count};
-ghost use Rattle.jt_sql.specs.Untold.{IsNotFull};
+ghost use Rattle.jt_store_answers.specs.Untold.{IsNotFull};
 
-use crate::refused::Refused;
+use crate::refusal::Refusal;
 use jt_store::StoreError;
 
 /// What became of something that is put behind others, of which there may be so many.
 #[derive(Clone, Copy, Debug, PartialEq, Eq)]
-pub(crate) enum Adding {
+pub enum Adding {
+    /// It stands behind the others.
     Done,
     /// There are as many as there may be.
     Full,
@@ -29,9 +30,9 @@ fn failed(faults: &mut u64) -> StoreError
 }
 
 /// What a store answers. Every refusal other than want of memory is counted.
-pub(crate) fn answered<T: Drop>(
+pub fn answered<T: Drop, R: Refusal + Drop>(
     faults: &mut u64,
-    answer: Result<T, Refused>,
+    answer: Result<T, R>,
 ) -> Result<T, StoreError>
     requires range { faults.old ≤ 2 ^ 64 - 1 }
     ensures found { IfOk result (λ x. answer ≡ Ok x) }
@@ -42,13 +43,13 @@ pub(crate) fn answered<T: Drop>(
 {
     match answer {
         Ok(found) => Ok(found),
-        Err(Refused::Memory) => Err(StoreError::Memory),
-        Err(Refused::Failed | Refused::Shut) => Err(failed(faults)),
+        Err(refusal) if refusal.is_memory() => Err(StoreError::Memory),
+        Err(_) => Err(failed(faults)),
     }
 }
 
 /// The same of a call that changes what is kept.
-pub(crate) fn changed(faults: &mut u64, answer: Result<(), Refused>) -> Result<(), StoreError>
+pub fn changed<R: Refusal + Drop>(faults: &mut u64, answer: Result<(), R>) -> Result<(), StoreError>
     requires range { faults.old ≤ 2 ^ 64 - 1 }
     ensures tables { Writes {H = Tables} None None None result }
     ensures held { Writes {H = Held} None None None result }
@@ -58,16 +59,16 @@ pub(crate) fn changed(faults: &mut u64, answer: Result<(), Refused>) -> Result<(
 {
     match answer {
         Ok(()) => Ok(()),
-        Err(Refused::Memory) => Err(StoreError::Memory),
-        Err(Refused::Failed | Refused::Shut) => Err(failed(faults)),
+        Err(refusal) if refusal.is_memory() => Err(StoreError::Memory),
+        Err(_) => Err(failed(faults)),
     }
 }
 
 /// The same of a call that puts something behind others, of which there may be `limit`.
-pub(crate) fn added(
+pub fn added<R: Refusal + Drop>(
     faults: &mut u64,
     limit: u64,
-    answer: Result<Adding, Refused>,
+    answer: Result<Adding, R>,
 ) -> Result<(), StoreError>
     requires range { faults.old ≤ 2 ^ 64 - 1 }
     ensures tables { (key : List ℕ) →
@@ -80,7 +81,7 @@ pub(crate) fn added(
     match answer {
         Ok(Adding::Done) => Ok(()),
         Ok(Adding::Full) => Err(StoreError::Full(limit)),
-        Err(Refused::Memory) => Err(StoreError::Memory),
-        Err(Refused::Failed | Refused::Shut) => Err(failed(faults)),
+        Err(refusal) if refusal.is_memory() => Err(StoreError::Memory),
+        Err(_) => Err(failed(faults)),
     }
 }
