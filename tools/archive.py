@@ -39,7 +39,7 @@ LOOKED_AT = 32_768
 WINDOW = 16
 # Without a word so many rows of a phone stay, fewer where all phones together would keep more than a file opens in a second.
 STAY, STAY_OF_ALL, STAY_LEAST = 1_000, 200_000, 64
-ROWS_A_TRANSACTION = 20_000
+OCTETS_A_TRANSACTION = 1_000_000
 MOST_MEMORY = 2**30
 SPARE_PAGES = 16
 LEFT = "CREATE TABLE IF NOT EXISTS left808 (phone BLOB PRIMARY KEY, number INTEGER, rows INTEGER, fixes INTEGER)"
@@ -89,10 +89,11 @@ def alone(path):
     """Keeps a second tool out of the folder of a file."""
     folder = os.open(os.path.dirname(os.path.realpath(path)), os.O_RDONLY)
     try:
-        fcntl.flock(folder, fcntl.LOCK_EX | fcntl.LOCK_NB)
+        try:
+            fcntl.flock(folder, fcntl.LOCK_EX | fcntl.LOCK_NB)
+        except BlockingIOError as error:
+            raise Stop("another archive.py works in the folder of this file", "Wait until it ended, and run this again") from error
         yield
-    except BlockingIOError as error:
-        raise Stop("another archive.py works in the folder of this file", "Wait until it ended, and run this again") from error
     finally:
         os.close(folder)
 
@@ -199,6 +200,19 @@ def rows_behind(base, marks):
             yield phone, *row
 
 
+def pieces(rows):
+    """The rows in lists, each of a transaction."""
+    some, octets = [], 0
+    for row in rows:
+        some.append(row)
+        octets += len(row[3]) + 20
+        if octets > OCTETS_A_TRANSACTION:
+            yield some
+            some, octets = [], 0
+    if some:
+        yield some
+
+
 def copy_out(base, target, words):
     marks = target.marks()
     if words.refill:
@@ -210,16 +224,11 @@ def copy_out(base, target, words):
     if words.dry_run:
         print(f"{target}: {total:,} rows would be copied")
         return
-    progress, some = Progress(f"copying into {target}", total), []
+    progress = Progress(f"copying into {target}", total)
     put = functools.partial(target.put, again=True) if words.refill else target.put
-    for row in rows_behind(base, marks):
-        some.append(row)
-        if len(some) == ROWS_A_TRANSACTION:
-            put(some)
-            progress.add(len(some))
-            some = []
-    if some:
-        put(some)
+    for rows in pieces(rows_behind(base, marks)):
+        put(rows)
+        progress.add(len(rows))
     print(f"{target}: {total:,} rows copied in {progress.end()}", flush=True)
 
 
@@ -293,10 +302,13 @@ def remove(base, plans):
     base.execute("COMMIT")
 
 
+def is_loose(base):
+    """Whether pages are free in the file: of rows that went now, or in a run that was killed behind its removal."""
+    return base.execute("PRAGMA freelist_count").fetchone()[0] > SPARE_PAGES
+
+
 def shrink(base):
-    """Gives the pages of rows that went back to the disk. Also after a run that was killed behind its removal."""
-    if base.execute("PRAGMA freelist_count").fetchone()[0] <= SPARE_PAGES:
-        return
+    """Gives free pages back to the disk."""
     try:
         base.execute("VACUUM")
         base.execute("PRAGMA wal_checkpoint(TRUNCATE)")
@@ -321,11 +333,14 @@ def move(words, targets):
         if words.copy or words.refill:
             return
         stay = rows_to_stay(base, words)
-        plans = plans_of(base, stay)
+        plans, loose = plans_of(base, stay), is_loose(base)
     total = sum(plan.rows for plan in plans)
     kept = f"the last {stay:,} of each phone stay" if stay else f"of each phone those at most {LOOKED_AT:,} below the last stay"
     if words.dry_run:
         print(f"{total:,} rows of {len(plans):,} phones would go; {kept}")
+        return
+    if not plans and not loose:
+        print(f"no row is to go; {kept}")
         return
     if plans:
         check_relay(words)
@@ -341,7 +356,8 @@ def let_go(words, plans, told):
         began = time.monotonic()
         if plans:
             remove(base, plans)
-        shrink(base)
+        if is_loose(base):
+            shrink(base)
         seconds = time.monotonic() - began
     print(f"{told}; the file was held {seconds:.1f} s and has {os.path.getsize(words.file):,} octets", flush=True)
 
