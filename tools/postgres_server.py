@@ -68,6 +68,14 @@ class Server:
         found = subprocess.run(["ps", "-o", "pid=", "--ppid", first], capture_output=True, text=True, check=False)
         return [int(first), *map(int, found.stdout.split())]
 
+    def seconds_used(self):
+        """The seconds of a processor that the server took, those of processes that ended among them."""
+        found = 0
+        for process in self.processes():
+            with contextlib.suppress(FileNotFoundError), open(f"/proc/{process}/stat", encoding="ascii") as file:
+                found += sum(map(int, file.read().rpartition(")")[2].split()[11:15]))
+        return found / os.sysconf("SC_CLK_TCK")
+
     def kill(self):
         """Ends the server and all that it started as a loss of power would."""
         for process in self.processes():
