@@ -13,6 +13,7 @@ the folder; no row stands twice, and none that was never in the file. Every tent
 --program, `relay` of the program is run over a copy of the file as the kill left it. The status is 0 only where nothing differs.
 """
 import argparse
+import bisect
 import collections
 import contextlib
 import os
@@ -66,6 +67,8 @@ class Fleet:
         self.path, self.old, self.dsn, self.name = f"{folder}/platform.db", f"{folder}/old", dsn, name
         self.rows = {bytes.fromhex(f"{13_900_000_000 + at:020d}"): [] for at in range(phones)}
         self.gone = dict.fromkeys(self.rows, 0)
+        # How many entries the first rows of a phone make, for each number of them.
+        self.entries = {phone: [0] for phone in self.rows}
         with contextlib.closing(sqlite3.connect(self.path)) as base:
             base.execute("PRAGMA journal_mode = WAL")
             base.executescript(MAKE)
@@ -78,6 +81,7 @@ class Fleet:
                 last = known[-1][0] if known else chance.randint(-1, 65_534)
                 step = chance.choice([1, 1, 1, 1, 1, 1, 2, 30, 40_000, 131_071]) if known else 1
                 known.append((last + step, *row(chance, len(known))))
+                self.entries[phone].append(self.entries[phone][-1] + len(Unit(*known[-1]).entries))
                 base.execute("INSERT INTO rows808 VALUES (?, ?, ?, ?)", (phone, *known[-1]))
             base.execute("COMMIT")
 
@@ -111,10 +115,9 @@ class Fleet:
         found = {phone: tuple(counts) for phone, *counts in link.execute(question, (platform,))} if platform else {}
         for phone, known in self.rows.items():
             digits = digits_of(phone)
-            stored = [it for it in known if it[0] <= marks.get(digits, -1)]
-            entries = sum(len(Unit(*it).entries) for it in stored)
-            if found.get(digits, (0, 0)) != (len(stored), entries) or len(stored) < self.gone[phone]:
-                raise Broken(f"the database has {found.get(digits)} of {len(stored)} rows of {digits}; {self.gone[phone]} left the file")
+            stored = bisect.bisect_right(known, marks.get(digits, -1), key=lambda it: it[0])
+            if found.get(digits, (0, 0)) != (stored, self.entries[phone][stored]) or stored < self.gone[phone]:
+                raise Broken(f"the database has {found.get(digits)} of {stored} rows of {digits}; {self.gone[phone]} left the file")
         return platform
 
     def in_database(self, link, platform):
@@ -180,13 +183,33 @@ def body_of(entries):
     return message, count.to_bytes(2, "big") + bytes([kind]) + b"".join(len(it[4]).to_bytes(2, "big") + bytes(it[4]) for it in entries)
 
 
+def started(words, log):
+    """The tool in a process of its own, which does not have to read its modules first."""
+    with open(log, "w", encoding="utf-8", buffering=1) as file:
+        process = os.fork()
+        if process == 0:
+            status = 70
+            try:
+                with contextlib.redirect_stdout(file), contextlib.redirect_stderr(file):
+                    status = archive.main(words)
+            finally:
+                os._exit(status)
+    return process
+
+
+def ended(process, how=0):
+    """With what status a process ended, or None where it has not."""
+    found, status = os.waitpid(process, how)
+    return os.waitstatus_to_exitcode(status) if found else None
+
+
 class Rounds:
     """Kills at random moments: of the tool, or of the server."""
 
     def __init__(self, asked, folder, server, is_server):
         self.asked, self.server, self.is_server, self.chance = asked, server, is_server, random.Random(asked.seed)
         self.fleet = Fleet(folder, server.dsn(), f"kill-{'server' if is_server else 'tool'}", 25)
-        self.log, self.longest, self.kills, self.rounds = f"{folder}/told", 2.0, 0, 0
+        self.log, self.longest, self.kills, self.rounds = f"{folder}/told", 1.0, 0, 0
         self.ends = collections.Counter()
 
     def words(self):
@@ -197,31 +220,32 @@ class Rounds:
     def round(self):
         self.fleet.append(self.chance, self.asked.rows)
         self.rounds += 1
-        whole, began = self.rounds % 10 == 0, time.monotonic()
-        with open(self.log, "w", encoding="utf-8") as log:
-            ran = subprocess.Popen([sys.executable, TOOL, *self.words()], stdout=log, stderr=log)
-            with contextlib.suppress(subprocess.TimeoutExpired):
-                ran.wait(None if whole else self.chance.uniform(0.05, self.longest))
-            middle = ran.poll() is None
-            if whole:
-                self.longest = max(0.5, min(20.0, 1.1 * (time.monotonic() - began)))
-            elif middle:
-                self.kill(ran)
+        whole, began, words = self.rounds % 10 == 0, time.monotonic(), self.words()
+        process, status = started(words, self.log), None
+        until = began + (600 if whole else self.chance.uniform(0, self.longest))
+        while status is None and time.monotonic() < until:
+            time.sleep(0.002)
+            status = ended(process, os.WNOHANG)
+        middle = status is None
+        if middle:
+            self.kill(process)
+        elif whole:
+            self.longest = time.monotonic() - began
         with open(self.log, encoding="utf-8") as log:
             told = log.read()
-        if not middle and ran.returncode:
+        if status:
             raise Broken(told)
         self.kills += middle
         self.ends[f"{'killed' if middle else 'ended'} behind: {behind(told)}"] += 1
 
-    def kill(self, ran):
+    def kill(self, process):
         if self.is_server:
             self.server.kill()
-            ran.wait(120)
+            ended(process)
             self.server.start()
         else:
-            ran.kill()
-            ran.wait()
+            os.kill(process, signal.SIGKILL)
+            ended(process)
 
     def go(self, kills):
         while self.kills < kills:
@@ -295,7 +319,7 @@ def words():
     asked.add_argument("--kills", type=int, default=200, help="of the tool")
     asked.add_argument("--server", type=int, default=20, help="kills of the server")
     asked.add_argument("--steps", type=int, default=3, help="0 leaves them out")
-    asked.add_argument("--rows", type=int, default=500, help="that a round adds")
+    asked.add_argument("--rows", type=int, default=200, help="that a round adds")
     asked.add_argument("--seed", type=int, default=1)
     asked.add_argument("--program", help="runs relay of it over the file")
     return asked.parse_args()
