@@ -23,6 +23,7 @@ sys.path.insert(0, HERE)
 sys.dont_write_bytecode = True
 import archive  # noqa: E402
 import archive_database  # noqa: E402
+import archive_fixes  # noqa: E402
 import open_times  # noqa: E402
 from archive_rows import CHINA, Unit  # noqa: E402
 from postgres_server import Server  # noqa: E402
@@ -205,6 +206,41 @@ class Views(Trial):
         found = self.ask("SELECT positions, shapes.ST_NPoints(geom), shapes.ST_AsText(shapes.ST_StartPoint(geom)) FROM track_shape WHERE phone = %s AND day = today() - 1", SHORT)
         self.assertEqual(found, [(10, 10, "POINT(113 22)")])
         self.assertEqual(self.ask("SELECT shapes.ST_X(geom), shapes.ST_Y(geom) FROM position_shape WHERE number = 3"), [(113.0, 22.001)])
+
+
+class Fixes(Trial):
+    """What is left to report of a phone, from the database."""
+
+    def fixes(self, *words):
+        out, said = io.StringIO(), io.StringIO()
+        with contextlib.redirect_stdout(out), contextlib.redirect_stderr(said):
+            status = archive_fixes.main(["--phone", "013912345678", "--name", "a", "--database", self.dsn, "--terminal", f"{self.folder}/other/terminal.db", *words])
+        return status, out.getvalue().split(), said.getvalue()
+
+    def record(self, count):
+        os.makedirs(f"{self.folder}/other", exist_ok=True)
+        with contextlib.closing(sqlite3.connect(f"{self.folder}/other/terminal.db")) as base:
+            base.execute("CREATE TABLE IF NOT EXISTS fix (place INTEGER PRIMARY KEY, body BLOB)")
+            base.executemany("INSERT INTO fix VALUES (?, x'00')", ((at,) for at in range(count)))
+            base.commit()
+
+    def test_behind_as_many_as_are_recorded(self):
+        self.assertIn("no rows yet", self.fixes()[2])
+        rows = [(bytes.fromhex(PHONE), 2 + at, *row) for at, row in enumerate(ROWS * 10)]
+        make(self.path, [*rows, *rows_of(OTHER, range(2, 20)), (bytes.fromhex(PHONE), 99, 0x0200, b"\1")])
+        self.moved("--rows", "16")
+        wanted = [octets.hex() for octets in FIXES * 10]
+        self.assertEqual(self.fixes(), (0, wanted, ""))
+        self.record(37)
+        self.assertEqual(self.fixes(), (0, wanted[37:], ""))
+
+    def test_a_terminal_that_has_more(self):
+        make(self.path, rows_of(PHONE, range(2, 12)))
+        self.moved("--copy")
+        self.record(11)
+        status, _, said = self.fixes()
+        self.assertEqual(status, 1)
+        self.assertIn("has recorded 11 fixes, and the database has 10", said)
 
 
 class InTheWay(Trial):
