@@ -190,7 +190,8 @@ def check_marks(base, target, marks, from_here):
             continue
         row = base.execute("SELECT number, id, body FROM rows808 WHERE phone = ? AND number = ?", (phone, number)).fetchone()
         if row is None or Unit(*row).sum() != total:
-            raise Stop(f"phone {digits}: the last row of {target} is {number}, and the file has {'none' if row is None else 'another one'} there", OTHER_FILE)
+            found = "none" if row is None else "another one"
+            raise Stop(f"phone {digits}: the last row of {target} is {number}, and the file has {found} there", OTHER_FILE)
 
 
 def rows_behind(base, marks):
@@ -313,15 +314,19 @@ def shrink(base):
         base.execute("VACUUM")
         base.execute("PRAGMA wal_checkpoint(TRUNCATE)")
     except sqlite3.Error as error:
-        raise Stop(f"the rows are removed, and the file could not be made smaller: {error}", "Make as much room on its disk as it has octets, and run this again") from error
+        raise Stop(
+            f"the rows are removed, and the file could not be made smaller: {error}",
+            "Make as much room on its disk as it has octets, and run this again",
+        ) from error
 
 
 def check_relay(words):
     beside = os.path.join(os.path.dirname(os.path.abspath(words.file)), "terminal.db")
     if os.path.exists(beside) and not words.no_relay:
         raise Stop(
-            "terminal.db stands beside the file: `relay` counts all fixes from the first row on, and would leave fixes out once rows are gone. Nothing removed",
-            "Say --no-relay where you do not use relay here; otherwise see relay in docs/MANUAL.md",
+            "terminal.db stands beside the file: `relay` counts all fixes from the first row on, and would leave fixes out once rows are"
+            " gone. Nothing removed",
+            "Say --no-relay where nobody uses relay here; tools/archive_fixes.py takes its place",
         )
 
 
@@ -375,9 +380,10 @@ def parser():
     form.add_argument("--copy", action="store_true", help="copy, and remove nothing")
     form.add_argument("--refill", action="store_true", help="put all rows of the file into the database again, and remove nothing")
     stay = asked.add_mutually_exclusive_group()
-    stay.add_argument("--rows", type=int, metavar="N", help=f"that stay of each phone, at least {WINDOW} (default: {STAY}, and fewer, but {STAY_LEAST} at"
-        f" least, where all phones together would keep more than {STAY_OF_ALL})")
-    stay.add_argument("--exact", action="store_true", help=f"all rows stay that a platform ever looks at: those at most {LOOKED_AT} below a phone's last")
+    fewer = f"{STAY}, and fewer, but {STAY_LEAST} at least, where all phones together would keep more than {STAY_OF_ALL}"
+    stay.add_argument("--rows", type=int, metavar="N", help=f"that stay of each phone, at least {WINDOW} (default: {fewer})")
+    exact = f"all rows stay that a platform ever looks at: those at most {LOOKED_AT} below a phone's last"
+    stay.add_argument("--exact", action="store_true", help=exact)
     asked.add_argument("--wait", type=float, default=0, metavar="SECONDS", help="wait so long for the end of a platform's run")
     asked.add_argument("--dry-run", action="store_true", help="say what would be done, and do nothing")
     asked.add_argument("--from-here", action="store_true", help="let a new target begin with the rows that are still in the file")
@@ -411,7 +417,8 @@ def remedy_of(error):
     """What to do about an error of SQLite or of the system."""
     text = str(error)
     if "full" in text or "No space" in text:
-        return f"Make room: for a copy of the file in {tempfile.gettempdir()} (TMPDIR names another place), and as much as the file has beside it. Then run this again"
+        place = tempfile.gettempdir()
+        return f"Make room: for a copy of the file in {place} (TMPDIR names another place), and for as much beside it. Then run this again"
     if "locked" in text:
         return "Another program has it open: end that, and run this again"
     return "The file has all that was not removed. Mend this, and run it again"

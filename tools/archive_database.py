@@ -242,7 +242,8 @@ class Database:
     def verify(self, plans):
         """Whether the rows of these plans stand here as in the file, by counts and sums."""
         with self.link.transaction():
-            self.link.execute("CREATE TEMP TABLE going (phone text COLLATE \"C\", first bigint, cut bigint, count bigint, sum numeric) ON COMMIT DROP")
+            going = 'phone text COLLATE "C", first bigint, cut bigint, count bigint, sum numeric'
+            self.link.execute(f"CREATE TEMP TABLE going ({going}) ON COMMIT DROP")
             self.link.copy("going", (f"{digits_of(it.phone)}\t{it.first}\t{it.cut}\t{it.entries}\t{it.sum}\n" for it in plans))
             self.link.execute("ANALYZE going")
             found = self.link.execute(

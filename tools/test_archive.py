@@ -3,7 +3,6 @@
 tools/archive_trial.py has those with one.
 """
 import contextlib
-import datetime
 import fcntl
 import hashlib
 import io
@@ -13,6 +12,7 @@ import re
 import sqlite3
 import sys
 import tempfile
+import time
 import unittest
 import unittest.mock
 
@@ -22,10 +22,8 @@ sys.dont_write_bytecode = True
 import archive  # noqa: E402
 import archive_database  # noqa: E402
 import positions  # noqa: E402
-from archive_rows import Unit  # noqa: E402
+from archive_rows import NO_DAY, Unit  # noqa: E402
 from test_positions import FIXES, OTHER, PHONE, batch, fix, make  # noqa: E402
-
-DAY = datetime.date(2024, 3, 5)
 
 
 def rows_of(phone, numbers, time="240305000030"):
@@ -51,7 +49,8 @@ class Rows(unittest.TestCase):
     def test_columns_by_hand(self):
         # 6553.5 and 600 are tenths of km/h; 0x04d2 = 1,234 tenths of km, the last of two; south and west are below zero
         items = '{"signal":25,"mileage":[429496729.5,123.4],"satellites":9}'
-        self.assertEqual(columns_of(FIXES[3]), ["2024-03-05 00:00:30+08", "22.543096", "114.057865", "10", "60.0", "90", "0", "3", "123.4", items])
+        numbers = ["22.543096", "114.057865", "10", "60.0", "90", "0", "3", "123.4"]
+        self.assertEqual(columns_of(FIXES[3]), ["2024-03-05 00:00:30+08", *numbers, items])
         self.assertEqual(columns_of(FIXES[1])[:3], ["2099-12-31 23:59:59+08", "-33.856784", "-151.215297"])
         # 30 February is no day, and a mileage of three octets is none
         self.assertEqual(columns_of(FIXES[2])[0], "\\N")
@@ -83,7 +82,7 @@ class Rows(unittest.TestCase):
             unit = Unit(2, message, body)
             self.assertEqual(unit.count, wanted)
             if not unit.count:
-                self.assertEqual(unit.entries, [(archive_database.datetime.date(1970, 1, 1), None, body)])
+                self.assertEqual(unit.entries, [(NO_DAY, None, body)])
 
     def test_days_of_a_batch(self):
         # a position without a moment has the day of the first that has one, and each other its own
@@ -172,7 +171,9 @@ class Moves(unittest.TestCase):
 
     def test_how_many_stay_without_a_word(self):
         words = archive.words_of(["--name", "a", "--into", "b"])
-        for counts, wanted in [([5000] * 200, 1000), ([5000] * 201, 995), ([5000] * 1000, 200), ([5000] * 3125, 64), ([5000] * 3126, 64), ([10] * 19_000 + [9000] * 100, 100)]:
+        # 201 phones with 995 rows each have 199,995 of 200,000; 19,000 with ten leave 10,000 for a hundred others
+        fleets = [([5000] * 200, 1000), ([5000] * 201, 995), ([5000] * 1000, 200), ([5000] * 3125, 64), ([5000] * 3126, 64)]
+        for counts, wanted in [*fleets, ([10] * 19_000 + [9000] * 100, 100)]:
             with self.subTest(counts=len(counts)), unittest.mock.patch.object(archive, "phones_in", lambda base: counts):
                 with unittest.mock.patch.object(archive, "count_of", lambda base, phone: phone):
                     self.assertEqual(archive.rows_to_stay(None, words), wanted)
@@ -195,7 +196,6 @@ class Moves(unittest.TestCase):
             with contextlib.suppress(BaseException), open(self.path, "r+b") as file:
                 fcntl.lockf(file, fcntl.LOCK_EX, positions.SHARED_SIZE, positions.SHARED_FIRST)
                 open(f"{self.folder}/locked", "w").close()
-                import time
                 while not os.path.exists(f"{self.folder}/done"):
                     time.sleep(0.01)
             os._exit(0)
@@ -220,7 +220,8 @@ class Moves(unittest.TestCase):
 
     def test_a_copy_that_a_killed_tool_left_goes(self):
         make(self.path, rows_of(PHONE, range(2, 102)))
-        left = os.path.join(tempfile.gettempdir(), f"archive-{os.getuid()}-{hashlib.sha256(os.path.realpath(self.path).encode()).hexdigest()[:16]}")
+        name = hashlib.sha256(os.path.realpath(self.path).encode()).hexdigest()[:16]
+        left = os.path.join(tempfile.gettempdir(), f"archive-{os.getuid()}-{name}")
         os.mkdir(left)
         with open(f"{left}/copy.db", "w") as file:
             file.write("half a copy")
