@@ -26,6 +26,7 @@ import sqlite3
 import sys
 import tempfile
 import time
+import urllib.parse
 
 sys.dont_write_bytecode = True
 import positions  # noqa: E402
@@ -87,7 +88,7 @@ def left_in(base):
 @contextlib.contextmanager
 def alone(path):
     """Keeps a second tool out of the folder of a file."""
-    folder = os.open(os.path.dirname(os.path.realpath(path)), os.O_RDONLY)
+    folder = os.open(os.path.dirname(path), os.O_RDONLY)
     try:
         try:
             fcntl.flock(folder, fcntl.LOCK_EX | fcntl.LOCK_NB)
@@ -101,7 +102,7 @@ def alone(path):
 @contextlib.contextmanager
 def copied(path):
     """A copy of the file and its log as they stand together. What a tool that was killed left here goes first."""
-    name = hashlib.sha256(os.path.realpath(path).encode()).hexdigest()[:16]
+    name = hashlib.sha256(path.encode()).hexdigest()[:16]
     folder = os.path.join(tempfile.gettempdir(), f"archive-{os.getuid()}-{name}")
     shutil.rmtree(folder, ignore_errors=True)
     try:
@@ -143,7 +144,8 @@ def take(base, wait):
 @contextlib.contextmanager
 def held(path, wait):
     """The file itself, held so that no platform opens it meanwhile."""
-    with contextlib.closing(sqlite3.connect(f"file:{path}?mode=rw", uri=True, isolation_level=None, timeout=0)) as base:
+    name = f"file:{urllib.parse.quote(path)}?mode=rw"
+    with contextlib.closing(sqlite3.connect(name, uri=True, isolation_level=None, timeout=0)) as base:
         take(base, wait)
         check_version(base)
         # Room for all pages: so each is written into the log once.
@@ -321,7 +323,7 @@ def shrink(base):
 
 
 def check_relay(words):
-    beside = os.path.join(os.path.dirname(os.path.abspath(words.file)), "terminal.db")
+    beside = os.path.join(os.path.dirname(words.file), "terminal.db")
     if os.path.exists(beside) and not words.no_relay:
         raise Stop(
             "terminal.db stands beside the file: `relay` counts all fixes from the first row on, and would leave fixes out once rows are"
@@ -428,7 +430,9 @@ def main(given):
     words = words_of(given)
     try:
         if not os.path.isfile(words.file):
-            raise Stop(f"{words.file} is not there", "Name the platform's file, or go to its folder")
+            raise Stop("there is no such file", "Name the platform's file, or go to its folder")
+        # Its log stands beside the file itself, not beside a link to it.
+        words.file = os.path.realpath(words.file)
         with contextlib.ExitStack() as stack:
             stack.enter_context(alone(words.file))
             move(words, targets_of(words, stack))

@@ -178,7 +178,7 @@ class Database:
         self.link.execute("SELECT pg_advisory_xact_lock(808, 0)")
         if self.link.one("SELECT to_regclass(%s)", (table,)) is not None:
             return
-        if self.link.execute("SELECT FROM position_rest WHERE day = %s LIMIT 1", (day,)):
+        if self.link.one("SELECT 1 FROM position_rest WHERE day = %s LIMIT 1", (day,)):
             return
         # A table that is attached keeps nobody from reading the others.
         self.link.execute(f"CREATE TABLE {table} (LIKE jt808.position INCLUDING ALL)")

@@ -123,6 +123,16 @@ class Rows(Trial):
         found = self.ask("SELECT tableoid::regclass::text, number FROM position ORDER BY number, day")
         self.assertEqual(found, [(f"position_{YESTERDAY:%Y%m%d}", 2), (f"position_{TODAY:%Y%m%d}", 2), ("position_rest", 5), ("position_rest", 6)])
 
+    def test_a_day_that_has_rows_elsewhere_gets_no_table(self):
+        make(self.path, rows_of(PHONE, [2], digits(TODAY, "000000")))
+        with unittest.mock.patch.object(archive_database, "OWN_DAYS", -1):
+            self.moved("--copy")
+        with contextlib.closing(sqlite3.connect(self.path)) as base:
+            base.executemany("INSERT INTO rows808 VALUES (?, ?, ?, ?)", rows_of(PHONE, [3], digits(TODAY, "000100")))
+            base.commit()
+        self.moved("--copy")
+        self.assertEqual(self.ask("SELECT tableoid::regclass::text, number FROM position ORDER BY 2"), [("position_rest", 2), ("position_rest", 3)])
+
     def test_again_each_row_stands_once(self):
         make(self.path, rows_of(PHONE, range(2, 102)))
         for driver in ("psycopg", "psycopg2"):

@@ -9,6 +9,7 @@ import io
 import os
 import random
 import re
+import shutil
 import sqlite3
 import sys
 import tempfile
@@ -23,7 +24,7 @@ import archive  # noqa: E402
 import archive_database  # noqa: E402
 import positions  # noqa: E402
 from archive_rows import NO_DAY, Unit  # noqa: E402
-from test_positions import FIXES, OTHER, PHONE, batch, fix, make  # noqa: E402
+from test_positions import FIXES, MAKE, OTHER, PHONE, batch, fix, make  # noqa: E402
 
 
 def rows_of(phone, numbers, time="240305000030"):
@@ -228,8 +229,23 @@ class Moves(unittest.TestCase):
         self.moved("--rows", "16")
         self.assertFalse(os.path.exists(left))
 
+    def test_a_link_and_an_odd_name(self):
+        path, first = f"{self.folder}/100% #1?.db", f"{self.folder}/first.db"
+        with contextlib.closing(sqlite3.connect(first)) as base:
+            base.execute("PRAGMA journal_mode = WAL")
+            base.executescript(MAKE)
+            base.executemany("INSERT INTO rows808 VALUES (?, ?, ?, ?)", rows_of(PHONE, range(2, 102)))
+            base.commit()
+            # The rows stand in the log alone, as after a kill
+            for end in ("", "-wal"):
+                shutil.copyfile(first + end, path + end)
+        os.symlink(path, self.path)
+        self.moved("--rows", "16")
+        self.assertEqual(numbers_in(path), list(range(86, 102)))
+        self.assertEqual(len(read(f"{self.old}/a-2024-03.db")), 100)
+
     def test_files_that_are_none(self):
-        self.refused("is not there")
+        self.refused("there is no such file")
         with open(self.path, "w") as file:
             file.write("a text " * 1000)
         found, _, said = self.run_tool()
