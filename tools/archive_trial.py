@@ -97,7 +97,8 @@ class Rows(Trial):
     def test_columns_by_hand(self):
         make(self.path, [(bytes.fromhex(PHONE), 2 + at, *row) for at, row in enumerate(ROWS)] + [(bytes.fromhex(PHONE), 9, 0x0200, b"\1")])
         self.moved("--copy")
-        found = self.ask("SELECT number, place, message, count, kind, day::text, time::text, latitude, longitude, speed, altitude, direction, mileage FROM position ORDER BY 1, 2")
+        found = self.ask("SELECT number, place, message, count, kind, day::text, time::text, latitude, longitude, speed, altitude, direction,"
+            " mileage FROM position ORDER BY 1, 2")
         self.assertEqual(found, [
             (2, 0, 0x0200, 1, 0, "2024-03-05", "2024-03-05 00:00:30+08", 20.0, 113.0, 60.0, 10, 90, 24.5),
             (3, 0, 0x0200, 1, 0, "2099-12-31", "2099-12-31 23:59:59+08", -33.856784, -151.215297, 60.0 * 0, 0, 90, None),
@@ -107,13 +108,15 @@ class Rows(Trial):
             (9, 0, 0x0200, 0, 0, "1970-01-01", None, None, None, None, None, None, None),
         ])
         self.assertEqual([bytes(it) for it, in self.ask("SELECT octets FROM position ORDER BY number, place")], [*FIXES, b"\1"])
-        self.assertEqual(self.ask("SELECT items FROM position WHERE number = 4 AND place = 1"), [({"signal": 25, "mileage": [429496729.5, 123.4], "satellites": 9},)])
+        items = {"signal": 25, "mileage": [429496729.5, 123.4], "satellites": 9}
+        self.assertEqual(self.ask("SELECT items FROM position WHERE number = 4 AND place = 1"), [(items,)])
 
     def test_sums_are_those_of_the_file(self):
         rows = rows_of(PHONE, range(2, 40)) + [(bytes.fromhex(OTHER), 7, 0x0704, batch(FIXES))]
         make(self.path, rows)
         self.moved("--copy")
-        self.assertEqual(int(self.ask("SELECT sum(digest(number, place, message, count, kind, octets)) FROM position")[0][0]), sum(Unit(*row[1:]).sum() for row in rows))
+        total = self.ask("SELECT sum(digest(number, place, message, count, kind, octets)) FROM position")[0][0]
+        self.assertEqual(int(total), sum(Unit(*row[1:]).sum() for row in rows))
 
     def test_a_day_has_a_table(self):
         # A batch over midnight: each position stands under its own day
@@ -153,7 +156,8 @@ class Rows(Trial):
             words = [archive.__file__, f"{self.folder}/{name}/platform.db", "--name", name, "--database", self.dsn, "--rows", "16"]
             ran.append(subprocess.Popen([sys.executable, *words], stdout=subprocess.DEVNULL))
         self.assertEqual([it.wait() for it in ran], [0, 0])
-        self.assertEqual(self.ask("SELECT name, count(*), count(DISTINCT number) FROM position JOIN platform ON id = platform GROUP BY 1 ORDER BY 1"), [("a", 3000, 3000), ("b", 3000, 3000)])
+        found = self.ask("SELECT name, count(*), count(DISTINCT number) FROM position JOIN platform ON id = platform GROUP BY 1 ORDER BY 1")
+        self.assertEqual(found, [("a", 3000, 3000), ("b", 3000, 3000)])
 
 
 class Views(Trial):
@@ -177,7 +181,8 @@ class Views(Trial):
             self.assertAlmostEqual(row[3], self.STEP, places=3)
 
     def test_mileage_a_day(self):
-        found = self.ask("SELECT positions, first::text, last::text, km_by_positions, km_by_odometer, top_speed FROM mileage_a_day WHERE phone = %s AND day = today() - 1", SHORT)
+        found = self.ask("SELECT positions, first::text, last::text, km_by_positions, km_by_odometer, top_speed FROM mileage_a_day"
+            " WHERE phone = %s AND day = today() - 1", SHORT)
         self.assertEqual(found[0][:3], (10, f"{YESTERDAY} 08:00:00+08", f"{YESTERDAY} 08:18:00+08"))
         self.assertAlmostEqual(found[0][3], 9 * self.STEP / 1000, places=6)
         self.assertAlmostEqual(found[0][4], 0.9)
@@ -202,8 +207,8 @@ class Views(Trial):
     def test_rows_that_stand_twice(self):
         with contextlib.closing(sqlite3.connect(self.path)) as base:
             # The rows of numbers 3 and 4 again under the same serials; under that of 5 another body; 6 under another serial
-            for number, body in [(3 + 65_536, self.rows[1][3]), (4 + 65_536, self.rows[2][3]), (5 + 65_536, self.rows[4][3]), (9 + 65_536, self.rows[4][3])]:
-                base.execute("INSERT INTO rows808 VALUES (?, ?, 512, ?)", (bytes.fromhex(PHONE), number, body))
+            for number, of in [(3, 3), (4, 4), (5, 6), (9, 6)]:
+                base.execute("INSERT INTO rows808 VALUES (?, ?, 512, ?)", (bytes.fromhex(PHONE), number + 65_536, self.rows[of - 2][3]))
             base.commit()
         self.moved("--copy")
         self.assertEqual(self.ask("SELECT first, second, day::text FROM twice ORDER BY 1"), [(3, 65_539, str(YESTERDAY)), (4, 65_540, str(YESTERDAY))])
@@ -213,7 +218,8 @@ class Views(Trial):
             self.skipTest("PostGIS is not installed")
         self.ask("CREATE SCHEMA shapes; CREATE EXTENSION postgis SCHEMA shapes")
         self.moved("--copy")
-        found = self.ask("SELECT positions, shapes.ST_NPoints(geom), shapes.ST_AsText(shapes.ST_StartPoint(geom)) FROM track_shape WHERE phone = %s AND day = today() - 1", SHORT)
+        found = self.ask("SELECT positions, shapes.ST_NPoints(geom), shapes.ST_AsText(shapes.ST_StartPoint(geom)) FROM track_shape"
+            " WHERE phone = %s AND day = today() - 1", SHORT)
         self.assertEqual(found, [(10, 10, "POINT(113 22)")])
         self.assertEqual(self.ask("SELECT shapes.ST_X(geom), shapes.ST_Y(geom) FROM position_shape WHERE number = 3"), [(113.0, 22.001)])
 
@@ -224,7 +230,8 @@ class Fixes(Trial):
     def fixes(self, *words):
         out, said = io.StringIO(), io.StringIO()
         with contextlib.redirect_stdout(out), contextlib.redirect_stderr(said):
-            status = archive_fixes.main(["--phone", "013912345678", "--name", "a", "--database", self.dsn, "--terminal", f"{self.folder}/other/terminal.db", *words])
+            status = archive_fixes.main(["--phone", "013912345678", "--name", "a", "--database", self.dsn, "--terminal",
+                f"{self.folder}/other/terminal.db", *words])
         return status, out.getvalue().split(), said.getvalue()
 
     def record(self, count):
@@ -282,7 +289,11 @@ class InTheWay(Trial):
         self.moved("--rows", "16")
 
     def test_rows_that_the_database_lacks_or_has_otherwise_stay(self):
-        for change in ("DELETE FROM position WHERE number = 30", "UPDATE position SET octets = octets || '\\x00' WHERE number = 31", "UPDATE position SET kind = 1 WHERE number = 32"):
+        for change in (
+            "DELETE FROM position WHERE number = 30",
+            "UPDATE position SET octets = octets || '\\x00' WHERE number = 31",
+            "UPDATE position SET kind = 1 WHERE number = 32",
+        ):
             with self.subTest(change=change):
                 self.moved("--copy")
                 self.ask(change)

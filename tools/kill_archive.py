@@ -260,7 +260,8 @@ class Rounds:
         self.fleet.look(whole=True)
         rows = sum(map(len, self.fleet.rows.values()))
         whom = "the server" if self.is_server else "the tool"
-        print(f"{whom}: {self.kills} kills in {self.rounds} rounds, {rows:,} rows, {sum(self.fleet.gone.values()):,} of them moved: none lost, doubled or changed")
+        moved = sum(self.fleet.gone.values())
+        print(f"{whom}: {self.kills} kills in {self.rounds} rounds, {rows:,} rows, {moved:,} of them moved: none lost, doubled or changed")
         for end, count in sorted(self.ends.items()):
             print(f"  {count} {end}")
 
@@ -308,7 +309,8 @@ def steps(asked, server):
             if not all(fleet.gone.values()):
                 raise Broken(f"behind step {step} rows stayed: {fleet.gone}")
         if ran.returncode == 0:
-            print(f"steps: {kills} kills, before each {'' if asked.steps == 1 else f'{asked.steps}. '}call of {step - 1}: none lost, doubled or changed")
+            each = "each" if asked.steps == 1 else f"each {asked.steps}."
+            print(f"steps: {kills} kills, before {each} call of {step - 1}: none lost, doubled or changed")
             return
         kills += 1
         step += asked.steps
