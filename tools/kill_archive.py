@@ -331,6 +331,8 @@ def main():
     asked = words()
     if asked.program:
         asked.program = os.path.realpath(asked.program)
+    # So that no server is left behind where this is told to stop.
+    signal.signal(signal.SIGTERM, lambda *_: sys.exit(1))
     try:
         with Server() as server:
             for kills, is_server in ((asked.kills, False), (asked.server, True)):
