@@ -13,4 +13,5 @@ pub mod Report
 pub mod Came
 pub mod Running
 pub mod Answered
+pub mod Scripted
 pub mod Steps

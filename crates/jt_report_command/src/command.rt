@@ -61,6 +61,7 @@ fn report_noted<K: Sink, D: Dial, C: Clock, V: Vault>(
         (V.may_fail terminal.old.vault) (V.may_fail terminal.new.vault) }
     ensures write_fault { result ≡ Status.WriteFault →
         Rose (K.faults sink.old) (K.faults sink.new) }
+    ensures write_still { result ≢ Status.WriteFault → K.faults sink.new ≡ K.faults sink.old }
     ensures store_fault { result ≡ Status.StoreFault →
         Rose (V.faults terminal.old.vault) (V.faults terminal.new.vault) }
     ensures no_read_fault { result ≢ Status.ReadFault }
@@ -88,6 +89,7 @@ fn tell_error<K: Sink>(alloc: Global, sink: &mut K, error: FixesError) -> Status
     ensures read_fault { error ≡ noted.ReadFailed → result ≡ Status.ReadFault }
     ensures write_fault { result ≡ Status.WriteFault →
         Rose (K.faults sink.old) (K.faults sink.new) }
+    ensures write_still { result ≢ Status.WriteFault → K.faults sink.new ≡ K.faults sink.old }
 {
     match error {
         FixesError::BadLine(number, said) => tell_bad_line(alloc, sink, number, &said),
@@ -133,6 +135,7 @@ fn report_from<S: Source, K: Sink, D: Dial, C: Clock, V: Vault>(
         S.faults source.new ≡ S.faults source.old }
     ensures write_fault { result ≡ Status.WriteFault →
         Rose (K.faults sink.old) (K.faults sink.new) }
+    ensures write_still { result ≢ Status.WriteFault → K.faults sink.new ≡ K.faults sink.old }
     ensures store_fault { result ≡ Status.StoreFault →
         Rose (V.faults terminal.old.vault) (V.faults terminal.new.vault)
         ⊎ WhereKnown (V.holds terminal.new.vault) (λ held.
@@ -162,6 +165,7 @@ fn tell_refused<K: Sink>(alloc: Global, sink: &mut K, error: StoreError) -> Stat
     ensures ends { EndsSo (came_at error) result }
     ensures write_fault { result ≡ Status.WriteFault →
         Rose (K.faults sink.old) (K.faults sink.new) }
+    ensures write_still { result ≢ Status.WriteFault → K.faults sink.new ≡ K.faults sink.old }
 {
     match error {
         StoreError::Failed => answer_early_end(alloc, sink, EarlyEnd::StoreFault),
@@ -199,11 +203,13 @@ pub fn report<S: Source, K: Sink, D: Dial, C: Clock, V: Vault>(
     // Why a run ends with a fault.
     ensures read_fault { result.status ≡ Status.ReadFault →
         Rose (S.faults source.old) (S.faults source.new) }
-    // Every other status, so Memory too, comes only where the source's count of faults stood still.
+    // Every other status, so Memory too, comes only where the count of faults stood still.
     ensures read_still { result.status ≢ Status.ReadFault →
         S.faults source.new ≡ S.faults source.old }
     ensures write_fault { result.status ≡ Status.WriteFault →
         Rose (K.faults sink.old) (K.faults sink.new) }
+    ensures write_still { result.status ≢ Status.WriteFault →
+        K.faults sink.new ≡ K.faults sink.old }
     ensures store_fault { result.status ≡ Status.StoreFault →
         Rose (V.faults vault) (V.faults result.vault)
         ⊎ WhereKnown (V.holds result.vault) (λ held. pending_count held ≡ V.limit vault) }

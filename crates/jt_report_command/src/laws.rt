@@ -3,15 +3,21 @@
 ghost use Rattle.std.specs.Prelude.{◌≡◌, ◌≢◌, ◌≤◌, ◌⊎◌, ℕ, List, [], Option};
 ghost use Rattle.jt_value.specs.Counts.{Rose};
 ghost use Rattle.jt_value.specs.declared.phone.Phone.{Phone};
+ghost use Rattle.jt_outside.specs.Time.{Time};
 ghost use Rattle.jt_input.specs.declared.status.Status.{Status};
 ghost use Rattle.jt_input.specs.declared.status.Status.TheVariants as status;
+ghost use Rattle.jt_store.specs.Vaults.{Held};
 ghost use Rattle.jt_terminal_rule.specs.declared.settings.Settings.{Settings};
+ghost use Rattle.jt_terminal_rule.specs.declared.state.Phase.TheVariants.{Down};
+ghost use Rattle.jt_terminal_rule.specs.declared.state.State.{State};
 ghost use Rattle.jt_terminal_steps.specs.Running.{IsStarted};
 ghost use Rattle.jt_agent.specs.Tries.{Between, Reports};
 ghost use Rattle.jt_agent.specs.declared.reporting.Outcome.{Outcome};
 ghost use Rattle.jt_agent.specs.declared.reporting.Outcome.TheVariants.{Done, Memory};
-ghost use Rattle.jt_report_command.specs.Answered.{HasAll, HasAnswers, WereFine};
+ghost use Rattle.jt_report_command.specs.Answered.{AnswersAll, HasAll, HasAnswers, WereFine};
+ghost use Rattle.jt_report_command.specs.Noting.{noted_all};
 ghost use Rattle.jt_report_command.specs.Running.{RunsReport, Scene};
+ghost use Rattle.jt_report_command.specs.Scripted.{HoldsAcceptances, IsInTime, IsSoon};
 ghost use Rattle.jt_terminal_rule.specs.PlainSettings.{settings_of};
 
 /// Want of memory before anything was done is a run of `report`, whatever it was told.
@@ -43,3 +49,22 @@ pub fn law_of_answered_runs()
         ended ≢ status.ReadFault → ended ≢ status.WriteFault →
         (ended ≡ status.Done) ⊎ (ended ≡ status.Memory) }
 {}
+
+/// A script that holds, in order, the acceptances of all that a terminal without a line sends once one is opened, answers all that it
+/// sends, in time: where none of its waits passes and no heartbeat is due, as where the clock's answers all come within the first
+/// wait. So the two laws above speak of a dial whose first link has such a script. A terminal that started, and recorded fixes, has
+/// no line.
+pub fn law_of_acceptances()
+    ensures in_time { (terminal : State) (octets : List ℕ) (time : Time) → terminal.phase ≡ Down →
+        HoldsAcceptances terminal octets → IsInTime terminal octets time →
+        AnswersAll terminal octets time }
+    ensures soon { (terminal : State) (octets : List ℕ) (time : Time) → terminal.phase ≡ Down →
+        HoldsAcceptances terminal octets → IsSoon terminal.timing time →
+        AnswersAll terminal octets time }
+    ensures started { (settings : Settings) (held : Option Held) (started : State)
+        (fixes : List (List ℕ)) → IsStarted settings held started →
+        (noted_all started fixes).phase ≡ Down }
+{
+    jt_stream::law_front();
+    jt_stream::law_frames();
+}

@@ -1,6 +1,6 @@
 //! What `report` writes of what came of it.
 
-ghost use Rattle.std.specs.Prelude.{◌≡◌, ◌⊎◌};
+ghost use Rattle.std.specs.Prelude.{◌≡◌, ◌≢◌, ◌⊎◌};
 ghost use Rattle.jt_value.specs.Counts.{Rose};
 ghost use Rattle.jt_input.specs.Answer.{AnswersReply, CutsShort};
 ghost use Rattle.jt_report_command.specs.Came.{BadLine, Reported, report_text};
@@ -26,6 +26,7 @@ pub(crate) fn tell_bad_line<K: Sink>(
     ensures status { (result ≡ Status.Refused) ⊎ CutsShort result }
     ensures write_fault { result ≡ Status.WriteFault →
         Rose (K.faults sink.old) (K.faults sink.new) }
+    ensures write_still { result ≢ Status.WriteFault → K.faults sink.new ≡ K.faults sink.old }
 {
     let mut text = String::new(alloc);
     match push_bad_line_of(&mut text, number, said) {
@@ -49,10 +50,15 @@ pub(crate) fn tell_outcome<K: Sink>(
         ⊎ CutsShort result }
     ensures write_fault { result ≡ Status.WriteFault →
         Rose (K.faults sink.old) (K.faults sink.new) }
+    ensures write_still { result ≢ Status.WriteFault → K.faults sink.new ≡ K.faults sink.old }
 {
+    let status = status_of(outcome);
+    if status == Status::Memory {
+        return status;
+    }
     let mut text = String::new(alloc);
     match push_outcome(alloc, &mut text, outcome, accepted, recorded) {
-        Ok(()) => write_reply(sink, text.as_bytes(), status_of(outcome)),
+        Ok(()) => write_reply(sink, text.as_bytes(), status),
         Err(_) => Status::Memory,
     }
 }
