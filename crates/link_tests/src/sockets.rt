@@ -136,7 +136,7 @@ fn a_short_write_is_counted_short(rt: HostRuntime) -> Result<(), Fail> {
 
 // How long the other end of the next test reads nothing, in seconds: longer than a write waits, so that one which waits without end
 // shows.
-const DEAF: u64 = 20;
+const DEAF: u64 = 40;
 
 // What one write to the link that comes gives, and how many milliseconds it took. Failed stands for no link too.
 fn write_once<L: Listen, C: Clock>(listen: &mut L, clock: &mut C, octets: &[u8]) -> (Put, u64)
@@ -166,7 +166,7 @@ fn a_write_of_an_accepted_link_waits_for_a_time(rt: HostRuntime) -> Result<(), F
     let (put, passed) = child.join(&rt);
     assert!(rt; matches!(put, Put::Count(count) if 0 < count && count < MANY));
     assert!(rt; passed >= 4_900);
-    assert!(rt; passed < 15_000);
+    assert!(rt; passed < 35_000);
     Ok(())
 }
 

@@ -38,8 +38,8 @@ const KEPT_LOOKS: [keeper_calls::Call; 5] = [
     keeper_calls::Call::From(PHONE, 3),
 ];
 
-// What a terminal begins with, fixes, the code, a unit of three fixes and its acceptance.
-const HELD: [vault_calls::Call; 8] = [
+// What a terminal begins with, fixes, the code, a unit of three fixes and one of one fix, each with its acceptance.
+const HELD: [vault_calls::Call; 10] = [
     vault_calls::Call::Load,
     vault_calls::Call::Code(Some(b'C')),
     vault_calls::Call::Note(1),
@@ -47,6 +47,8 @@ const HELD: [vault_calls::Call; 8] = [
     vault_calls::Call::Note(3),
     vault_calls::Call::Note(4),
     vault_calls::Call::Form(3),
+    vault_calls::Call::Accept,
+    vault_calls::Call::Form(1),
     vault_calls::Call::Accept,
 ];
 

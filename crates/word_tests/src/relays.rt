@@ -98,6 +98,7 @@ fn all_fixes_and_then_none(rt: HostRuntime) {
     let alloc = rt.alloc();
     let first = stores(&rt, alloc, THREE_FIXES, 9, (0, 0));
     let first = relayed(&rt, alloc, first, Status::Done);
+    assert!(rt; first.sink.octets() == b"relayed=3 of 3\n".as_slice());
     let second = relayed(&rt, alloc, first, Status::Done);
     let text = "relayed=3 of 3\nrelayed=0 of 3\n";
     expect_told(&rt, alloc, second, text, 3);
@@ -174,6 +175,7 @@ fn a_relay_goes_on_behind_a_fault(rt: HostRuntime) {
     let alloc = rt.alloc();
     let first = stores(&rt, alloc, THREE_FIXES, 9, (0, 3));
     let first = relayed(&rt, alloc, first, Status::StoreFault);
+    assert!(rt; first.sink.octets() == b"store fault\n".as_slice());
     let second = relayed(&rt, alloc, first, Status::Done);
     expect_told(&rt, alloc, second, "store fault\nrelayed=2 of 3\n", 3);
 }
