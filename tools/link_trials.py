@@ -3,7 +3,7 @@
 
     tools/link_trials.py PROGRAM [TRIAL ..]
 
-without trials all of them, about eight minutes. PROGRAM is crates/jt808/out/jt808 once it is built. Each trial prints a line with
+without trials all of them, about nine minutes. PROGRAM is crates/jt808/out/jt808 once it is built. Each trial prints a line with
 its name, what was seen, and `ok` or `WRONG`. docs/MEASURES.md has the rows.
 
     stopped   two sessions are open while the program is stopped and goes on (SIGSTOP, SIGCONT); a report likewise
@@ -14,12 +14,16 @@ its name, what was seen, and `ok` or `WRONG`. docs/MEASURES.md has the rows.
     deaf      a peer that sends and never reads, and others beside it
     away      a report whose platform comes 20 seconds late
     idle      a peer that sends nothing for three minutes, and one that speaks after two
+    passed    accepts that fail for one connection, while two are open (by strace)
+    threads   no thread can be made for a while (as another user where root runs it)
 """
+import glob
 import hashlib
 import os
 import re
 import resource
 import select
+import shutil
 import signal
 import socket
 import subprocess
@@ -27,6 +31,8 @@ import sys
 import tempfile
 import time
 
+# The user as whom root runs a program that gets few threads: the system counts nobody else's.
+OTHER_USER = 64998
 PHONE = bytes.fromhex("013912345678")
 FLEET = b"secret 3132\nplate 4a54383038\nterminal 31323334353637\n"
 FIX = b"00000000000000030000000106bc3e40000000000000240101000000\n"
@@ -67,17 +73,23 @@ def free_port():
 class Program:
     """The program with these words, in a folder of its own."""
 
-    def __init__(self, words, given, descriptors=None):
+    def __init__(self, words, given, descriptors=None, threads=None, under=()):
         self.folder = tempfile.TemporaryDirectory(prefix="links-")
+        if threads:
+            os.chmod(self.folder.name, 0o777)
 
         def limit():
             if descriptors:
                 resource.setrlimit(resource.RLIMIT_NOFILE, (descriptors, descriptors))
+            if threads:
+                resource.setrlimit(resource.RLIMIT_NPROC, (threads, threads))
+                if os.geteuid() == 0:
+                    os.setuid(OTHER_USER)
 
         # A file, so that the program never waits for this script to read.
         self.text = open(f"{self.folder.name}/text", "w+b")
         self.run = subprocess.Popen(
-            [PROGRAM, *words.split()],
+            [*under, PROGRAM, *words.split()],
             cwd=self.folder.name,
             stdin=subprocess.PIPE,
             stdout=self.text,
@@ -108,9 +120,9 @@ class Program:
         self.folder.cleanup()
 
 
-def platform(sessions, descriptors=None):
+def platform(sessions, descriptors=None, threads=None, under=()):
     port = free_port()
-    run = Program(f"platform --port {port} --sessions {sessions}", FLEET, descriptors)
+    run = Program(f"platform --port {port} --sessions {sessions}", FLEET, descriptors, threads, under)
     for _ in range(600):
         # The listener is there once the port is taken.
         with socket.socket() as one:
@@ -352,11 +364,92 @@ def idle():
     return say("idle", f"the quiet peer saw the end after {took:.1f} s, the other was answered behind it; status {status}", good)
 
 
+def passed():
+    if shutil.which("strace") is None:
+        return say("passed", "no strace on this machine", False)
+    good = True
+    for error in ("ECONNABORTED", "EPROTO", "EPERM", "ENETDOWN", "EHOSTUNREACH", "ENOBUFS"):
+        # The third accept and the two behind it fail before the system takes a connection.
+        inject = f"inject=accept4:error={error}:when=3..5"
+        run, port = platform(4, under=("strace", "-f", "-qq", "-o", "/dev/null", "-e", "trace=accept4", "-e", inject))
+        links = [connect(port, 20) for _ in range(4)]
+        begun = time.time()
+        try:
+            answers = [len(ask(link, heartbeat())) for link in links]
+        except TimeoutError:
+            answers = []
+        took = time.time() - begun
+        for link in links:
+            link.close()
+        status, text = run.wait(30)
+        run.end()
+        right = answers == [20] * 4 and status == 0 and text.count(" ended read=15") == 4
+        good = say(f"passed {error}", f"{len(answers)} of 4 answered within {took:.1f} s; status {status}", right) and good
+    return good
+
+
+def threads_of_user():
+    """How many threads the user who runs this has."""
+    count = 0
+    for name in glob.glob("/proc/[0-9]*/status"):
+        try:
+            text = open(name).read()
+        except OSError:
+            continue
+        if int(re.search(r"^Uid:\s+(\d+)", text, re.M)[1]) == os.getuid():
+            count += int(re.search(r"^Threads:\s+(\d+)", text, re.M)[1])
+    return count
+
+
+def answered(link, seconds):
+    """Whether a heartbeat that was sent is answered in time."""
+    return bool(select.select([link], [], [], seconds)[0]) and len(link.recv(4096)) == 20
+
+
+def threads():
+    room = 12
+    run, port = platform(40, threads=room if os.geteuid() == 0 else threads_of_user() + room)
+    served, waiting = [], None
+    while waiting is None and len(served) < 2 * room:
+        link = connect(port)
+        link.sendall(heartbeat())
+        if answered(link, 1.5):
+            served.append(link)
+        else:
+            waiting = link
+    first = len(served)
+    # A thread ends: the link that waits gets one. The next likewise, though none of those that are open hangs up by itself.
+    seen = []
+    for _ in range(3):
+        if waiting is None:
+            break
+        served.pop(0).close()
+        seen.append(answered(waiting, 4))
+        served.append(waiting)
+        waiting = connect(port)
+        waiting.sendall(heartbeat())
+    # No thread ends: after about five seconds the platform serves the link without one.
+    begun = time.time()
+    alone = waiting is not None and answered(waiting, 20)
+    took = time.time() - begun
+    for link in served:
+        link.close()
+    if waiting:
+        waiting.close()
+    run.end()
+    good = first < 2 * room and seen == [True] * 3 and alone and 3 < took < 12
+    return say(
+        "threads",
+        f"{first} links were served at once, the next ones each as another hung up: {seen}; without that one was served after {took:.1f} s",
+        good,
+    )
+
+
 if __name__ == "__main__":
     if len(sys.argv) < 2:
         raise SystemExit(__doc__)
     PROGRAM = os.path.abspath(sys.argv[1])
     resource.setrlimit(resource.RLIMIT_NOFILE, (4096, resource.getrlimit(resource.RLIMIT_NOFILE)[1]))
-    trials = {it.__name__: it for it in (stopped, fenced, short, many, crowd, deaf, away, idle)}
+    trials = {it.__name__: it for it in (stopped, fenced, short, many, crowd, deaf, away, idle, passed, threads)}
     wanted = sys.argv[2:] or list(trials)
     sys.exit(0 if all([trials[it]() for it in wanted]) else 1)

@@ -6,7 +6,8 @@
 For each case: `report` with one fix in a folder whose `terminal.db` is that case, and `platform` in one whose `platform.db` is,
 with a terminal that registers. Both have to end with `store fault` and status 5, and the file has to be as it was, octet for
 octet. Likewise in a folder that was removed, and in one that cannot be written, where `view` still works (a tmpfs that is mounted
-read-only, for which it needs the leave to mount). Two processes: of two `report`, and of two `platform`, in one folder the second
+read-only, for which it needs the leave to mount). Where each store is the other one's file, and for `relay` where both stores are
+one file, of either kind. Two processes: of two `report`, and of two `platform`, in one folder the second
 is refused, and the first goes on. A full disk (a small tmpfs): `store fault`, the file is sound for sqlite3 and has what was
 accepted, and once there is room the next run goes on. It prints a line for each case; the status is 1 where one is wrong.
 """
@@ -103,6 +104,24 @@ FILES = {
 }
 
 
+KEEPER = """CREATE TABLE registered (phone BLOB PRIMARY KEY, plate BLOB UNIQUE, terminal BLOB UNIQUE);
+CREATE TABLE rows808 (phone BLOB, number INTEGER, id INTEGER, body BLOB, PRIMARY KEY (phone, number));"""
+VAULT = """CREATE TABLE fix (place INTEGER PRIMARY KEY, body BLOB);
+CREATE TABLE unit (place INTEGER PRIMARY KEY, serial INTEGER, id INTEGER, body BLOB, fixes INTEGER);
+CREATE TABLE state (one INTEGER PRIMARY KEY, units_accepted INTEGER, fixes_accepted INTEGER, mark INTEGER, next INTEGER,
+code BLOB); INSERT INTO state VALUES (1, 0, 0, 65535, 0, NULL);"""
+
+
+def make_keeper(path):
+    """What `platform` makes."""
+    make_database(path, META, "INSERT INTO meta VALUES (2)", KEEPER)
+
+
+def make_vault(path):
+    """What `report` makes."""
+    make_database(path, META, "INSERT INTO meta VALUES (1)", VAULT)
+
+
 def held(path):
     if os.path.isdir(path):
         return sorted(os.listdir(path))
@@ -124,6 +143,14 @@ def over_platform(programs, folder, make):
     platform, port = programs.platform(folder)
     ended(programs.report(f"{folder}/elsewhere", port))
     return ended(platform), before == held(f"{folder}/platform.db")
+
+
+def relay_over_one_file(programs, folder, make):
+    make(f"{folder}/platform.db")
+    os.link(f"{folder}/platform.db", f"{folder}/terminal.db")
+    before = held(f"{folder}/platform.db")
+    found = ended(programs.start(folder, ["relay", "--phone", kill_loop.PHONES["2013"]], ""))
+    return found, before == held(f"{folder}/platform.db")
 
 
 def remove_folder():
@@ -205,6 +232,10 @@ def cases():
     for name, make in FILES.items():
         yield f"report over {name}", over_terminal, make
         yield f"platform over {name}", over_platform, make
+    yield "report over a platform's file", over_terminal, make_keeper
+    yield "platform over a terminal's file", over_platform, make_vault
+    yield "relay over one file of a platform", relay_over_one_file, make_keeper
+    yield "relay over one file of a terminal", relay_over_one_file, make_vault
     yield "report in a folder that was removed", report_without_folder, None
     yield "platform in a folder that was removed", platform_without_folder, None
     yield "two reports", two_reports, None

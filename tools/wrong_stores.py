@@ -4,10 +4,10 @@ sql_tests has to fail at each.
 
     tools/wrong_stores.py [NAME..]
 
-It copies the crates that the tests stand on into a temporary folder, changes one line of jt_sql, and runs `rt try --test` in
-sql_tests there (some three minutes of one processor each), over the tests of what the tables hold: those of stops and of other
-files take longer, and are left out. First it runs these tests over the stores as they are, where they have to pass. The status
-is 0 only where each wrong body fails a test.
+It copies the crates that the tests stand on into a temporary folder, changes one line of jt_sql or jt_store_answers, and runs
+`rt try --test` in sql_tests there (some three minutes of one processor each), over the tests of what the tables hold: those of
+stops and of other files take longer, and are left out. First it runs these tests over the stores as they are, where they have to
+pass. The status is 0 only where each wrong body fails a test.
 """
 import os
 import re
@@ -17,39 +17,69 @@ import sys
 import tempfile
 
 ROOT = os.path.dirname(os.path.dirname(os.path.realpath(__file__)))
-CRATES = ("jt_value", "jt_layout", "jt_position", "jt_store", "jt_sql", "sql_tests")
-MODULES = ("files", "keeper_calls", "keeper_tests", "table_tests", "vault_calls", "vault_tests")
-# The file of jt_sql, what stands there once, and what is put in its place.
+CRATES = ("jt_value", "jt_layout", "jt_position", "jt_store", "jt_relay", "jt_store_answers", "jt_sql", "sql_tests")
+MODULES = ("connections", "files", "keeper_calls", "keeper_tests", "table_tests", "units", "vault_calls", "vault_tests")
+# The file, what stands there once, and what is put in its place.
 WRONG = {
     "two rows in place of one": (
-        "rows.rt",
+        "jt_sql/src/rows.rt",
         "    add(work, phone, row)?;\n    Ok(Adding::Done)",
-        "    add(work, phone, row)?;\n    work.execute(ADD, params![phone, i64::MAX, 0i64, row.body.as_slice()])?;\n    Ok(Adding::Done)",
+        "    add(work, phone, row)?;\n    change(work, ADD, params![phone, i64::MAX, 0i64, row.body.as_slice()])?;\n    Ok(Adding::Done)",
     ),
     "an append that answers before its commit": (
-        "keeping.rt",
-        "    let adding = rows::append(&mut work, phone.digits.as_slice(), row)?;\n    work.commit()?;",
-        "    let adding = rows::append(&mut work, phone.digits.as_slice(), row)?;",
+        "jt_sql/src/keeping.rt",
+        "    let adding = rows::append(&mut work, phone.digits.as_slice(), row);\n    settled(work, adding)",
+        "    rows::append(&mut work, phone.digits.as_slice(), row)",
     ),
     "a fix that is answered before its commit": (
-        "vaulting.rt",
-        "    let adding = note_within(&mut work, fix)?;\n    work.commit()?;",
-        "    let adding = note_within(&mut work, fix)?;",
+        "jt_sql/src/vaulting.rt",
+        "    let adding = note_within(&mut work, fix);\n    settled(work, adding)",
+        "    note_within(&mut work, fix)",
     ),
     "an acceptance that leaves the mark": (
-        "vaulting.rt",
+        "jt_sql/src/vaulting.rt",
         "    state::set_accepted(work, units, fixes, unit.serial)",
         "    state::set_accepted(work, units, fixes, state.mark)",
     ),
     "a load that counts units by the last place": (
-        "vaulting.rt",
+        "jt_sql/src/vaulting.rt",
         "    let count = units::count_all(work)?;",
         "    let count = units::count(work)?;",
     ),
     "a load that counts fixes by the last place": (
-        "vaulting.rt",
+        "jt_sql/src/vaulting.rt",
         "    let recorded = fixes::count_all(work)?;",
         "    let recorded = fixes::count(work)?;",
+    ),
+    "a batch that is accepted as one fix": (
+        "jt_sql/src/vaulting.rt",
+        "state.fixes_accepted.saturating_add(i64::from(unit.count))",
+        "state.fixes_accepted.saturating_add(i64::from(unit.count.min(1)))",
+    ),
+    "a batch that is formed as one fix": (
+        "jt_sql/src/units.rt",
+        "params![place, serial, i64::from(unit.id), body, unit.count]",
+        "params![place, serial, i64::from(unit.id), body, unit.count.min(1)]",
+    ),
+    "a load that believes the count of accepted fixes": (
+        "jt_sql/src/vaulting.rt",
+        "carried == state.fixes_accepted && are_all(",
+        "0 <= carried && are_all(",
+    ),
+    "a load that believes the count of a unit": (
+        "jt_store_answers/src/order.rt",
+        "unit.count == carried(unit.id, unit.body.as_slice())",
+        "carried(unit.id, unit.body.as_slice()) >= 1",
+    ),
+    "a registration anew that keeps the terminal id": (
+        "jt_sql/src/registrations.rt",
+        "DO UPDATE SET plate = excluded.plate, terminal = excluded.terminal",
+        "DO UPDATE SET plate = excluded.plate",
+    ),
+    "a registration anew that keeps the plate": (
+        "jt_sql/src/registrations.rt",
+        "DO UPDATE SET plate = excluded.plate, terminal = excluded.terminal",
+        "DO UPDATE SET terminal = excluded.terminal",
     ),
 }
 
@@ -87,7 +117,7 @@ def main():
             copied(root)
             if name in WRONG:
                 file, old, new = WRONG[name]
-                path = f"{root}/crates/jt_sql/src/{file}"
+                path = f"{root}/crates/{file}"
                 with open(path) as source:
                     text = source.read()
                 if text.count(old) != 1:

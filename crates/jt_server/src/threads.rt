@@ -1,6 +1,6 @@
 //! The links of a listener, each in a thread of its own, over one hub.
 
-ghost use Rattle.std.specs.Prelude.{◌≡◌, ◌≢◌, ◌≤◌, ◌<◌, ◌+◌, ◌-◌, ◌^◌, ◌++◌, ◌⊎◌, ℕ, List, [], map, max, reverse, length, Option, Some, IfOk, IfSome, IsSomeAnd, MatchResult, option_map};
+ghost use Rattle.std.specs.Prelude.{◌≡◌, ◌≢◌, ◌≤◌, ◌<◌, ◌+◌, ◌-◌, ◌^◌, ◌++◌, ◌⊎◌, ℕ, List, [], map, max, reverse, length, Option, Some, IfOk, IfSome, IsSomeAnd, MatchResult, option_map, IfErr};
 ghost use Rattle.std.specs.Thread.{IsSync};
 ghost use Rattle.jt_value.specs.Counts.{Counts, RoseBy};
 ghost use Rattle.jt_outside.specs.Link.{wire_of};
@@ -23,7 +23,7 @@ ghost use Rattle.jt_value.specs.declared.limits.TheConstants.{INPUT_LIMIT};
 use crate::held::{Door, Held};
 use crate::passes::{join_unused, split_all};
 use crate::served::{ServeEnd, Served};
-use crate::work::{Given, Job, Work, serve_one};
+use crate::work::{Given, Job, Pledge, Work, serve_one};
 use jt_outside::{Accepted, Link, Listen};
 use jt_platform::Hub;
 use jt_session::Report;
@@ -34,7 +34,14 @@ use std::alloc::Global;
 use std::snapshot::Snapshot;
 use std::sync::Wait;
 use std::thread;
-use std::thread::{Scope, Threads};
+use std::thread::{Parker, Promise, PromisedHandle, Scope, SpawnError, Threads};
+use std::time::Duration;
+
+// How often a thread is tried to be made, and how long the wait between two tries is, in milliseconds: about five seconds in all
+// (this project's own).
+const MOST_TRIES: u32 = 51;
+
+const TRY_WAIT: u64 = 100;
 
 // What serving in threads gives back: the listener, the first pass, the links that were served, the last one first, and why no
 // more were accepted.
@@ -54,8 +61,8 @@ struct Back<K> {
 }
 
 /// Accepts links, up to as many as `sessions` says, at least 1, and serves each in a thread of its own, under the number of its
-/// place, from 1 on. Where a thread cannot be started the caller serves that link itself. All threads are joined, and the links
-/// are given back to the listener in order. The hub's history is empty.
+/// place, from 1 on. Where a thread cannot be started the caller waits and tries again, for about five seconds, and then serves
+/// that link itself. All threads are joined, and the links are given back to the listener in order. The hub's history is empty.
 ///
 /// Memory for the Closes, the passes and the reports is taken before the first link is accepted, and Memory comes only there: no
 /// link was accepted.
@@ -421,8 +428,9 @@ where
     ensures failed { pass.new.failed ≡ 0 }
     ensures up_to { AreUpTo 0 pass.new }
     ensures jobs { (m : ℕ) (job : _) → get_elem? jobs.new.items m ≡ some job → MatchResult job
-        (λ h. IsGiven pass.old.opening turn.now (D.pool door.old).coming m h.promise.pass.value
-        (wire_of D.Link.inbound D.Link.written D.Link.faults h.promise.link.value))
+        (λ h. IsGiven pass.old.opening turn.now (D.pool door.old).coming m
+        h.promise.given.value.pass.value
+        (wire_of D.Link.inbound D.Link.written D.Link.faults h.promise.given.value.link.value))
         (λ w.
         IsWorked (option_map (λ o. opening_of (P.tables o.start) (P.limit o.start) o.fleet o.secret)
         pass.old.opening) pass.old.opening turn.now (D.pool door.old).coming m w.pass
@@ -472,8 +480,9 @@ where
     ensures unused { AreUnused root.now.opening turn.now passes.new.items }
     ensures all { length passes.new.items + length jobs.new.items ≡ sessions }
     ensures jobs { (m : ℕ) (job : _) → get_elem? jobs.new.items m ≡ some job → MatchResult job
-        (λ h. IsGiven root.now.opening turn.now (D.pool door.old).coming m h.promise.pass.value
-        (wire_of D.Link.inbound D.Link.written D.Link.faults h.promise.link.value))
+        (λ h. IsGiven root.now.opening turn.now (D.pool door.old).coming m
+        h.promise.given.value.pass.value
+        (wire_of D.Link.inbound D.Link.written D.Link.faults h.promise.given.value.link.value))
         (λ w.
         IsWorked (option_map (λ o. opening_of (P.tables o.start) (P.limit o.start) o.fleet o.secret)
         root.now.opening) root.now.opening turn.now (D.pool door.old).coming m w.pass
@@ -524,7 +533,8 @@ fn start<
     requires number { (1 ≤ pass.number) × IsSomeAnd pass.opening (λ o. pass.number ≤ o.reserved) }
     requires new { pass.mine ≡ [] }
     ensures { MatchResult result
-        (λ h. (h.promise.pass.value ≡ pass) × (h.promise.link.value ≡ link)) (λ w.
+        (λ h. (h.promise.given.value.pass.value ≡ pass)
+        × (h.promise.given.value.link.value ≡ link)) (λ w.
         Serves (option_map (λ o. opening_of (P.tables o.start) (P.limit o.start) o.fleet o.secret)
         pass.opening) INPUT_LIMIT pass w.pass (wire_of K.inbound K.written K.faults link)
         (wire_of K.inbound K.written K.faults w.link) w.report × IsSamePass pass w.pass) }
@@ -533,9 +543,54 @@ fn start<
         link: Snapshot::of(&link),
         pass: Snapshot::of(&pass),
     };
-    match scope.spawn_with(given, move || serve_one(rt, alloc, turn, pass, link)) {
+    match spawn_patiently(
+        scope,
+        rt,
+        &given,
+        move || serve_one(rt, alloc, turn, pass, link),
+    ) {
         Ok(handle) => Ok(handle),
         Err(refused) => Err((refused.value)()),
+    }
+}
+
+// Starts a thread whose result keeps what was promised. Where none can be made it waits and tries again, up to as often as
+// MOST_TRIES says.
+fn spawn_patiently<
+    's,
+    E,
+    R: Wait,
+    G: Promise<T> + Drop,
+    F: FnOnce() -> T + Send + 's,
+    T: Send + Drop + 's,
+>(
+    scope: &'s Scope<'s, E>,
+    rt: &R,
+    given: &G,
+    work: F,
+) -> Result<PromisedHandle<T, Pledge<G>>, SpawnError<F>>
+    requires runs { F.pre work }
+    requires keeps { (r : T) → F.post work r → G.kept_by given.now r }
+    ensures ok { IfOk result (λ h. h.promise.given.value ≡ given.now) }
+    ensures err { IfErr result (λ e. e.value ≡ work) }
+{
+    let parker = Parker::new();
+    let mut work = work;
+    for _ in 1..MOST_TRIES {
+        match scope.spawn_with(pledge(given), work) {
+            Ok(handle) => return Ok(handle),
+            Err(refused) => work = refused.value,
+        }
+        parker.park_timeout(rt, Duration::from_millis(TRY_WAIT));
+    }
+    scope.spawn_with(pledge(given), work)
+}
+
+fn pledge<G>(given: &G) -> Pledge<G>
+    ensures { result.given.value ≡ given.now }
+{
+    Pledge {
+        given: Snapshot::of(given),
     }
 }
 
@@ -543,8 +598,8 @@ fn start<
 fn finish<R: Threads, K: Link + Drop, P: Keeper>(rt: &R, job: Job<K, P>) -> Work<K, P>
     ensures { (opening : Option (HubOpening P)) (of_turn : TurnId) (coming : Option (List Script))
         (m : ℕ) →
-        MatchResult job (λ h. IsGiven opening of_turn coming m h.promise.pass.value
-        (wire_of K.inbound K.written K.faults h.promise.link.value)) (λ w. IsWorked
+        MatchResult job (λ h. IsGiven opening of_turn coming m h.promise.given.value.pass.value
+        (wire_of K.inbound K.written K.faults h.promise.given.value.link.value)) (λ w. IsWorked
         (option_map (λ o. opening_of (P.tables o.start) (P.limit o.start) o.fleet o.secret) opening)
         opening of_turn coming m w.pass (wire_of K.inbound K.written K.faults w.link) w.report) →
         IsWorked (option_map (λ o. opening_of (P.tables o.start) (P.limit o.start) o.fleet o.secret)
@@ -571,8 +626,9 @@ fn join_all<R: Threads, D: Door, P: Keeper>(
     requires failed { pass.old.failed ≡ 0 }
     requires up_to { AreUpTo 0 pass.old }
     requires jobs { (m : ℕ) (job : _) → get_elem? jobs.items m ≡ some job → MatchResult job
-        (λ h. IsGiven pass.old.opening turn.now (D.pool before.value).coming m h.promise.pass.value
-        (wire_of D.Link.inbound D.Link.written D.Link.faults h.promise.link.value))
+        (λ h. IsGiven pass.old.opening turn.now (D.pool before.value).coming m
+        h.promise.given.value.pass.value
+        (wire_of D.Link.inbound D.Link.written D.Link.faults h.promise.given.value.link.value))
         (λ w.
         IsWorked (option_map (λ o. opening_of (P.tables o.start) (P.limit o.start) o.fleet o.secret)
         pass.old.opening) pass.old.opening turn.now (D.pool before.value).coming m w.pass

@@ -43,8 +43,18 @@ impl<K: Link, P: Keeper> Promise<Work<K, P>> for Given<K, P> {
     ghost kept_by = { λ given work. Serves (option_map (λ o. opening_of (P.tables o.start) (P.limit o.start) o.fleet o.secret) given.pass.value.opening) INPUT_LIMIT given.pass.value work.pass (wire_of K.inbound K.written K.faults given.link.value) (wire_of K.inbound K.written K.faults work.link) work.report × IsSamePass given.pass.value work.pass };
 }
 
+/// A promise as clauses see it, so that it can be given for each try to start one thread.
+#[derive(Drop)]
+pub(crate) struct Pledge<G> {
+    pub(crate) given: Snapshot<G>,
+}
+
+impl<T, G: Promise<T>> Promise<T> for Pledge<G> {
+    ghost kept_by = { λ pledge result. G.kept_by pledge.given.value result };
+}
+
 /// A thread that serves a link, or what the caller itself did in its place.
-pub(crate) type Job<K, P> = Result<PromisedHandle<Work<K, P>, Given<K, P>>, Work<K, P>>;
+pub(crate) type Job<K, P> = Result<PromisedHandle<Work<K, P>, Pledge<Given<K, P>>>, Work<K, P>>;
 
 /// Serves a link, and hangs up before the thread ends: what the peer sends behind a session's end is read by nobody.
 pub(crate) fn serve_one<R: Wait, K: Link, P: Keeper>(

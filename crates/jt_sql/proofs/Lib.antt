@@ -1,8 +1,6 @@
 -- How the proofs lie, for who changes them.
 --
 -- What was chosen stands in docs/DECISIONS.md, 'Stores in files', what was measured in docs/MEASURES.md.
--- answered says that its answer is not Full, and a lemma says the rest: a quantifier over definitions would make
--- a clause of Type 1. The relation of Reads is not found from _: write it, and let the lemma take it last.
 -- Crosses has a lemma for each type between SqlKeeper and the file, and each caller of run over it (main) one
 -- answer of one line. For the next large type: from the inside out, each search (sendable, crosses) depth 60
 -- fits 100000 under lets of the lemmas of its fields; over Items, Option and Vec of a type that instance as a
@@ -12,5 +10,3 @@
 -- (cache_pages: 16).
 
 pub mod Crosses
-mod Ordering
-mod Untelling

@@ -1,20 +1,20 @@
-//! A keeper over a connection that was handed in.
+//! A keeper over a connection: one that was handed in, or that of a file.
 
 ghost use Rattle.std.specs.Prelude.{◌≡◌, None, true};
 ghost use Rattle.jt_value.specs.declared.limits.TheConstants.{ROW_LIMIT};
 
-use crate::answers::{added, answered, changed};
 use crate::keeping;
 use crate::opens::{Opens, is_shut};
 use jt_store::{Keeper, Registered, Row, StoreError};
+use jt_store_answers::{added, answered, changed};
 use jt_value::Phone;
 use jt_value::limits::ROW_LIMIT;
 use sqlite::{Alter, Connection};
 use std::alloc::Global;
 use std::marker::Model;
 
-/// Keeps registrations and rows by an open connection, over any store of `sqlite`, with the tables, calls and refusals of
-/// `SqlKeeper`. A connection that was handed in with a transaction of its own makes each call Failed.
+/// Keeps registrations and rows by a connection, over any store of `sqlite`: an open one, or that of a file, which is `SqlKeeper`,
+/// with the same tables, calls and refusals. A connection that was handed in with a transaction of its own makes each call Failed.
 #[derive(Drop)]
 pub struct AdoptedKeeper<C> {
     connection: C,

@@ -1,20 +1,20 @@
-//! A vault over a connection that was handed in.
+//! A vault over a connection: one that was handed in, or that of a file.
 
 ghost use Rattle.std.specs.Prelude.{◌≡◌, None, true};
 ghost use Rattle.jt_value.specs.declared.limits.TheConstants.{FIX_LIMIT};
 
-use crate::answers::{added, answered, changed};
 use crate::opens::{Opens, is_shut};
 use crate::vaulting;
 use jt_position::Fix;
 use jt_store::{Loaded, StoreError, Unit, Vault};
+use jt_store_answers::{added, answered, changed};
 use jt_value::limits::FIX_LIMIT;
 use sqlite::{Alter, Connection};
 use std::alloc::Global;
 use std::marker::Model;
 
-/// Keeps fixes and units by an open connection, over any store of `sqlite`, with the tables, calls and refusals of `SqlVault`.
-/// A connection that was handed in with a transaction of its own makes each call Failed.
+/// Keeps fixes and units by a connection, over any store of `sqlite`: an open one, or that of a file, which is `SqlVault`, with the
+/// same tables, calls and refusals. A connection that was handed in with a transaction of its own makes each call Failed.
 #[derive(Drop)]
 pub struct AdoptedVault<C> {
     connection: C,

@@ -2,7 +2,6 @@
 
 ghost use Rattle.std.specs.Prelude.{◌<◌, ◌≤◌, ◌^◌, IfOk, IfSome};
 
-use crate::answers::Adding;
 use crate::asking::make;
 use crate::migration::migrate_all;
 use crate::opening::{begun, settled};
@@ -10,6 +9,7 @@ use crate::refused::Refused;
 use crate::versions::version;
 use crate::{registrations, rows};
 use jt_store::{Registered, Row};
+use jt_store_answers::Adding;
 use jt_value::Phone;
 use sqlite::{Alter, Connection, Transaction};
 use std::alloc::Global;
@@ -27,7 +27,7 @@ const MAKE: &str = "CREATE TABLE meta (version INTEGER); \
 // Makes the tables in a new file, migrates those of the earlier version, and refuses all others.
 fn prepare<S: Alter>(alloc: Global, work: &mut Transaction<'_, S>) -> Result<(), Refused> {
     match version(work)? {
-        None => { make(work, MAKE) }
+        None => make(work, MAKE),
         Some(VERSION) => Ok(()),
         Some(EARLIER) => migrate_all(alloc, work),
         Some(_) => Err(Refused::Failed),

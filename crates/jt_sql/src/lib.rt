@@ -4,14 +4,12 @@
 
 mod adopted_keeper;
 mod adopted_vault;
-mod answers;
 mod asking;
 mod fixes;
 mod keeping;
 mod migration;
 mod opening;
 mod opens;
-mod order;
 mod phones;
 mod places;
 mod refused;

@@ -1,6 +1,9 @@
 //! Why a call on the database gave up.
 
+ghost use Rattle.std.specs.Prelude.{◌≡◌};
+
 use jt_store::StoreError;
+use jt_store_answers::Refusal;
 use jt_value::Memory;
 use sqlite::{Error, ErrorCode};
 use std::alloc::{AllocError, AllocFailed};
@@ -16,13 +19,27 @@ pub enum Refused {
     Memory,
 }
 
+impl Refusal for Refused {
+    fn is_memory(&self) -> bool {
+        *self == Refused::Memory
+    }
+}
+
+// What an error of the database says of the call.
+fn refused_for(error: &Error) -> Refused
+    ensures memory { error.now ≡ Error.SqliteFailure ErrorCode.OutOfMemory → result ≡ Refused.Memory }
+    ensures fault { result ≡ Refused.Memory → error.now ≡ Error.SqliteFailure ErrorCode.OutOfMemory }
+{
+    match error {
+        Error::SqliteFailure(ErrorCode::OutOfMemory) => Refused::Memory,
+        Error::SqliteFailure(ErrorCode::Closed) => Refused::Shut,
+        _ => Refused::Failed,
+    }
+}
+
 impl From<Error> for Refused {
     fn from(error: Error) -> Refused {
-        match error {
-            Error::SqliteFailure(ErrorCode::OutOfMemory) => Refused::Memory,
-            Error::SqliteFailure(ErrorCode::Closed) => Refused::Shut,
-            _ => Refused::Failed,
-        }
+        refused_for(&error)
     }
 }
 

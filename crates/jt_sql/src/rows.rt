@@ -2,10 +2,10 @@
 
 ghost use Rattle.std.specs.Prelude.{◌<◌, ◌≤◌, ◌^◌, IfOk, IfSome};
 
-use crate::answers::Adding;
 use crate::asking::{all_rows, change, one_row, value};
 use crate::refused::Refused;
 use jt_store::Row;
+use jt_store_answers::{Adding, is_from};
 use jt_value::limits::ROW_LIMIT;
 use jt_value::{Octets, Seq};
 use sqlite::{Alter, Transaction, params};
@@ -118,7 +118,7 @@ pub(crate) fn from<S: Alter>(
         IfSome found (λ row. (number ≤ row.number) × (row.number < 2 ^ 47))) }
 {
     match find(work, FROM, phone, number)? {
-        Some(row) if row.number >= number => Ok(Some(row)),
+        Some(row) if is_from(&row, number) => Ok(Some(row)),
         Some(_) => Err(Refused::Failed),
         None => Ok(None),
     }

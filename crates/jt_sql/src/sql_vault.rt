@@ -11,9 +11,10 @@ use sqlite::{Alter, Connection};
 ///
 /// Each call is at most one transaction. Want of memory in it is Memory; whatever else the database refuses raises the count of
 /// faults and is Failed. A file of another version and one that is no database make each call Failed, and so does what no vault
-/// would have written, where the call reads it. `load` reads what is not accepted, and that fixes and units stand at the places
-/// 0, 1, 2 and so on, with none missing before the last. A file that a fault of the disk has shut is opened anew by the call after the next one. Dropped, it
-/// copies its log into the file, which then has all alone.
+/// would have written, where the call reads it. `load` reads what is not accepted, that fixes and units stand at the places
+/// 0, 1, 2 and so on, with none missing before the last, and that as many fixes are accepted as the accepted units carry. A file
+/// that a fault of the disk has shut is opened anew by the call after the next one. Dropped, it copies its log into the file, which
+/// then has all alone.
 pub type SqlVault<R> = AdoptedVault<InFile<R>>;
 
 impl AdoptedVault<InFile<HostRuntime>> {

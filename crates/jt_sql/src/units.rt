@@ -13,6 +13,8 @@ const LAST: &str = "SELECT place FROM unit ORDER BY place DESC LIMIT 1";
 
 const PLACES: &str = "SELECT place FROM unit ORDER BY place";
 
+const CARRIED: &str = "SELECT SUM(fixes) FROM unit WHERE place < ?1";
+
 const AT: &str = "SELECT serial, id, body, fixes FROM unit WHERE place = ?1";
 
 const FROM: &str = "SELECT serial, id, body, fixes FROM unit WHERE place >= ?1 ORDER BY place";
@@ -42,6 +44,15 @@ pub(crate) fn count<S: Alter>(work: &mut Transaction<'_, S>) -> Result<i64, Refu
 /// How many units were formed, where each stands at its place. Others are refused.
 pub(crate) fn count_all<S: Alter>(work: &mut Transaction<'_, S>) -> Result<i64, Refused> {
     count_places(work, PLACES)
+}
+
+/// How many fixes the units before a place carry.
+pub(crate) fn carried<S: Alter>(work: &mut Transaction<'_, S>, place: i64) -> Result<i64, Refused> {
+    let Some(row) = one_row(work, CARRIED, params![place])? else {
+        return Err(Refused::Failed);
+    };
+    let sum: Option<i64> = value(&row, 0)?;
+    Ok(sum.unwrap_or(0))
 }
 
 /// The unit at a place.

@@ -3,16 +3,15 @@
 ghost use Rattle.std.specs.Prelude.{IfOk};
 ghost use Rattle.jt_store.specs.Vaults.{AreInOrder};
 
-use crate::answers::Adding;
 use crate::asking::make;
 use crate::opening::{begun, settled};
-use crate::order::{are_in_order, may_form};
 use crate::refused::Refused;
 use crate::state::{self, State};
 use crate::versions::version;
 use crate::{fixes, units};
 use jt_position::Fix;
 use jt_store::{Loaded, Unit};
+use jt_store_answers::{Adding, are_in_order, may_form};
 use jt_value::Seq;
 use jt_value::limits::FIX_LIMIT;
 use sqlite::{Alter, Connection, Transaction};
@@ -30,7 +29,7 @@ const MAKE: &str = "CREATE TABLE meta (version INTEGER); \
 // Makes the tables in a new file, and refuses another version.
 fn prepare<S: Alter>(work: &mut Transaction<'_, S>) -> Result<(), Refused> {
     match version(work)? {
-        None => { make(work, MAKE) }
+        None => make(work, MAKE),
         Some(VERSION) => Ok(()),
         Some(_) => Err(Refused::Failed),
     }
@@ -60,15 +59,18 @@ fn are_all(from: i64, found: usize, count: i64) -> bool {
     }
 }
 
-// The units that are not accepted. They are refused where a unit, also an accepted one, is missing before the last that stands.
+// The units that are not accepted. They are refused where a unit, also an accepted one, is missing before the last that stands,
+// and where the accepted ones do not carry as many fixes as are accepted.
 fn pending<S: Alter>(
     alloc: Global,
     work: &mut Transaction<'_, S>,
-    accepted: i64,
+    state: &State,
 ) -> Result<Seq<Unit>, Refused> {
+    let accepted = state.units_accepted;
     let count = units::count_all(work)?;
+    let carried = units::carried(work, accepted)?;
     let units = units::from(alloc, work, accepted)?;
-    if are_all(accepted, units.len(), count) {
+    if carried == state.fixes_accepted && are_all(accepted, units.len(), count) {
         Ok(units)
     } else {
         Err(Refused::Failed)
@@ -105,7 +107,7 @@ fn load_within<S: Alter>(alloc: Global, work: &mut Transaction<'_, S>) -> Result
 {
     let state = state::read(work)?;
     let recorded = fixes::count_all(work)?;
-    let units = pending(alloc, work, state.units_accepted)?;
+    let units = pending(alloc, work, &state)?;
     let formed = formed(state.fixes_accepted, units.as_slice());
     let fixes = fixes::from(alloc, work, formed)?;
     if !are_all(formed, fixes.len(), recorded) {

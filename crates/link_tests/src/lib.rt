@@ -2,8 +2,16 @@
 #![tactic(auto)]
 
 #[cfg(test)]
+mod accepts;
+#[cfg(test)]
+mod addresses;
+#[cfg(test)]
 mod endless;
 #[cfg(test)]
+mod interrupted;
+#[cfg(test)]
 mod scripts;
+#[cfg(test)]
+mod shaky;
 #[cfg(test)]
 mod sockets;

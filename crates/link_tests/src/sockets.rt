@@ -14,8 +14,8 @@ const FIRST_PORT: u16 = 18_808;
 
 const LAST_PORT: u16 = 18_907;
 
-// Begins to listen at the first port that is free.
-fn start<L: Listen>(listen: &mut L) -> Option<u16> {
+/// Begins to listen at the first port that is free.
+pub fn start<L: Listen>(listen: &mut L) -> Option<u16> {
     for port in FIRST_PORT..=LAST_PORT {
         if listen.start(port) {
             return Some(port);
@@ -131,6 +131,42 @@ fn a_short_write_is_counted_short(rt: HostRuntime) -> Result<(), Fail> {
     assert!(rt; 0 < come);
     assert!(rt; come < MANY);
     assert_eq!(rt; put, Put::Count(come));
+    Ok(())
+}
+
+// How long the other end of the next test reads nothing, in seconds: longer than a write waits, so that one which waits without end
+// shows.
+const DEAF: u64 = 40;
+
+// What one write to the link that comes gives, and how many milliseconds it took. Failed stands for no link too.
+fn write_once<L: Listen, C: Clock>(listen: &mut L, clock: &mut C, octets: &[u8]) -> (Put, u64)
+    requires { 0 < length octets.now }
+{
+    let Accepted::Link(mut far) = listen.accept() else {
+        return (Put::Failed, 0);
+    };
+    let first = clock.now();
+    let put = far.write(octets);
+    (put, clock.now().saturating_sub(first))
+}
+
+// A write of an accepted link to an end that does not read is over, in part, once it waited for 5 seconds.
+#[test]
+fn a_write_of_an_accepted_link_waits_for_a_time(rt: HostRuntime) -> Result<(), Fail> {
+    let mut octets = Vec::new(rt.alloc());
+    octets.resize(MANY, 7)?;
+    let mut clock = StdClock::new(rt.clone()?);
+    let mut listen = TcpListen::new(rt.clone()?);
+    let port = start(&mut listen).expect(&rt, "a port is free");
+    let near = TcpDial::new(rt.clone()?).dial("127.0.0.1", port);
+    assert!(rt; near.is_some());
+    let child = thread::spawn(&rt, move || write_once(&mut listen, &mut clock, &octets))?;
+    thread::sleep(&rt, Duration::from_secs(DEAF));
+    drop(near);
+    let (put, passed) = child.join(&rt);
+    assert!(rt; matches!(put, Put::Count(count) if 0 < count && count < MANY));
+    assert!(rt; passed >= 4_900);
+    assert!(rt; passed < 35_000);
     Ok(())
 }
 

@@ -2,7 +2,9 @@
 
 use crate::{platform, terminal};
 use jt_sql::{SqlKeeper, SqlVault};
-use jt_value::Edition;
+use jt_store::{Keeper, Vault};
+use jt_value::{Edition, Memory};
+use std::alloc::Global;
 use std::{fs, io};
 
 /// Makes a folder with nothing in it.
@@ -16,27 +18,52 @@ pub fn remove_folder(rt: &HostRuntime, folder: &str) -> io::Result<()> {
     fs::remove_dir_all(rt, folder)
 }
 
-fn keeper(rt: &HostRuntime, path: &str) -> Option<SqlKeeper<HostRuntime>> {
-    let Ok(own) = rt.clone() else {
-        return None;
-    };
-    SqlKeeper::at(own, path).ok()
+fn keeper(rt: &HostRuntime, path: &str) -> Result<SqlKeeper<HostRuntime>, Memory> {
+    SqlKeeper::at(rt.clone()?, path)
 }
 
-/// A vault in this file. None where memory is wanting.
-pub fn vault(rt: &HostRuntime, path: &str) -> Option<SqlVault<HostRuntime>> {
-    let Ok(own) = rt.clone() else {
-        return None;
-    };
-    SqlVault::at(own, path).ok()
+/// A vault in this file.
+pub fn vault(rt: &HostRuntime, path: &str) -> Result<SqlVault<HostRuntime>, Memory> {
+    SqlVault::at(rt.clone()?, path)
+}
+
+// The place of the first talk that goes otherwise over a keeper, which is then let go of.
+fn wrong_over<K: Keeper + Drop>(
+    alloc: Global,
+    keeper: K,
+    talks: &[platform::Talk],
+) -> Option<usize> {
+    match platform::live(alloc, keeper, talks) {
+        Ok(left) => {
+            drop(left);
+            None
+        }
+        Err(place) => Some(place),
+    }
 }
 
 // The place of the first talk that goes otherwise over the file.
 fn wrong_talk(rt: &HostRuntime, path: &str, talks: &[platform::Talk]) -> Option<usize> {
-    let Some(keeper) = keeper(rt, path) else {
-        return Some(0);
-    };
-    platform::live(rt.alloc(), keeper, talks).err()
+    match keeper(rt, path) {
+        Ok(keeper) => wrong_over(rt.alloc(), keeper, talks),
+        Err(Memory) => Some(0),
+    }
+}
+
+// The place of the first moment that goes otherwise over a vault, which is then let go of.
+fn wrong_with<V: Vault + Drop>(
+    alloc: Global,
+    edition: Edition,
+    vault: V,
+    moments: &[terminal::Moment],
+) -> Option<usize> {
+    match terminal::live(alloc, edition, vault, moments) {
+        Ok(left) => {
+            drop(left);
+            None
+        }
+        Err(place) => Some(place),
+    }
 }
 
 // The place of the first moment that goes otherwise over the file.
@@ -46,25 +73,39 @@ fn wrong_moment(
     edition: Edition,
     moments: &[terminal::Moment],
 ) -> Option<usize> {
-    let Some(vault) = vault(rt, path) else {
-        return Some(0);
-    };
-    terminal::live(rt.alloc(), edition, vault, moments).err()
+    match vault(rt, path) {
+        Ok(vault) => wrong_with(rt.alloc(), edition, vault, moments),
+        Err(Memory) => Some(0),
+    }
+}
+
+// Whether a keeper has this. It is then let go of.
+fn has<K: Keeper + Drop>(alloc: Global, mut keeper: K, text: &str) -> bool {
+    let is_so = platform::keeps(alloc, &mut keeper, text);
+    drop(keeper);
+    is_so
 }
 
 // Whether a keeper over the file has this.
 fn keeps(rt: &HostRuntime, path: &str, text: &str) -> bool {
     match keeper(rt, path) {
-        Some(mut keeper) => platform::keeps(rt.alloc(), &mut keeper, text),
-        None => false,
+        Ok(keeper) => has(rt.alloc(), keeper, text),
+        Err(Memory) => false,
     }
+}
+
+// Whether a vault has this. It is then let go of.
+fn contains<V: Vault + Drop>(alloc: Global, mut vault: V, text: &str) -> bool {
+    let is_so = terminal::holds(alloc, &mut vault, text);
+    drop(vault);
+    is_so
 }
 
 // Whether a vault over the file holds this.
 fn holds(rt: &HostRuntime, path: &str, text: &str) -> bool {
     match vault(rt, path) {
-        Some(mut vault) => terminal::holds(rt.alloc(), &mut vault, text),
-        None => false,
+        Ok(vault) => contains(rt.alloc(), vault, text),
+        Err(Memory) => false,
     }
 }
 

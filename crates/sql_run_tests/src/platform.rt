@@ -52,12 +52,18 @@ fn fleet(alloc: Global) -> Result<Fleet, Memory> {
 
 // A hub over a keeper, whose fleet is one vehicle.
 fn hub<P: Keeper + Drop>(alloc: Global, keeper: P) -> Option<Hub<P>> {
-    let Ok(fleet) = fleet(alloc) else {
-        return None;
-    };
-    let Ok(secret) = octets(alloc, b"12") else {
-        return None;
-    };
+    match (fleet(alloc), octets(alloc, b"12")) {
+        (Ok(fleet), Ok(secret)) => hub_of(alloc, keeper, fleet, secret),
+        _ => None,
+    }
+}
+
+fn hub_of<P: Keeper + Drop>(
+    alloc: Global,
+    keeper: P,
+    fleet: Fleet,
+    secret: Octets,
+) -> Option<Hub<P>> {
     match Hub::start(alloc, keeper, fleet, secret) {
         Ok(hub) => Some(hub),
         Err(_) => None,
@@ -104,11 +110,17 @@ pub fn live<P: Keeper + Drop>(alloc: Global, keeper: P, talks: &[Talk]) -> Resul
     let Some(mut hub) = hub(alloc, keeper) else {
         return Err(talks.len());
     };
-    if let Some(place) = first_wrong(alloc, &mut hub, talks) {
-        return Err(place);
-    }
+    let wrong = first_wrong(alloc, &mut hub, talks);
+    left(hub, wrong)
+}
+
+// What is left of a hub: its keeper, or the place of a wrong talk.
+fn left<P: Keeper + Drop>(hub: Hub<P>, wrong: Option<usize>) -> Result<P, usize> {
     let (keeper, _history) = hub.into_parts();
-    Ok(keeper)
+    match wrong {
+        None => Ok(keeper),
+        Some(place) => Err(place),
+    }
 }
 
 fn push_registered(text: &mut String, found: &Option<Registered>) -> Result<(), AllocError> {

@@ -1,10 +1,9 @@
 //! Two runs of `report` by their words, over one file.
 
 use crate::files::{make_folder, remove_folder, vault};
-use jt_cli::{Outside, Status, run};
+use jt_cli::{Ended, Outside, Status, run};
 use jt_outside::{MemSink, MemSource, ScriptClock, ScriptDial, ScriptListen};
-use jt_sql::SqlVault;
-use jt_store::MemKeeper;
+use jt_store::{MemKeeper, Vault};
 use jt_value::{Memory, Octets, Seq};
 use std::alloc::Global;
 use std::sync::Wait;
@@ -16,17 +15,6 @@ const WORDS: &str =
 
 /// A fix of 28 octets.
 const FIX: &str = "00000000000000030000000106bc3e40000000000000240101000000";
-
-/// What a run is over, with a vault in a file.
-type All = Outside<
-    MemSource,
-    MemSink,
-    ScriptDial,
-    ScriptListen,
-    ScriptClock,
-    MemKeeper,
-    SqlVault<HostRuntime>,
->;
 
 fn words(alloc: Global) -> Result<Vec<String>, Memory> {
     let mut words = Vec::new(alloc);
@@ -41,24 +29,39 @@ fn source(alloc: Global, text: &str) -> Result<MemSource, Memory> {
     Ok(MemSource::new(octets, Seq::new(alloc)))
 }
 
+/// What a run is over, with any vault.
+type All<V> = Outside<MemSource, MemSink, ScriptDial, ScriptListen, ScriptClock, MemKeeper, V>;
+
 // A dial and a listener without links, and a vault.
-fn outside(alloc: Global, text: &str, vault: SqlVault<HostRuntime>) -> Result<All, Memory> {
+fn outside<V: Vault + Drop>(alloc: Global, text: &str, vault: V) -> Result<All<V>, Memory> {
+    let source = source(alloc, text)?;
+    let sink = MemSink::new(alloc, 8192, Seq::new(alloc))?;
+    let dial = ScriptDial::new(alloc, Seq::new(alloc), Seq::new(alloc))?;
+    let listen = ScriptListen::new(alloc, Seq::new(alloc), Seq::new(alloc))?;
     Ok(Outside {
-        source: source(alloc, text)?,
-        sink: MemSink::new(alloc, 8192, Seq::new(alloc))?,
-        dial: ScriptDial::new(alloc, Seq::new(alloc), Seq::new(alloc))?,
-        listen: ScriptListen::new(alloc, Seq::new(alloc), Seq::new(alloc))?,
+        source,
+        sink,
+        dial,
+        listen,
         clock: ScriptClock::new(Seq::new(alloc)),
         keeper: MemKeeper::new(alloc, 1000, Seq::new(alloc)),
         vault,
     })
 }
 
-// A run over this text, and whether it ended so and printed this.
-fn ends<R: Threads + Wait + Sync>(
+// What a run with a vault ends with.
+type AllEnded<V> = Ended<MemSource, MemSink, ScriptDial, ScriptListen, ScriptClock, MemKeeper, V>;
+
+// Whether a run ended so and printed this.
+fn is_so<V: Vault>(ended: &AllEnded<V>, status: Status, printed: &[u8]) -> bool {
+    ended.status == status && ended.outside.sink.octets() == printed
+}
+
+// A run over a vault, and whether it ended so and printed this.
+fn ends<R: Threads + Wait + Sync, V: Vault + Drop>(
     rt: &R,
     alloc: Global,
-    vault: SqlVault<HostRuntime>,
+    vault: V,
     text: &str,
     status: Status,
     printed: &[u8],
@@ -66,7 +69,9 @@ fn ends<R: Threads + Wait + Sync>(
     let words = words(alloc)?;
     let outside = outside(alloc, text, vault)?;
     let ended = run(rt, alloc, &words, outside);
-    Ok(ended.status == status && ended.outside.sink.octets() == printed)
+    let is_so = is_so(&ended, status, printed);
+    drop(ended);
+    Ok(is_so)
 }
 
 // What the first run recorded is in the file that the second one opens.

@@ -177,11 +177,77 @@ const OTHER_EDITION: Story = Story {
     ],
 };
 
+// Three fixes are stored in one batch, and its acceptance is lost. Both ends begin anew, and the batch is a repeat; then they begin
+// anew once more, and the next fix goes alone.
+const SEVERAL_FIXES: Story = Story {
+    platform: &[
+        (
+            &[(1, b"RAE", b"rae")],
+            "registered 4a54383038 31323334353637 last=2\n\
+             2 0704 000301001c00000000000000030000000006bc3e40000000000000240101000000001c00000000000000030000000106bc3e40000000000000240101000000001c00000000000000030000000206bc3e40000000000000240101000000\n\
+             none\n",
+        ),
+        (
+            &[(1, b"BE", b"bm")],
+            "registered 4a54383038 31323334353637 last=2\n\
+             2 0704 000301001c00000000000000030000000006bc3e40000000000000240101000000001c00000000000000030000000106bc3e40000000000000240101000000001c00000000000000030000000206bc3e40000000000000240101000000\n\
+             none\n",
+        ),
+        (
+            &[(1, b"BW", b"bl")],
+            "registered 4a54383038 31323334353637 last=4\n\
+             2 0704 000301001c00000000000000030000000006bc3e40000000000000240101000000001c00000000000000030000000106bc3e40000000000000240101000000001c00000000000000030000000206bc3e40000000000000240101000000\n\
+             4 0200 00000000000000030000000206bc3e40000000000000240101000000\n\
+             none\n",
+        ),
+    ],
+    terminal: &[
+        (
+            Edition::E2013,
+            &[
+                (b'F', 0, b"", b""),
+                (b'F', 1, b"", b""),
+                (b'F', 2, b"", b""),
+                (b'O', 0, b"", b"R"),
+                (b'D', 0, b"r", b"A"),
+                (b'D', 0, b"a", b"E"),
+            ],
+            "recorded=3 accepted=0 mark=65535 next=3 code=33316139396238346534633038656530\n\
+             unit 2 0704 3 000301001c00000000000000030000000006bc3e40000000000000240101000000001c00000000000000030000000106bc3e40000000000000240101000000001c00000000000000030000000206bc3e40000000000000240101000000\n",
+        ),
+        (
+            Edition::E2013,
+            &[
+                (b'O', 0, b"", b"B"),
+                (b'D', 0, b"b", b"E"),
+                (b'D', 0, b"m", b""),
+            ],
+            "recorded=3 accepted=3 mark=2 next=3 code=33316139396238346534633038656530\n",
+        ),
+        (
+            Edition::E2013,
+            &[
+                (b'F', 2, b"", b""),
+                (b'O', 0, b"", b"B"),
+                (b'D', 0, b"b", b"W"),
+                (b'D', 0, b"l", b""),
+            ],
+            "recorded=4 accepted=4 mark=4 next=5 code=33316139396238346534633038656530\n",
+        ),
+    ],
+};
+
 #[test]
 fn both_ends_over_stores_in_memory(rt: HostRuntime) -> Result<(), Fail> {
-    for story in [&LOST_ANSWER, &TERMINAL_ANEW, &LATE_UNIT, &OTHER_EDITION] {
-        assert_eq!(rt; memory::first_platform(rt.alloc(), story.platform), None);
-        assert_eq!(rt; memory::first_terminal(rt.alloc(), story.terminal), None);
+    for story in [
+        &LOST_ANSWER,
+        &TERMINAL_ANEW,
+        &LATE_UNIT,
+        &OTHER_EDITION,
+        &SEVERAL_FIXES,
+    ] {
+        assert!(rt; memory::first_platform(rt.alloc(), story.platform) == None);
+        assert!(rt; memory::first_terminal(rt.alloc(), story.terminal) == None);
     }
     Ok(())
 }
@@ -189,10 +255,8 @@ fn both_ends_over_stores_in_memory(rt: HostRuntime) -> Result<(), Fail> {
 #[test]
 fn a_lost_answer_over_stores_in_files(rt: HostRuntime) -> Result<(), Fail> {
     make_folder(&rt, "lost_answer_test")?;
-    let platform = first_platform(&rt, "lost_answer_test/p.db", LOST_ANSWER.platform);
-    let terminal = first_terminal(&rt, "lost_answer_test/t.db", LOST_ANSWER.terminal);
-    assert_eq!(rt; platform, None);
-    assert_eq!(rt; terminal, None);
+    assert!(rt; first_platform(&rt, "lost_answer_test/p.db", LOST_ANSWER.platform) == None);
+    assert!(rt; first_terminal(&rt, "lost_answer_test/t.db", LOST_ANSWER.terminal) == None);
     remove_folder(&rt, "lost_answer_test")?;
     Ok(())
 }
@@ -200,10 +264,8 @@ fn a_lost_answer_over_stores_in_files(rt: HostRuntime) -> Result<(), Fail> {
 #[test]
 fn a_terminal_anew_over_stores_in_files(rt: HostRuntime) -> Result<(), Fail> {
     make_folder(&rt, "terminal_anew_test")?;
-    let platform = first_platform(&rt, "terminal_anew_test/p.db", TERMINAL_ANEW.platform);
-    let terminal = first_terminal(&rt, "terminal_anew_test/t.db", TERMINAL_ANEW.terminal);
-    assert_eq!(rt; platform, None);
-    assert_eq!(rt; terminal, None);
+    assert!(rt; first_platform(&rt, "terminal_anew_test/p.db", TERMINAL_ANEW.platform) == None);
+    assert!(rt; first_terminal(&rt, "terminal_anew_test/t.db", TERMINAL_ANEW.terminal) == None);
     remove_folder(&rt, "terminal_anew_test")?;
     Ok(())
 }
@@ -211,10 +273,8 @@ fn a_terminal_anew_over_stores_in_files(rt: HostRuntime) -> Result<(), Fail> {
 #[test]
 fn a_late_unit_over_stores_in_files(rt: HostRuntime) -> Result<(), Fail> {
     make_folder(&rt, "late_unit_test")?;
-    let platform = first_platform(&rt, "late_unit_test/p.db", LATE_UNIT.platform);
-    let terminal = first_terminal(&rt, "late_unit_test/t.db", LATE_UNIT.terminal);
-    assert_eq!(rt; platform, None);
-    assert_eq!(rt; terminal, None);
+    assert!(rt; first_platform(&rt, "late_unit_test/p.db", LATE_UNIT.platform) == None);
+    assert!(rt; first_terminal(&rt, "late_unit_test/t.db", LATE_UNIT.terminal) == None);
     remove_folder(&rt, "late_unit_test")?;
     Ok(())
 }
@@ -222,10 +282,17 @@ fn a_late_unit_over_stores_in_files(rt: HostRuntime) -> Result<(), Fail> {
 #[test]
 fn another_edition_over_stores_in_files(rt: HostRuntime) -> Result<(), Fail> {
     make_folder(&rt, "other_edition_test")?;
-    let platform = first_platform(&rt, "other_edition_test/p.db", OTHER_EDITION.platform);
-    let terminal = first_terminal(&rt, "other_edition_test/t.db", OTHER_EDITION.terminal);
-    assert_eq!(rt; platform, None);
-    assert_eq!(rt; terminal, None);
+    assert!(rt; first_platform(&rt, "other_edition_test/p.db", OTHER_EDITION.platform) == None);
+    assert!(rt; first_terminal(&rt, "other_edition_test/t.db", OTHER_EDITION.terminal) == None);
     remove_folder(&rt, "other_edition_test")?;
+    Ok(())
+}
+
+#[test]
+fn several_fixes_over_stores_in_files(rt: HostRuntime) -> Result<(), Fail> {
+    make_folder(&rt, "several_fixes_test")?;
+    assert!(rt; first_platform(&rt, "several_fixes_test/p.db", SEVERAL_FIXES.platform) == None);
+    assert!(rt; first_terminal(&rt, "several_fixes_test/t.db", SEVERAL_FIXES.terminal) == None);
+    remove_folder(&rt, "several_fixes_test")?;
     Ok(())
 }

@@ -226,10 +226,17 @@ pub fn live<V: Vault + Drop>(
     let Some(mut terminal) = started(alloc, edition, vault) else {
         return Err(moments.len());
     };
-    if let Some(place) = first_wrong(alloc, &mut terminal, moments) {
-        return Err(place);
+    let wrong = first_wrong(alloc, &mut terminal, moments);
+    left(terminal, wrong)
+}
+
+// What is left of a terminal: its vault, or the place of a wrong moment.
+fn left<V: Vault + Drop>(terminal: Terminal<V>, wrong: Option<usize>) -> Result<V, usize> {
+    let vault = terminal.into_vault();
+    match wrong {
+        None => Ok(vault),
+        Some(place) => Err(place),
     }
-    Ok(terminal.into_vault())
 }
 
 fn push_counts(text: &mut String, loaded: &Loaded) -> Result<(), AllocError> {

@@ -1,9 +1,10 @@
 use crate::files::{make_folder, remove_folder};
 use crate::keeper_calls::{Call, Said, first_wrong};
 use jt_sql::SqlKeeper;
-use jt_store::{MemKeeper, StoreError};
-use jt_value::{Edition, Phone, Seq};
-use sqlite::Connection;
+use jt_store::{Keeper, MemKeeper, StoreError};
+use jt_value::{Edition, Memory, Phone, Seq};
+use sqlite::{Alter, Connection};
+use std::alloc::Global;
 use std::test::Fail;
 
 const EARLIER: Phone = Phone {
@@ -21,85 +22,172 @@ const OTHER: Phone = Phone {
     digits: [0, 0, 0, 0, 0x01, 0x39, 0x12, 0x34, 0x56, 0x79],
 };
 
-// A registration, units, a repeat, a unit of a terminal that began anew, and a deregistration.
-const STORY: [(Call, Said); 30] = [
-    (Call::Last(EARLIER), Said::Nothing),
-    (Call::From(EARLIER, 0), Said::Nothing),
-    (Call::Registered(EARLIER), Said::Nothing),
-    (Call::PlateOwner(b"PA"), Said::Nothing),
-    (Call::Register(EARLIER, b"PA", b"TA"), Said::Done),
-    (Call::Registered(LATER), Said::Names(b'P', b'T')),
-    (Call::PlateOwner(b"PA"), Said::Owner(0x78)),
-    (Call::TerminalOwner(b"TA"), Said::Owner(0x78)),
-    (Call::TerminalOwner(b"PA"), Said::Nothing),
-    (Call::Register(OTHER, b"PA", b"TB"), Said::Taken),
-    (Call::Register(OTHER, b"Q2", b"TB"), Said::Done),
-    (Call::Register(EARLIER, b"Q3", b"TA"), Said::Done),
-    (Call::PlateOwner(b"PA"), Said::Nothing),
-    (
-        Call::Append(EARLIER, 65_536, 1),
-        Said::Refused(StoreError::Failed),
-    ),
-    (Call::Append(EARLIER, 2, 7), Said::Done),
-    (Call::Append(LATER, 5, 8), Said::Done),
-    (Call::Append(LATER, 5, 8), Said::Refused(StoreError::Failed)),
-    (Call::Append(EARLIER, 65_541, 9), Said::Done),
-    (Call::Append(OTHER, 0, 6), Said::Done),
-    (Call::Last(EARLIER), Said::Number(65_541)),
-    (Call::At(LATER, 5), Said::Row(5, 8)),
-    (Call::At(EARLIER, 3), Said::Nothing),
-    (Call::From(EARLIER, 0), Said::Row(2, 7)),
-    (Call::From(EARLIER, 6), Said::Row(65_541, 9)),
-    (Call::From(EARLIER, 65_542), Said::Nothing),
-    (Call::At(EARLIER, u64::MAX), Said::Nothing),
-    (Call::Unregister(EARLIER), Said::Done),
-    (Call::Unregister(EARLIER), Said::Done),
-    (Call::Registered(EARLIER), Said::Nothing),
-    (Call::TerminalOwner(b"TA"), Said::Nothing),
+/// Calls of one life of a keeper, which is opened anew for the next life, and their answers.
+type Life = &'static [(Call, Said)];
+
+const LIVES: [Life; 4] = [
+    // A registration, units, a repeat, a unit of a terminal that began anew, and a deregistration.
+    &[
+        (Call::Last(EARLIER), Said::Nothing),
+        (Call::From(EARLIER, 0), Said::Nothing),
+        (Call::Registered(EARLIER), Said::Nothing),
+        (Call::PlateOwner(b"PA"), Said::Nothing),
+        (Call::Register(EARLIER, b"PA", b"TA"), Said::Done),
+        (Call::Registered(LATER), Said::Names(b'P', b'T')),
+        (Call::PlateOwner(b"PA"), Said::Owner(0x78)),
+        (Call::TerminalOwner(b"TA"), Said::Owner(0x78)),
+        (Call::TerminalOwner(b"PA"), Said::Nothing),
+        (Call::Register(OTHER, b"PA", b"TB"), Said::Taken),
+        (Call::Register(OTHER, b"Q2", b"TB"), Said::Done),
+        (Call::Register(EARLIER, b"Q3", b"TA"), Said::Done),
+        (Call::PlateOwner(b"PA"), Said::Nothing),
+        (
+            Call::Append(EARLIER, 65_536, 1),
+            Said::Refused(StoreError::Failed),
+        ),
+        (Call::Append(EARLIER, 2, 7), Said::Done),
+        (Call::Append(LATER, 5, 8), Said::Done),
+        (Call::Append(LATER, 5, 8), Said::Refused(StoreError::Failed)),
+        (Call::Append(EARLIER, 65_541, 9), Said::Done),
+        (Call::Append(OTHER, 0, 6), Said::Done),
+        (Call::Last(EARLIER), Said::Number(65_541)),
+        (Call::At(LATER, 5), Said::Row(5, 8)),
+        (Call::At(EARLIER, 3), Said::Nothing),
+        (Call::From(EARLIER, 0), Said::Row(2, 7)),
+        (Call::From(EARLIER, 6), Said::Row(65_541, 9)),
+        (Call::From(EARLIER, 65_542), Said::Nothing),
+        (Call::At(EARLIER, u64::MAX), Said::Nothing),
+        (Call::Unregister(EARLIER), Said::Done),
+        (Call::Unregister(EARLIER), Said::Done),
+        (Call::Registered(EARLIER), Said::Nothing),
+        (Call::TerminalOwner(b"TA"), Said::Nothing),
+    ],
+    // What is kept once the store is opened again.
+    &[
+        (Call::Registered(EARLIER), Said::Nothing),
+        (Call::Registered(OTHER), Said::Names(b'Q', b'T')),
+        (Call::Last(LATER), Said::Number(65_541)),
+        (Call::From(LATER, 0), Said::Row(2, 7)),
+        (Call::From(LATER, 3), Said::Row(5, 8)),
+        (Call::From(LATER, 6), Said::Row(65_541, 9)),
+        (Call::From(LATER, 65_542), Said::Nothing),
+        (Call::Last(OTHER), Said::Number(0)),
+        (Call::PlateOwner(b"Q2"), Said::Owner(0x79)),
+    ],
+    // Phones that register anew: with another terminal id, whose old one is then free; and with two other names.
+    &[
+        (Call::Register(OTHER, b"Q2", b"UC"), Said::Done),
+        (Call::Registered(OTHER), Said::Names(b'Q', b'U')),
+        (Call::TerminalOwner(b"TB"), Said::Nothing),
+        (Call::TerminalOwner(b"UC"), Said::Owner(0x79)),
+        (Call::PlateOwner(b"Q2"), Said::Owner(0x79)),
+        (Call::Register(EARLIER, b"R4", b"UC"), Said::Taken),
+        (Call::Register(EARLIER, b"R4", b"TB"), Said::Done),
+        (Call::TerminalOwner(b"TB"), Said::Owner(0x78)),
+        (Call::Register(LATER, b"S5", b"VD"), Said::Done),
+        (Call::PlateOwner(b"R4"), Said::Nothing),
+        (Call::TerminalOwner(b"TB"), Said::Nothing),
+        (Call::Register(OTHER, b"R4", b"TB"), Said::Done),
+    ],
+    // Who has which names then.
+    &[
+        (Call::Registered(OTHER), Said::Names(b'R', b'T')),
+        (Call::Registered(EARLIER), Said::Names(b'S', b'V')),
+        (Call::PlateOwner(b"R4"), Said::Owner(0x79)),
+        (Call::TerminalOwner(b"TB"), Said::Owner(0x79)),
+        (Call::PlateOwner(b"S5"), Said::Owner(0x78)),
+        (Call::TerminalOwner(b"VD"), Said::Owner(0x78)),
+        (Call::PlateOwner(b"Q2"), Said::Nothing),
+        (Call::TerminalOwner(b"UC"), Said::Nothing),
+    ],
 ];
 
-// What is kept once the store is opened again.
-const AFTER: [(Call, Said); 9] = [
-    (Call::Registered(EARLIER), Said::Nothing),
-    (Call::Registered(OTHER), Said::Names(b'Q', b'T')),
-    (Call::Last(LATER), Said::Number(65_541)),
-    (Call::From(LATER, 0), Said::Row(2, 7)),
-    (Call::From(LATER, 3), Said::Row(5, 8)),
-    (Call::From(LATER, 6), Said::Row(65_541, 9)),
-    (Call::From(LATER, 65_542), Said::Nothing),
-    (Call::Last(OTHER), Said::Number(0)),
-    (Call::PlateOwner(b"Q2"), Said::Owner(0x79)),
-];
+// The place of the first call of a life that is not answered so. The keeper is then let go of.
+fn wrong_in<V: Keeper + Drop>(alloc: Global, mut keeper: V, life: Life) -> Option<usize> {
+    let wrong = first_wrong(alloc, &mut keeper, life);
+    drop(keeper);
+    wrong
+}
+
+// The first life over one keeper that goes otherwise, and the place in it.
+fn wrong_life<V: Keeper>(alloc: Global, keeper: &mut V) -> Option<(usize, usize)> {
+    for (number, life) in LIVES.iter().enumerate() {
+        if let Some(place) = first_wrong(alloc, keeper, life) {
+            return Some((number, place));
+        }
+    }
+    None
+}
 
 #[test]
 fn a_keeper_in_memory_answers_so(rt: HostRuntime) -> Result<(), Fail> {
-    let alloc = rt.alloc();
-    let mut keeper = MemKeeper::new(alloc, 1_000_000_000, Seq::new(alloc));
-    assert_eq!(rt; first_wrong(alloc, &mut keeper, &STORY), None);
-    assert_eq!(rt; first_wrong(alloc, &mut keeper, &AFTER), None);
+    let mut keeper = MemKeeper::new(rt.alloc(), 1_000_000_000, Seq::new(rt.alloc()));
+    let wrong = wrong_life(rt.alloc(), &mut keeper);
+    drop(keeper);
+    assert!(rt; wrong == None);
     Ok(())
+}
+
+fn keeper_in(rt: &HostRuntime, path: &str) -> Result<SqlKeeper<HostRuntime>, Memory> {
+    SqlKeeper::at(rt.clone()?, path)
+}
+
+// The place of the first call of a life over a file that is not answered so.
+fn wrong_in_file(rt: &HostRuntime, path: &str, life: Life) -> Option<usize> {
+    match keeper_in(rt, path) {
+        Ok(keeper) => wrong_in(rt.alloc(), keeper, life),
+        Err(Memory) => Some(life.len()),
+    }
+}
+
+// The first life over a file that goes otherwise, and the place in it, where each life opens the file anew.
+fn wrong_file(rt: &HostRuntime, path: &str) -> Option<(usize, usize)> {
+    for (number, life) in LIVES.iter().enumerate() {
+        if let Some(place) = wrong_in_file(rt, path, life) {
+            return Some((number, place));
+        }
+    }
+    None
 }
 
 #[test]
 fn a_keeper_in_a_file_answers_the_same(rt: HostRuntime) -> Result<(), Fail> {
-    let alloc = rt.alloc();
     make_folder(&rt, "keeper_test")?;
-    let mut keeper = SqlKeeper::at(rt.clone()?, "keeper_test/a.db").expect(&rt, "memory");
-    assert_eq!(rt; first_wrong(alloc, &mut keeper, &STORY), None);
-    drop(keeper);
-    let mut again = SqlKeeper::at(rt.clone()?, "keeper_test/a.db").expect(&rt, "memory");
-    assert_eq!(rt; first_wrong(alloc, &mut again, &AFTER), None);
-    drop(again);
+    assert!(rt; wrong_file(&rt, "keeper_test/a.db") == None);
     remove_folder(&rt, "keeper_test")?;
     Ok(())
 }
 
+// The place of the first call of a life over a connection that is not answered so, and the connection.
+fn wrong_over<S: Alter + Drop>(
+    alloc: Global,
+    connection: Connection<S>,
+    life: Life,
+) -> (Option<usize>, Connection<S>) {
+    let mut keeper = SqlKeeper::over(connection);
+    let wrong = first_wrong(alloc, &mut keeper, life);
+    (wrong, keeper.into_connection())
+}
+
+// The first life over a connection that goes otherwise, and the place in it.
+fn wrong_connection<S: Alter + Drop>(
+    alloc: Global,
+    mut connection: Connection<S>,
+) -> Option<(usize, usize)> {
+    for (number, life) in LIVES.iter().enumerate() {
+        let (wrong, left) = wrong_over(alloc, connection, life);
+        if let Some(place) = wrong {
+            return Some((number, place));
+        }
+        connection = left;
+    }
+    None
+}
+
 #[test]
 fn a_keeper_over_a_connection_answers_the_same(rt: HostRuntime) -> Result<(), Fail> {
-    let alloc = rt.alloc();
-    let mut keeper = SqlKeeper::over(Connection::open_in_memory(alloc)?);
-    assert_eq!(rt; first_wrong(alloc, &mut keeper, &STORY), None);
-    let mut again = SqlKeeper::over(keeper.into_connection());
-    assert_eq!(rt; first_wrong(alloc, &mut again, &AFTER), None);
+    let connection = Connection::open_in_memory(rt.alloc()).expect(&rt, "memory");
+    let wrong = wrong_connection(rt.alloc(), connection);
+    assert!(rt; wrong == None);
     Ok(())
 }

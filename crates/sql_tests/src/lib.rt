@@ -2,6 +2,8 @@
 #![tactic(auto)]
 
 #[cfg(test)]
+mod connections;
+#[cfg(test)]
 mod files;
 #[cfg(test)]
 mod keeper_calls;
@@ -17,6 +19,8 @@ mod stop_tests;
 mod stopped_files;
 #[cfg(test)]
 mod table_tests;
+#[cfg(test)]
+mod units;
 #[cfg(test)]
 mod vault_calls;
 #[cfg(test)]

@@ -1,3 +1,4 @@
+use crate::connections::{number, ran};
 use crate::keeper_calls::{Call, Said, first_wrong};
 use crate::stopped_files::{
     Stopping, Stops, files_of, limits, open_again, open_new, open_synced, open_written,
@@ -5,7 +6,8 @@ use crate::stopped_files::{
 use jt_sql::SqlKeeper;
 use jt_store::StoreError;
 use jt_value::{Edition, Phone};
-use sqlite::{Connection, Error, FileStore, Files, MemStore};
+use sqlite::{Alter, Connection, FileStore, Files};
+use sqlite_disk::Disk;
 use std::alloc::Global;
 use std::test::Fail;
 
@@ -69,68 +71,116 @@ const BROKEN: [&str; 4] = [
     "INSERT INTO rows808 VALUES (x'00013912345678', 2, 512, x'07')",
 ];
 
-// A connection in memory over a file of version 1 with these rows.
-fn made(alloc: Global, rows: &str) -> Result<Connection<MemStore>, Error> {
-    let mut connection = Connection::open_in_memory(alloc)?;
-    connection.execute_batch(TABLES)?;
-    connection.execute_batch(rows)?;
-    Ok(connection)
+// Whether the tables of version 1 with these rows were made.
+fn is_made<S: Alter>(connection: &mut Connection<S>, rows: &str) -> bool {
+    ran(connection, TABLES) && ran(connection, rows)
+}
+
+// Whether a keeper over the connection answers so, and the connection.
+fn answers<S: Alter + Drop>(
+    alloc: Global,
+    connection: Connection<S>,
+    calls: &[(Call, Said)],
+) -> (bool, Connection<S>) {
+    let mut keeper = SqlKeeper::over(connection);
+    let wrong = first_wrong(alloc, &mut keeper, calls);
+    (wrong == None, keeper.into_connection())
 }
 
 // Whether the rows of a file of version 1 are moved to these, and are there once it is opened anew.
-fn is_moved(alloc: Global, old: &str, moved: &[(Call, Said)]) -> Result<bool, Error> {
-    let mut keeper = SqlKeeper::over(made(alloc, old)?);
-    if first_wrong(alloc, &mut keeper, moved).is_some() {
-        return Ok(false);
+fn is_moved<S: Alter + Drop>(
+    alloc: Global,
+    mut connection: Connection<S>,
+    old: &str,
+    moved: &[(Call, Said)],
+) -> bool {
+    if !is_made(&mut connection, old) {
+        return false;
     }
-    let mut again = SqlKeeper::over(keeper.into_connection());
-    Ok(first_wrong(alloc, &mut again, moved).is_none())
+    let (first, left) = answers(alloc, connection, moved);
+    let (again, left) = answers(alloc, left, moved);
+    drop(left);
+    first && again
+}
+
+// The same, in memory.
+fn is_moved_over(alloc: Global, old: &str, moved: &[(Call, Said)]) -> bool {
+    match Connection::open_in_memory(alloc) {
+        Ok(connection) => is_moved(alloc, connection, old, moved),
+        Err(_) => false,
+    }
 }
 
 #[test]
 fn a_file_of_version_1_is_migrated(rt: HostRuntime) -> Result<(), Fail> {
-    let alloc = rt.alloc();
-    assert!(rt; is_moved(alloc, SAME, &SAME_MOVED)?);
-    assert!(rt; is_moved(alloc, DIFFERENT, &DIFFERENT_MOVED)?);
+    assert!(rt; is_moved_over(rt.alloc(), SAME, &SAME_MOVED));
+    assert!(rt; is_moved_over(rt.alloc(), DIFFERENT, &DIFFERENT_MOVED));
     Ok(())
+}
+
+// Whether a keeper over these rows of version 1 fails, and leaves the version.
+fn is_refused<S: Alter + Drop>(alloc: Global, mut connection: Connection<S>, rows: &str) -> bool {
+    let failed = [(Call::Last(PHONE), Said::Refused(StoreError::Failed))];
+    if !is_made(&mut connection, rows) {
+        return false;
+    }
+    let (is_failed, mut left) = answers(alloc, connection, &failed);
+    let version = number(&mut left, "SELECT version FROM meta");
+    drop(left);
+    is_failed && version == Some(1)
+}
+
+// The same, in memory.
+fn is_refused_over(alloc: Global, rows: &str) -> bool {
+    match Connection::open_in_memory(alloc) {
+        Ok(connection) => is_refused(alloc, connection, rows),
+        Err(_) => false,
+    }
 }
 
 #[test]
 fn a_file_of_version_1_that_no_keeper_wrote_is_refused_and_stays(
     rt: HostRuntime,
 ) -> Result<(), Fail> {
-    let alloc = rt.alloc();
-    let failed = [(Call::Last(PHONE), Said::Refused(StoreError::Failed))];
     for rows in BROKEN {
-        let mut keeper = SqlKeeper::over(made(alloc, rows)?);
-        assert_eq!(rt; first_wrong(alloc, &mut keeper, &failed), None);
-        let mut left = keeper.into_connection();
-        let version: i64 = left.query_row("SELECT version FROM meta", &[])?.get(0)?;
-        assert_eq!(rt; version, 1);
+        assert!(rt; is_refused_over(rt.alloc(), rows));
     }
     Ok(())
+}
+
+// The files of a connection that have the rows of both editions.
+fn old_files_of<D: Disk + Drop>(mut connection: Connection<FileStore<D>>) -> Files<D> {
+    let _ = is_made(&mut connection, SAME);
+    files_of(connection)
 }
 
 // Files of version 1 that have the rows of both editions.
 fn old_files(alloc: Global) -> Files<Stopping> {
     match open_new(alloc, u64::MAX, u64::MAX) {
-        Ok(mut connection) => {
-            let _ = connection.execute_batch(TABLES);
-            let _ = connection.execute_batch(SAME);
-            files_of(connection)
-        }
+        Ok(connection) => old_files_of(connection),
         Err(left) => left,
     }
 }
 
 // Whether a keeper over the connection has all rows of the old files, moved.
-fn has_all(alloc: Global, connection: Option<Connection<FileStore<Stopping>>>) -> bool {
+fn has_all<S: Alter + Drop>(alloc: Global, connection: Option<Connection<S>>) -> bool {
     match connection {
         Some(connection) => {
-            first_wrong(alloc, &mut SqlKeeper::over(connection), &SAME_MOVED).is_none()
+            let (is_done, left) = answers(alloc, connection, &SAME_MOVED);
+            drop(left);
+            is_done
         }
         None => false,
     }
+}
+
+// The calls of a keeper over the connection. Whether all were answered, and what is left.
+fn migrate_over<D: Disk + Drop>(
+    alloc: Global,
+    connection: Connection<FileStore<D>>,
+) -> (bool, Files<D>) {
+    let (is_done, left) = answers(alloc, connection, &SAME_MOVED);
+    (is_done, files_of(left))
 }
 
 // The calls on copies of files that stop after so many calls on each. Whether all were answered, and what is left.
@@ -141,11 +191,7 @@ fn migrate_in(
     db_calls: u64,
 ) -> (bool, Files<Stopping>) {
     match open_again(alloc, old, log_calls, db_calls) {
-        Ok(connection) => {
-            let mut keeper = SqlKeeper::over(connection);
-            let is_done = first_wrong(alloc, &mut keeper, &SAME_MOVED).is_none();
-            (is_done, files_of(keeper.into_connection()))
-        }
+        Ok(connection) => migrate_over(alloc, connection),
         Err(left) => (false, left),
     }
 }

@@ -5,7 +5,8 @@ use crate::{keeper_calls, vault_calls};
 use jt_sql::{SqlKeeper, SqlVault};
 use jt_store::{Keeper, MemKeeper, MemVault, Vault};
 use jt_value::{Edition, Phone, Seq};
-use sqlite::{Alter, Connection, Files};
+use sqlite::{Alter, Connection, FileStore, Files};
+use sqlite_disk::Disk;
 use std::alloc::Global;
 use std::test::Fail;
 
@@ -14,32 +15,48 @@ const PHONE: Phone = Phone {
     digits: [0, 0, 0, 0, 0x01, 0x39, 0x12, 0x34, 0x56, 0x78],
 };
 
-// A registration, an authentication and a unit, and behind a restart an authentication and the unit again.
-const KEPT: [keeper_calls::Call; 6] = [
+// A registration, an authentication and a unit, and behind a restart an authentication and the unit again. A registration asks
+// who has the plate and the terminal id, and a row that is appended for the last one.
+const KEPT: [keeper_calls::Call; 10] = [
+    keeper_calls::Call::Registered(PHONE),
+    keeper_calls::Call::PlateOwner(b"PA"),
+    keeper_calls::Call::TerminalOwner(b"TA"),
     keeper_calls::Call::Register(PHONE, b"PA", b"TA"),
     keeper_calls::Call::Registered(PHONE),
+    keeper_calls::Call::Last(PHONE),
     keeper_calls::Call::Append(PHONE, 2, 7),
     keeper_calls::Call::Registered(PHONE),
     keeper_calls::Call::Last(PHONE),
     keeper_calls::Call::At(PHONE, 2),
 ];
 
-const KEPT_LOOKS: [keeper_calls::Call; 3] = [
+const KEPT_LOOKS: [keeper_calls::Call; 5] = [
     keeper_calls::Call::Registered(PHONE),
+    keeper_calls::Call::PlateOwner(b"PA"),
+    keeper_calls::Call::TerminalOwner(b"TA"),
     keeper_calls::Call::From(PHONE, 0),
     keeper_calls::Call::From(PHONE, 3),
 ];
 
-// What a terminal begins with, a fix, the code, a unit and its acceptance.
-const HELD: [vault_calls::Call; 5] = [
+// What a terminal begins with, fixes, the code, a unit of three fixes and one of one fix, each with its acceptance.
+const HELD: [vault_calls::Call; 10] = [
     vault_calls::Call::Load,
     vault_calls::Call::Code(Some(b'C')),
     vault_calls::Call::Note(1),
-    vault_calls::Call::Form,
+    vault_calls::Call::Note(2),
+    vault_calls::Call::Note(3),
+    vault_calls::Call::Note(4),
+    vault_calls::Call::Form(3),
+    vault_calls::Call::Accept,
+    vault_calls::Call::Form(1),
     vault_calls::Call::Accept,
 ];
 
-const HELD_LOOKS: [vault_calls::Call; 2] = [vault_calls::Call::Load, vault_calls::Call::Oldest];
+const HELD_LOOKS: [vault_calls::Call; 3] = [
+    vault_calls::Call::Load,
+    vault_calls::Call::Oldest,
+    vault_calls::Call::Next,
+];
 
 // Makes the calls up to the first that is refused, and counts those before it.
 fn keep<K: Keeper>(alloc: Global, keeper: &mut K) -> usize {
@@ -112,25 +129,36 @@ fn hold_the_same<V: Vault, W: Vault>(alloc: Global, vault: &mut V, wanted: &mut 
     true
 }
 
+// Makes the calls over a connection, and counts those that were not refused. What is left of its files.
+fn keep_over<D: Disk + Drop>(
+    alloc: Global,
+    connection: Connection<FileStore<D>>,
+) -> (usize, Files<D>) {
+    let mut keeper = SqlKeeper::over(connection);
+    let done = keep(alloc, &mut keeper);
+    (done, files_of(keeper.into_connection()))
+}
+
+fn hold_over<D: Disk + Drop>(
+    alloc: Global,
+    connection: Connection<FileStore<D>>,
+) -> (usize, Files<D>) {
+    let mut vault = SqlVault::over(connection);
+    let done = hold(alloc, &mut vault);
+    (done, files_of(vault.into_connection()))
+}
+
 // Makes the calls on files that stop, and counts those that were not refused.
 fn keep_in(alloc: Global, log_calls: u64, db_calls: u64) -> (usize, Files<Stopping>) {
     match open_new(alloc, log_calls, db_calls) {
-        Ok(connection) => {
-            let mut keeper = SqlKeeper::over(connection);
-            let done = keep(alloc, &mut keeper);
-            (done, files_of(keeper.into_connection()))
-        }
+        Ok(connection) => keep_over(alloc, connection),
         Err(left) => (0, left),
     }
 }
 
 fn hold_in(alloc: Global, log_calls: u64, db_calls: u64) -> (usize, Files<Stopping>) {
     match open_new(alloc, log_calls, db_calls) {
-        Ok(connection) => {
-            let mut vault = SqlVault::over(connection);
-            let done = hold(alloc, &mut vault);
-            (done, files_of(vault.into_connection()))
-        }
+        Ok(connection) => hold_over(alloc, connection),
         Err(left) => (0, left),
     }
 }

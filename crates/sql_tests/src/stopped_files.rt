@@ -56,7 +56,7 @@ pub fn open_new(
 }
 
 /// The files of a connection, with no further call on them.
-pub fn files_of(connection: Connection<FileStore<Stopping>>) -> Files<Stopping> {
+pub fn files_of<D: Disk + Drop>(connection: Connection<FileStore<D>>) -> Files<D> {
     connection.into_store().close()
 }
 

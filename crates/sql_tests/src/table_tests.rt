@@ -1,8 +1,10 @@
+use crate::connections::{filled, ran};
 use crate::files::{make_folder, remove_folder};
 use crate::vault_calls::{Call, Said, answer};
 use jt_sql::SqlVault;
-use jt_store::StoreError;
-use sqlite::{Connection, Error};
+use jt_store::{StoreError, Vault};
+use jt_value::Memory;
+use sqlite::{Alter, Connection};
 use std::alloc::Global;
 use std::fs;
 use std::test::Fail;
@@ -26,8 +28,13 @@ const ALL: &str =
 const NO_SECOND: &str = "INSERT INTO unit VALUES (0, 2, 512, x'07', 1), (2, 4, 512, x'09', 1); \
      INSERT INTO state VALUES (1, 2, 2, 3, 5, NULL)";
 
+// A unit of two fixes and one of one are accepted, and counted as one fix each.
+const MISCOUNTED: &str =
+    "INSERT INTO unit VALUES (0, 2, 1796, x'000201', 2), (1, 3, 512, x'09', 1); \
+     INSERT INTO state VALUES (1, 2, 2, 3, 4, NULL)";
+
 // What the other tables have, and how it is loaded. The second unit stands at place 1, and the state is one row.
-const ROWS: [(&str, Said); 14] = [
+const ROWS: [(&str, Said); 21] = [
     (
         "INSERT INTO unit VALUES (0, 2, 512, x'07', 1), (1, 3, 512, x'08', 1); \
          INSERT INTO state VALUES (1, 1, 1, 2, 4, NULL)",
@@ -96,58 +103,112 @@ const ROWS: [(&str, Said); 14] = [
          INSERT INTO state VALUES (1, 2, 2, 3, 5, NULL)",
         Said::Refused(StoreError::Failed),
     ),
+    // A unit of two fixes and one of one are accepted, and as many fixes, one less and one more.
+    (
+        "INSERT INTO unit VALUES (0, 2, 1796, x'000201', 2), (1, 3, 512, x'09', 1); \
+         INSERT INTO state VALUES (1, 2, 3, 3, 4, NULL)",
+        Said::Held(0, 0, 3, 4, 3, 3),
+    ),
+    (MISCOUNTED, Said::Refused(StoreError::Failed)),
+    (
+        "INSERT INTO unit VALUES (0, 2, 512, x'07', 1), (1, 3, 512, x'08', 1); \
+         INSERT INTO state VALUES (1, 2, 3, 3, 4, NULL)",
+        Said::Refused(StoreError::Failed),
+    ),
+    // A unit of two fixes waits, and counts two, one and three; and a position that counts two.
+    (
+        "INSERT INTO unit VALUES (0, 2, 512, x'07', 1), (1, 3, 1796, x'000201', 2); \
+         INSERT INTO state VALUES (1, 1, 1, 2, 4, NULL)",
+        Said::Held(0, 1, 2, 4, 3, 1),
+    ),
+    (
+        "INSERT INTO unit VALUES (0, 2, 512, x'07', 1), (1, 3, 1796, x'000201', 1); \
+         INSERT INTO state VALUES (1, 1, 1, 2, 4, NULL)",
+        Said::Refused(StoreError::Failed),
+    ),
+    (
+        "INSERT INTO unit VALUES (0, 2, 1796, x'000201', 3); \
+         INSERT INTO state VALUES (1, 0, 0, 65535, 3, NULL)",
+        Said::Refused(StoreError::Failed),
+    ),
+    (
+        "INSERT INTO unit VALUES (0, 2, 512, x'07', 1), (1, 3, 512, x'08', 2); \
+         INSERT INTO state VALUES (1, 1, 1, 2, 4, NULL)",
+        Said::Refused(StoreError::Failed),
+    ),
 ];
 
-// What a vault loads over the tables with these rows.
-fn loads(alloc: Global, rows: &str) -> Result<Said, Error> {
-    let mut connection = Connection::open_in_memory(alloc)?;
-    connection.execute_batch(TABLES)?;
-    connection.execute_batch(rows)?;
+// What a vault loads over the tables with these rows. None where they can't be made.
+fn loads<S: Alter + Drop>(
+    alloc: Global,
+    mut connection: Connection<S>,
+    rows: &str,
+) -> Option<Said> {
+    if !ran(&mut connection, TABLES) || !ran(&mut connection, rows) {
+        return None;
+    }
     let mut vault = SqlVault::over(connection);
-    Ok(answer(alloc, &mut vault, Call::Load))
+    let said = answer(alloc, &mut vault, Call::Load);
+    drop(vault);
+    Some(said)
+}
+
+// The same, in memory.
+fn loads_over(alloc: Global, rows: &str) -> Option<Said> {
+    match Connection::open_in_memory(alloc) {
+        Ok(connection) => loads(alloc, connection, rows),
+        Err(_) => None,
+    }
 }
 
 #[test]
-fn places_without_a_row_and_two_states_are_refused(rt: HostRuntime) -> Result<(), Fail> {
+fn what_no_vault_would_have_written_is_refused(rt: HostRuntime) -> Result<(), Fail> {
     for (rows, said) in ROWS {
-        assert!(rt; loads(rt.alloc(), rows)? == said, "{rows}");
+        assert!(rt; loads_over(rt.alloc(), rows) == Some(said), "{rows}");
     }
     Ok(())
 }
 
-// Makes a vault's file with these rows.
-fn make_file(rt: &HostRuntime, path: &str, rows: &str) -> Result<(), Error> {
-    let mut connection = Connection::open(rt, path)?;
-    connection.execute_batch(TABLES)?;
-    connection.execute_batch(rows)?;
-    connection.close()
+// Whether a vault's file with these rows was made.
+fn is_made(rt: &HostRuntime, path: &str, rows: &str) -> bool {
+    match Connection::open(rt, path) {
+        Ok(connection) => filled(connection, &[TABLES, rows]),
+        Err(_) => false,
+    }
 }
 
-// What the vault over a file loads, and whether the file is then as it was.
-fn loads_file(
-    rt: &HostRuntime,
-    path: &str,
-    mut vault: SqlVault<HostRuntime>,
-) -> Result<(Said, bool), Fail> {
-    let before = fs::read(rt, path)?;
-    let said = answer(rt.alloc(), &mut vault, Call::Load);
+// What a vault loads, which is then let go of.
+fn loads_once<V: Vault + Drop>(alloc: Global, mut vault: V) -> Said {
+    let said = answer(alloc, &mut vault, Call::Load);
     drop(vault);
-    let after = fs::read(rt, path)?;
-    Ok((said, before.as_slice() == after.as_slice()))
+    said
+}
+
+fn vault_in(rt: &HostRuntime, path: &str) -> Result<SqlVault<HostRuntime>, Memory> {
+    SqlVault::at(rt.clone()?, path)
+}
+
+// What a vault over a file loads.
+fn loads_file(rt: &HostRuntime, path: &str) -> Said {
+    match vault_in(rt, path) {
+        Ok(vault) => loads_once(rt.alloc(), vault),
+        Err(Memory) => Said::Nothing,
+    }
 }
 
 #[test]
 fn a_file_that_is_refused_stays_as_it_was(rt: HostRuntime) -> Result<(), Fail> {
     make_folder(&rt, "table_test")?;
-    make_file(&rt, "table_test/a.db", ALL)?;
-    make_file(&rt, "table_test/b.db", NO_SECOND)?;
-    let vault = SqlVault::at(rt.clone()?, "table_test/a.db").expect(&rt, "memory");
-    let (all, _) = loads_file(&rt, "table_test/a.db", vault)?;
-    assert_eq!(rt; all, Said::Held(0, 1, 3, 5, 3, 2));
-    let vault = SqlVault::at(rt.clone()?, "table_test/b.db").expect(&rt, "memory");
-    let (no_second, is_same) = loads_file(&rt, "table_test/b.db", vault)?;
-    assert_eq!(rt; no_second, Said::Refused(StoreError::Failed));
-    assert!(rt; is_same);
+    assert!(rt; is_made(&rt, "table_test/a.db", ALL));
+    assert!(rt; loads_file(&rt, "table_test/a.db") == Said::Held(0, 1, 3, 5, 3, 2));
+    for rows in [NO_SECOND, MISCOUNTED] {
+        make_folder(&rt, "table_test")?;
+        assert!(rt; is_made(&rt, "table_test/b.db", rows));
+        let before = fs::read(&rt, "table_test/b.db")?;
+        assert!(rt; loads_file(&rt, "table_test/b.db") == Said::Refused(StoreError::Failed));
+        let after = fs::read(&rt, "table_test/b.db")?;
+        assert!(rt; before.as_slice() == after.as_slice());
+    }
     remove_folder(&rt, "table_test")?;
     Ok(())
 }

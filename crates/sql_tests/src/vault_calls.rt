@@ -1,8 +1,9 @@
 //! Calls of any vault, which look first whether they may be made, and what it answers.
 
-use jt_position::{Fix, law_fixes};
-use jt_store::{Loaded, StoreError, Unit, Vault};
-use jt_value::{Octets, gap};
+use crate::units::unit_of;
+use jt_position::Fix;
+use jt_store::{Loaded, StoreError, Vault};
+use jt_value::gap;
 use std::alloc::Global;
 
 /// The greatest gap of a unit that is formed.
@@ -13,8 +14,8 @@ const NEAR: u16 = 32_766;
 pub enum Call {
     /// Records a fix at this latitude.
     Note(u32),
-    /// Forms a unit of the oldest fix that is in none.
-    Form,
+    /// Forms a unit of so many of the oldest fixes that are in none: a position, or a batch of two and more.
+    Form(usize),
     /// Accepts the oldest unit.
     Accept,
     /// Sets the code to one octet, or removes it.
@@ -22,18 +23,22 @@ pub enum Call {
     /// How many fixes are in no unit and how many units wait, the mark, the next serial, and how many fixes are recorded and
     /// accepted.
     Load,
-    /// The serial of the oldest unit that waits, and the first octet of the code.
+    /// The serial of the oldest unit that waits, how many fixes it carries, and the first octet of the code.
     Oldest,
+    /// The latitude of the oldest fix that is in no unit.
+    Next,
 }
 
 /// What a vault answers.
 #[derive(Clone, Copy, Debug, PartialEq, Eq)]
 pub enum Said {
     Done,
-    /// Nothing waits, or the units are too far from the mark.
+    /// So many do not wait, or the units are too far from the mark.
     Nothing,
     Held(usize, usize, u16, u16, u64, u64),
-    Oldest(u16, Option<u8>),
+    Oldest(u16, u32, Option<u8>),
+    /// The last octet of the latitude.
+    Next(u8),
     Refused(StoreError),
 }
 
@@ -43,21 +48,14 @@ fn note<V: Vault>(alloc: Global, vault: &mut V, lat: u32) -> Result<bool, StoreE
     Ok(true)
 }
 
-fn form<V: Vault>(alloc: Global, vault: &mut V) -> Result<bool, StoreError> {
+fn form<V: Vault>(alloc: Global, vault: &mut V, count: usize) -> Result<bool, StoreError> {
     let loaded = vault.load(alloc)?;
     if gap(loaded.mark, loaded.next) > NEAR {
         return Ok(false);
     }
-    let Some(fix) = loaded.fixes.get(0) else {
+    let Some(unit) = unit_of(alloc, loaded.next, loaded.fixes.as_slice(), count)? else {
         return Ok(false);
     };
-    let unit = Unit {
-        serial: loaded.next,
-        id: 0x0200,
-        body: Octets::from_vec(Vec::from_slice(alloc, fix.as_slice())?),
-        count: 1,
-    };
-    law_fixes();
     vault.form(alloc, &unit)?;
     Ok(true)
 }
@@ -111,7 +109,17 @@ fn first_octet(loaded: &Loaded) -> Option<u8> {
 fn said_of_oldest(answer: Result<Loaded, StoreError>) -> Said {
     match answer {
         Ok(loaded) => match loaded.units.get(0) {
-            Some(unit) => Said::Oldest(unit.serial, first_octet(&loaded)),
+            Some(unit) => Said::Oldest(unit.serial, unit.count, first_octet(&loaded)),
+            None => Said::Nothing,
+        },
+        Err(error) => Said::Refused(error),
+    }
+}
+
+fn said_of_next(answer: Result<Loaded, StoreError>) -> Said {
+    match answer {
+        Ok(loaded) => match loaded.fixes.get(0) {
+            Some(fix) => Said::Next(fix.as_slice().get(11).copied().unwrap_or(0)),
             None => Said::Nothing,
         },
         Err(error) => Said::Refused(error),
@@ -122,11 +130,12 @@ fn said_of_oldest(answer: Result<Loaded, StoreError>) -> Said {
 pub fn answer<V: Vault>(alloc: Global, vault: &mut V, call: Call) -> Said {
     match call {
         Call::Note(lat) => said_of(note(alloc, vault, lat)),
-        Call::Form => said_of(form(alloc, vault)),
+        Call::Form(count) => said_of(form(alloc, vault, count)),
         Call::Accept => said_of(accept(alloc, vault)),
         Call::Code(code) => said_of(set_code(alloc, vault, code)),
         Call::Load => said_of_held(vault.load(alloc)),
         Call::Oldest => said_of_oldest(vault.load(alloc)),
+        Call::Next => said_of_next(vault.load(alloc)),
     }
 }
 

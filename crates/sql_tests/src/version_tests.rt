@@ -1,8 +1,9 @@
+use crate::connections::ran;
 use crate::vault_calls;
 use jt_sql::{SqlKeeper, SqlVault};
 use jt_store::{Keeper, StoreError};
 use jt_value::{Edition, Phone};
-use sqlite::{Connection, Error, MemStore};
+use sqlite::{Alter, Connection};
 use std::alloc::Global;
 use std::test::Fail;
 
@@ -11,33 +12,52 @@ const PHONE: Phone = Phone {
     digits: [0, 0, 0, 0, 0x01, 0x39, 0x12, 0x34, 0x56, 0x78],
 };
 
-// A connection in memory over which a text was run.
-fn made(alloc: Global, sql: &str) -> Result<Connection<MemStore>, Error> {
-    let mut connection = Connection::open_in_memory(alloc)?;
-    connection.execute_batch(sql)?;
-    Ok(connection)
-}
-
-// Whether a keeper over such a connection fails twice.
-fn keeper_fails(alloc: Global, sql: &str) -> Result<bool, Error> {
-    let mut keeper = SqlKeeper::over(made(alloc, sql)?);
+// Whether a keeper over the connection fails twice.
+fn keeper_fails<S: Alter + Drop>(alloc: Global, connection: Connection<S>) -> bool {
+    let mut keeper = SqlKeeper::over(connection);
     let first = keeper.last(alloc, &PHONE) == Err(StoreError::Failed);
     let second = keeper.unregister(alloc, &PHONE) == Err(StoreError::Failed);
-    Ok(first && second)
+    drop(keeper);
+    first && second
 }
 
-// Whether a vault over such a connection fails.
-fn vault_fails(alloc: Global, sql: &str) -> Result<bool, Error> {
-    let mut vault = SqlVault::over(made(alloc, sql)?);
+// Whether a vault over the connection fails twice.
+fn vault_fails<S: Alter + Drop>(alloc: Global, connection: Connection<S>) -> bool {
+    let mut vault = SqlVault::over(connection);
     let failed = vault_calls::Said::Refused(StoreError::Failed);
     let load = vault_calls::answer(alloc, &mut vault, vault_calls::Call::Load) == failed;
     let note = vault_calls::answer(alloc, &mut vault, vault_calls::Call::Note(1)) == failed;
-    Ok(load && note)
+    drop(vault);
+    load && note
+}
+
+// Whether a store over a text fails.
+fn fails<S: Alter + Drop>(
+    alloc: Global,
+    mut connection: Connection<S>,
+    sql: &str,
+    keeper: bool,
+) -> bool {
+    if !ran(&mut connection, sql) {
+        return false;
+    }
+    if keeper {
+        keeper_fails(alloc, connection)
+    } else {
+        vault_fails(alloc, connection)
+    }
+}
+
+// The same, over a text in memory.
+fn fails_over(alloc: Global, sql: &str, keeper: bool) -> bool {
+    match Connection::open_in_memory(alloc) {
+        Ok(connection) => fails(alloc, connection, sql, keeper),
+        Err(_) => false,
+    }
 }
 
 #[test]
 fn other_files_are_refused(rt: HostRuntime) -> Result<(), Fail> {
-    let alloc = rt.alloc();
     let texts = [
         "CREATE TABLE meta (version INTEGER); INSERT INTO meta (version) VALUES (3)",
         "CREATE TABLE meta (version INTEGER)",
@@ -47,8 +67,8 @@ fn other_files_are_refused(rt: HostRuntime) -> Result<(), Fail> {
         "CREATE TABLE other (version INTEGER)",
     ];
     for text in texts {
-        assert!(rt; keeper_fails(alloc, text)?);
-        assert!(rt; vault_fails(alloc, text)?);
+        assert!(rt; fails_over(rt.alloc(), text, true));
+        assert!(rt; fails_over(rt.alloc(), text, false));
     }
     Ok(())
 }

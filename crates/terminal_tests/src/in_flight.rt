@@ -2,7 +2,8 @@
 
 ghost use Rattle.std.specs.Prelude.{◌≡◌, IfSome};
 
-use crate::talking::{first_wrong, settings, wrong_row};
+use crate::scene::settings;
+use crate::talking::{first_wrong, wrong_row};
 use jt_position::{Fix, law_fixes};
 use jt_store::{MemVault, StoreError, Unit, Vault};
 use jt_terminal::Terminal;

@@ -1,6 +1,8 @@
-//! Tests of the terminal over a vault in memory.
+//! Tests of the terminal and of its line over a vault in memory: what it says at each event, and what it answers.
 #![tactic(auto)]
 
+#[cfg(test)]
+mod answers;
 #[cfg(test)]
 mod counting;
 #[cfg(test)]
@@ -8,8 +10,10 @@ mod faults;
 #[cfg(test)]
 mod in_flight;
 #[cfg(test)]
-mod rows_2013;
+mod playing;
 #[cfg(test)]
-mod rows_2019;
+mod rows;
+#[cfg(test)]
+mod scene;
 #[cfg(test)]
 mod talking;

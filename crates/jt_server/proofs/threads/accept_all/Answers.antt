@@ -42,7 +42,7 @@ returns g c =
       failed = j.failed ∙ s.failed;
       up_to = j.up_to;
       jobs = λ m job at.
-          subst (λ x. MatchResult job (λ h. IsGiven x c.args.turn.now (g.D.Door.pool c.args.door.now).coming m h.promise.pass.value (wire_of g.D.Link.Sink.inbound g.D.Link.Sink.written g.D.Link.Sink.faults h.promise.link.value))
+          subst (λ x. MatchResult job (λ h. IsGiven x c.args.turn.now (g.D.Door.pool c.args.door.now).coming m h.promise.given.value.pass.value (wire_of g.D.Link.Sink.inbound g.D.Link.Sink.written g.D.Link.Sink.faults h.promise.given.value.link.value))
           (λ w. IsWorked (option_map (λ o. opening_of (g.P.Keeper.tables o.start) (g.P.Keeper.limit o.start) o.fleet o.secret) x) x c.args.turn.now (g.D.Door.pool c.args.door.now).coming m w.pass (wire_of g.D.Link.Sink.inbound g.D.Link.Sink.written g.D.Link.Sink.faults w.link) w.report)) over
           (e.jobs m job at);
       pool = e.pool;

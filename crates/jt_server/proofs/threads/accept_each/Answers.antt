@@ -65,7 +65,7 @@ loop-accepted-preserved g c =
       count = counts_then _ _ _ inv.count c.in-Link.ensures.count;
       jobs = all_more _ c.loop-accepted.jobs.items c.push.new.self.items c.start-job.result m c.in-Ok.ensures.ok inv.as_many inv.jobs
           (started c.start-job.result (λ x. option_map (λ o. opening_of (g.P.Keeper.tables o.start) (g.P.Keeper.limit o.start) o.fleet o.secret) x) c.args.root.now.opening c.args.turn.now (g.D.Door.pool c.args.door.now).coming m c.in-Some.one c.in-Link.link (λ k. wire_of g.D.Link.Sink.inbound g.D.Link.Sink.written g.D.Link.Sink.faults k)
-          (λ h. h.promise.pass.value) (λ h. h.promise.link.value) (λ w. w.pass) (λ w. w.link) (λ w. w.report)
+          (λ h. h.promise.given.value.pass.value) (λ h. h.promise.given.value.link.value) (λ w. w.pass) (λ w. w.link) (λ w. w.report)
           (unused_given c.args.root.now.opening c.args.turn.now (g.D.Door.pool c.args.door.now) (g.D.Door.pool c.loop-accepted.door) m c.in-Some.one _ (inv.unused k c.in-Some.one at) (omega (arith, less, rest, all)) inv.pool c.in-Link.ensures.link.0)
           c.start-job.ensures);
     }

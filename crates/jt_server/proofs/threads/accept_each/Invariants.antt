@@ -20,7 +20,7 @@ invariant-loop-accepted g l = record {
   name : g.D.Door.name l.door ≡ g.D.Door.name l.fn.door;
   count : Counts (g.D.Door.faults l.fn.door) (g.D.Door.faults l.door);
   jobs :
-      (m : ℕ) (job : _) → get_elem? l.jobs.items m ≡ some job → MatchResult job (λ h. IsGiven l.root.opening l.turn (g.D.Door.pool l.fn.door).coming m h.promise.pass.value (wire_of g.D.Link.Sink.inbound g.D.Link.Sink.written g.D.Link.Sink.faults h.promise.link.value))
+      (m : ℕ) (job : _) → get_elem? l.jobs.items m ≡ some job → MatchResult job (λ h. IsGiven l.root.opening l.turn (g.D.Door.pool l.fn.door).coming m h.promise.given.value.pass.value (wire_of g.D.Link.Sink.inbound g.D.Link.Sink.written g.D.Link.Sink.faults h.promise.given.value.link.value))
       (λ w. IsWorked (option_map (λ o. opening_of (g.P.Keeper.tables o.start) (g.P.Keeper.limit o.start) o.fleet o.secret) l.root.opening) l.root.opening l.turn (g.D.Door.pool l.fn.door).coming m w.pass (wire_of g.D.Link.Sink.inbound g.D.Link.Sink.written g.D.Link.Sink.faults w.link) w.report);
 }
 

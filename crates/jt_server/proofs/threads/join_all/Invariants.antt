@@ -17,7 +17,7 @@ invariant-loop-job g l = record {
   up_to : AreUpTo (length l.fn.jobs.items) l.pass;
   failed : HasFailed (store_faults (map (λ b. b.report) l.links.items)) l.pass;
   jobs :
-      (m : ℕ) (job : _) → get_elem? l.jobs.items m ≡ some job → MatchResult job (λ h. IsGiven l.fn.pass.opening l.turn (g.D.Door.pool l.before.value).coming m h.promise.pass.value (wire_of g.D.Link.Sink.inbound g.D.Link.Sink.written g.D.Link.Sink.faults h.promise.link.value))
+      (m : ℕ) (job : _) → get_elem? l.jobs.items m ≡ some job → MatchResult job (λ h. IsGiven l.fn.pass.opening l.turn (g.D.Door.pool l.before.value).coming m h.promise.given.value.pass.value (wire_of g.D.Link.Sink.inbound g.D.Link.Sink.written g.D.Link.Sink.faults h.promise.given.value.link.value))
       (λ w. IsWorked (option_map (λ o. opening_of (g.P.Keeper.tables o.start) (g.P.Keeper.limit o.start) o.fleet o.secret) l.fn.pass.opening) l.fn.pass.opening l.turn (g.D.Door.pool l.before.value).coming m w.pass (wire_of g.D.Link.Sink.inbound g.D.Link.Sink.written g.D.Link.Sink.faults w.link) w.report);
   links :
       (i : ℕ) (b : _) → get_elem? l.links.items i ≡ some b → IsJoined (option_map (λ o. opening_of (g.P.Keeper.tables o.start) (g.P.Keeper.limit o.start) o.fleet o.secret) l.fn.pass.opening) l.fn.pass.opening l.turn (g.D.Door.pool l.before.value).coming (length l.fn.jobs.items - 1 - i) l.pass (wire_of g.D.Link.Sink.inbound g.D.Link.Sink.written g.D.Link.Sink.faults b.link) b.report;

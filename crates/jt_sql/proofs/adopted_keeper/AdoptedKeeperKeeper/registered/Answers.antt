@@ -1,7 +1,7 @@
 use Rattle.std.proofs.Common.{◌≡◌}
 use Rattle.jt_value.specs.Sameness.{key_of}
 use Rattle.jt_store.specs.Tables.{Tables}
-use Rattle.jt_sql.proofs.Untelling.{reads}
+use Rattle.jt_store_answers.proofs.Untelling.{reads}
 use Rattle.jt_sql.proofs.adopted_keeper.AdoptedKeeperKeeper.registered.Goals as goal
 
 pub returns-clause-answer : goal.returns-clause-answer

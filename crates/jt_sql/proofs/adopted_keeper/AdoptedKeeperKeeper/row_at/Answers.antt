@@ -1,6 +1,6 @@
 use Rattle.jt_value.specs.Sameness.{key_of}
 use Rattle.jt_store.specs.Tables.{Tables, Finds}
-use Rattle.jt_sql.proofs.Untelling.{reads}
+use Rattle.jt_store_answers.proofs.Untelling.{reads}
 use Rattle.jt_sql.proofs.adopted_keeper.AdoptedKeeperKeeper.row_at.Goals as goal
 
 pub returns-clause-answer : goal.returns-clause-answer

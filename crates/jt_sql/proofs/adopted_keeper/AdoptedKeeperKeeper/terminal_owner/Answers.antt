@@ -1,5 +1,5 @@
 use Rattle.jt_store.specs.Tables.{Tables, IsOwner, terminals}
-use Rattle.jt_sql.proofs.Untelling.{reads}
+use Rattle.jt_store_answers.proofs.Untelling.{reads}
 use Rattle.jt_sql.proofs.adopted_keeper.AdoptedKeeperKeeper.terminal_owner.Goals as goal
 
 pub returns-clause-answer : goal.returns-clause-answer

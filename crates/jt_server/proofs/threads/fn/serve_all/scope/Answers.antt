@@ -20,9 +20,9 @@ join_all-requires g c =
       failed = a.failed;
       up_to = a.up_to;
       jobs = λ m job at.
-          subst (λ d. MatchResult job (λ h. IsGiven c.accept_all-end.new.pass.opening c.captures.turn.now (g.D.Door.pool d).coming m h.promise.pass.value (wire_of g.D.Link.Sink.inbound g.D.Link.Sink.written g.D.Link.Sink.faults h.promise.link.value))
+          subst (λ d. MatchResult job (λ h. IsGiven c.accept_all-end.new.pass.opening c.captures.turn.now (g.D.Door.pool d).coming m h.promise.given.value.pass.value (wire_of g.D.Link.Sink.inbound g.D.Link.Sink.written g.D.Link.Sink.faults h.promise.given.value.link.value))
           (λ w. IsWorked (option_map (λ o. opening_of (g.P.Keeper.tables o.start) (g.P.Keeper.limit o.start) o.fleet o.secret) c.accept_all-end.new.pass.opening) c.accept_all-end.new.pass.opening c.captures.turn.now (g.D.Door.pool d).coming m w.pass (wire_of g.D.Link.Sink.inbound g.D.Link.Sink.written g.D.Link.Sink.faults w.link) w.report)) (sym c.of-before.ensures)
-          (subst (λ x. MatchResult job (λ h. IsGiven x c.captures.turn.now (g.D.Door.pool c.captures.door).coming m h.promise.pass.value (wire_of g.D.Link.Sink.inbound g.D.Link.Sink.written g.D.Link.Sink.faults h.promise.link.value))
+          (subst (λ x. MatchResult job (λ h. IsGiven x c.captures.turn.now (g.D.Door.pool c.captures.door).coming m h.promise.given.value.pass.value (wire_of g.D.Link.Sink.inbound g.D.Link.Sink.written g.D.Link.Sink.faults h.promise.given.value.link.value))
           (λ w. IsWorked (option_map (λ o. opening_of (g.P.Keeper.tables o.start) (g.P.Keeper.limit o.start) o.fleet o.secret) x) x c.captures.turn.now (g.D.Door.pool c.captures.door).coming m w.pass (wire_of g.D.Link.Sink.inbound g.D.Link.Sink.written g.D.Link.Sink.faults w.link) w.report)) (sym a.root.over)
           (a.jobs m job (subst (λ l. get_elem? l m ≡ some job) items at)));
       room = (c.requires.room.2, omega (arith, few, many, c.requires.room.3));
