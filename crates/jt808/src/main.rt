@@ -1,7 +1,7 @@
-//! The program `jt808`: it makes the real objects, and leaves all else to `jt_cli::run`.
+//! The program `jt808`: it makes the real objects, and leaves all else to `jt_cli::run`, by a call that hides its contract.
 #![tactic(auto)]
 
-use jt_cli::{Ended, Outside, Status, run};
+use jt_cli::{Ended, Outside, Status, run_bare};
 use jt_outside::{
     Clock, Dial, Listen, Sink, Source, StdClock, StdSink, StdSource, TcpDial, TcpListen,
 };
@@ -85,7 +85,7 @@ where
         outside,
         reports,
         history,
-    } = run(rt, alloc, words, outside);
+    } = run_bare(rt, alloc, words, outside);
     drop(outside);
     drop(reports);
     drop(history);

@@ -4,6 +4,7 @@
 mod acting;
 mod alone;
 mod asked;
+mod bare;
 mod outside;
 mod playing;
 mod relaying;
@@ -14,6 +15,7 @@ mod usage;
 
 pub use alone::run_alone;
 pub use asked::Asked;
+pub use bare::{run_alone_bare, run_bare};
 pub use jt_input::Status;
 pub use jt_text::{refusal_line, view_line};
 pub use jt_view::{

@@ -6,9 +6,11 @@ ghost use Rattle.jt_report_command.specs.Telling.{values_in_words};
 ghost use Rattle.jt_report_command.specs.ReportWords.{AreSpoken};
 
 use jt_input::Status;
-use jt_outside::{MemSink, MemSource, ScriptClock, ScriptDial, ScriptLink};
-use jt_report_command::{ReportWords, report};
-use jt_store::MemVault;
+use jt_outside::{
+    Clock, Dial, MemSink, MemSource, ScriptClock, ScriptDial, ScriptLink, Sink, Source,
+};
+use jt_report_command::{ReportRun, ReportWords, report};
+use jt_store::{MemVault, Vault};
 use jt_value::{Memory, Octets, Seq};
 use std::alloc::Global;
 use std::process::Abort;
@@ -60,13 +62,15 @@ pub struct Scene {
     pub limit: u64,
 }
 
-// What a run left: its status, what was printed, what was written to the link, if it came back, and the vault.
+// What is compared of a run, and the vault that it left.
 #[derive(Drop)]
-struct Ran {
+struct Found<V> {
     status: Status,
-    printed: Octets,
-    written: Option<Octets>,
-    vault: MemVault,
+    // Whether it printed what is wanted.
+    prints: bool,
+    // Whether a link came back that was written what is wanted, or none did where none is wanted.
+    sends: bool,
+    vault: V,
 }
 
 /// No fault, and a link that gives these octets, or none.
@@ -82,14 +86,15 @@ pub fn calm(words: &'static str, octets: Option<&'static [u8]>) -> Scene {
     }
 }
 
-fn failing(alloc: Global, call: u64) -> Result<Seq<u64>, Memory> {
+fn failing(rt: &impl Abort, alloc: Global, call: u64) -> Seq<u64> {
     let mut calls = Seq::new(alloc);
-    calls.push(call)?;
-    Ok(calls)
+    calls.push(call).expect(rt, "there is memory");
+    calls
 }
 
-fn octets(alloc: Global, octets: &[u8]) -> Result<Octets, Memory> {
-    Ok(Octets::from_vec(Vec::from_slice(alloc, octets)?))
+fn octets(rt: &impl Abort, alloc: Global, octets: &[u8]) -> Octets {
+    let octets = Vec::from_slice(alloc, octets).expect(rt, "there is memory");
+    Octets::from_vec(octets)
 }
 
 fn words(alloc: Global, text: &str) -> Result<Option<ReportWords>, Memory>
@@ -111,58 +116,87 @@ fn spoken(alloc: Global, text: &str) -> Option<ReportWords>
     }
 }
 
-fn source(alloc: Global, scene: &Scene, text: &[u8]) -> Result<MemSource, Memory> {
-    let calls = failing(alloc, scene.source_fails)?;
-    let octets = octets(alloc, text)?;
-    Ok(MemSource::new(octets, calls))
+fn source(rt: &impl Abort, alloc: Global, scene: &Scene, text: &[u8]) -> MemSource {
+    let calls = failing(rt, alloc, scene.source_fails);
+    let octets = octets(rt, alloc, text);
+    MemSource::new(octets, calls)
 }
 
-fn sink(alloc: Global, scene: &Scene) -> Result<MemSink, Memory> {
-    let calls = failing(alloc, scene.sink_fails)?;
-    MemSink::new(alloc, 65_536, calls)
+fn sink(rt: &impl Abort, alloc: Global, scene: &Scene) -> MemSink {
+    let calls = failing(rt, alloc, scene.sink_fails);
+    MemSink::new(alloc, 65_536, calls).expect(rt, "there is memory")
 }
 
-fn link(alloc: Global, given: &[u8]) -> Result<ScriptLink, Memory>
-    ensures { IfOk result (λ link. IsUntouched link) }
+fn link(rt: &impl Abort, alloc: Global, given: &[u8]) -> ScriptLink
+    ensures { IsUntouched result }
 {
-    let octets = octets(alloc, given)?;
-    ScriptLink::new(alloc, octets, 65_536, Seq::new(alloc))
+    let octets = octets(rt, alloc, given);
+    ScriptLink::new(alloc, octets, 65_536, Seq::new(alloc)).expect(rt, "there is memory")
 }
 
-fn dial_of(alloc: Global, given: &[u8], calls: Seq<u64>) -> Result<ScriptDial, Memory> {
-    let link = link(alloc, given)?;
+fn dial_of(rt: &impl Abort, alloc: Global, given: &[u8], calls: Seq<u64>) -> ScriptDial {
+    let link = link(rt, alloc, given);
     let mut links = Seq::new(alloc);
-    links.push(link)?;
-    ScriptDial::new(alloc, links, calls)
+    links.push(link).expect(rt, "there is memory");
+    ScriptDial::new(alloc, links, calls).expect(rt, "there is memory")
 }
 
-fn dial(alloc: Global, scene: &Scene) -> Result<ScriptDial, Memory> {
-    let calls = failing(alloc, scene.dial_fails)?;
+fn dial_without_links(rt: &impl Abort, alloc: Global, calls: Seq<u64>) -> ScriptDial {
+    ScriptDial::new(alloc, Seq::new(alloc), calls).expect(rt, "there is memory")
+}
+
+fn dial(rt: &impl Abort, alloc: Global, scene: &Scene) -> ScriptDial {
+    let calls = failing(rt, alloc, scene.dial_fails);
     match scene.octets {
-        Some(given) => dial_of(alloc, given, calls),
-        None => ScriptDial::new(alloc, Seq::new(alloc), calls),
+        Some(given) => dial_of(rt, alloc, given, calls),
+        None => dial_without_links(rt, alloc, calls),
     }
 }
 
-fn vault(alloc: Global, scene: &Scene) -> Result<MemVault, Memory> {
-    let calls = failing(alloc, scene.vault_fails)?;
-    Ok(MemVault::new(alloc, scene.limit.min(100_000), calls))
+fn vault(rt: &impl Abort, alloc: Global, scene: &Scene) -> MemVault {
+    let calls = failing(rt, alloc, scene.vault_fails);
+    MemVault::new(alloc, scene.limit.min(100_000), calls)
 }
 
-fn written_back(alloc: Global, dial: &ScriptDial) -> Result<Option<Octets>, Memory> {
-    match dial.links_back().first() {
-        Some(link) => Ok(Some(octets(alloc, link.written())?)),
-        None => Ok(None),
+fn sends(dial: &ScriptDial, written: Option<&[u8]>) -> bool {
+    match (dial.links_back().first(), written) {
+        (Some(link), Some(wanted)) => link.written() == wanted,
+        (None, None) => true,
+        _ => false,
     }
 }
 
-fn ran_over<R: Abort>(rt: &R, alloc: Global, scene: &Scene, text: &[u8], vault: MemVault) -> Ran {
-    let mut source = source(alloc, scene, text).expect(rt, "there is memory");
-    let mut sink = sink(alloc, scene).expect(rt, "there is memory");
-    let mut dial = dial(alloc, scene).expect(rt, "there is memory");
+// (a call of its own, with no clause: its caller owns all that it is over)
+fn report_over<S: Source, K: Sink, D: Dial, C: Clock, V: Vault>(
+    alloc: Global,
+    source: &mut S,
+    sink: &mut K,
+    dial: &mut D,
+    clock: &mut C,
+    vault: V,
+    words: ReportWords,
+) -> ReportRun<V>
+    requires words { AreSpoken (values_in_words words) }
+{
+    report(alloc, source, sink, dial, clock, vault, words)
+}
+
+// Runs `report` over a scene, these lines and a vault, and looks whether it prints and sends what is wanted.
+fn run_over<R: Abort, V: Vault>(
+    rt: &R,
+    alloc: Global,
+    scene: &Scene,
+    text: &[u8],
+    vault: V,
+    printed: &[u8],
+    written: Option<&[u8]>,
+) -> Found<V> {
+    let mut source = source(rt, alloc, scene, text);
+    let mut sink = sink(rt, alloc, scene);
+    let mut dial = dial(rt, alloc, scene);
     let mut clock = ScriptClock::new(Seq::new(alloc));
     let words = spoken(alloc, scene.words).expect(rt, "there are words");
-    let run = report(
+    let ReportRun { status, vault } = report_over(
         alloc,
         &mut source,
         &mut sink,
@@ -171,11 +205,17 @@ fn ran_over<R: Abort>(rt: &R, alloc: Global, scene: &Scene, text: &[u8], vault: 
         vault,
         words,
     );
-    Ran {
-        status: run.status,
-        printed: octets(alloc, sink.octets()).expect(rt, "there is memory"),
-        written: written_back(alloc, &dial).expect(rt, "there is memory"),
-        vault: run.vault,
+    let prints = sink.octets() == printed;
+    let sends = sends(&dial, written);
+    drop(source);
+    drop(sink);
+    drop(dial);
+    drop(clock);
+    Found {
+        status,
+        prints,
+        sends,
+        vault,
     }
 }
 
@@ -188,14 +228,21 @@ pub fn tells<R: Abort>(
     printed: &[u8],
     written: Option<&[u8]>,
 ) -> (Status, bool, bool) {
-    let vault = vault(alloc, scene).expect(rt, "there is memory");
-    let ran = ran_over(rt, alloc, scene, text, vault);
-    let sent = match (&ran.written, written) {
-        (Some(octets), Some(wanted)) => octets.as_slice() == wanted,
-        (None, None) => true,
-        _ => false,
-    };
-    (ran.status, ran.printed.as_slice() == printed, sent)
+    let vault = vault(rt, alloc, scene);
+    let Found {
+        status,
+        prints,
+        sends,
+        vault,
+    } = run_over(rt, alloc, scene, text, vault, printed, written);
+    drop(vault);
+    (status, prints, sends)
+}
+
+// The vault that a run leaves.
+fn vault_behind<R: Abort>(rt: &R, alloc: Global, scene: &Scene, text: &[u8]) -> MemVault {
+    let vault = vault(rt, alloc, scene);
+    run_over(rt, alloc, scene, text, vault, b"", None).vault
 }
 
 /// Whether this is printed of a run without lines and without a link, over the vault that a run left.
@@ -206,8 +253,9 @@ pub fn tells_again<R: Abort>(
     text: &[u8],
     printed: &[u8],
 ) -> bool {
-    let vault = vault(alloc, scene).expect(rt, "there is memory");
-    let first = ran_over(rt, alloc, scene, text, vault);
-    let second = ran_over(rt, alloc, &calm(WORDS, None), b"", first.vault);
-    second.printed.as_slice() == printed
+    let vault = vault_behind(rt, alloc, scene, text);
+    let found = run_over(rt, alloc, &calm(WORDS, None), b"", vault, printed, None);
+    let prints = found.prints;
+    drop(found);
+    prints
 }

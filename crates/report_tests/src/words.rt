@@ -1,29 +1,38 @@
 use jt_report_command::ReportWords;
-use jt_value::{Edition, Memory, Phone};
+use jt_value::{Edition, Phone};
 use std::alloc::Global;
-use std::test::Fail;
+use std::process::Abort;
 
 // The words of a text, which one space divides.
-fn words(alloc: Global, text: &str) -> Result<Vec<String>, Memory> {
+fn words(rt: &impl Abort, alloc: Global, text: &str) -> Vec<String> {
     let mut words = Vec::new(alloc);
     for word in text.split(' ') {
-        words.push(String::from_str(alloc, word)?)?;
+        let word = String::from_str(alloc, word).expect(rt, "there is memory");
+        words.push(word).expect(rt, "there is memory");
     }
-    Ok(words)
+    words
 }
 
-fn told(alloc: Global, text: &str) -> Result<Option<ReportWords>, Memory> {
-    let words = words(alloc, text)?;
-    ReportWords::from_words(alloc, words.as_slice())
+fn told(rt: &impl Abort, alloc: Global, text: &str) -> Option<ReportWords> {
+    let words = words(rt, alloc, text);
+    ReportWords::from_words(alloc, words.as_slice()).expect(rt, "there is memory")
+}
+
+// Whether the words are no words of `report`.
+fn is_none(rt: &impl Abort, alloc: Global, text: &str) -> bool {
+    let told = told(rt, alloc, text);
+    let is_none = told.is_none();
+    drop(told);
+    is_none
 }
 
 // Whether the words are those of one vehicle, the same in each row.
-fn is_one_vehicle(alloc: Global, text: &str) -> Result<bool, Memory> {
+fn is_one_vehicle(told: &Option<ReportWords>) -> bool {
     let phone = Phone {
         edition: Edition::E2013,
         digits: [0, 0, 0, 0, 0x01, 0x39, 0x12, 0x34, 0x56, 0x78],
     };
-    Ok(match told(alloc, text)? {
+    match told {
         Some(told) => {
             told.host.as_str() == "127.0.0.1"
                 && told.port == 9000
@@ -33,12 +42,12 @@ fn is_one_vehicle(alloc: Global, text: &str) -> Result<bool, Memory> {
                 && told.tries == 3
         }
         None => false,
-    })
+    }
 }
 
 #[test]
-fn words_in_any_order(rt: HostRuntime) -> Result<(), Fail> {
-    let rows = [
+fn words_in_any_order(rt: HostRuntime) {
+    let rows: &[&str] = &[
         "report --host 127.0.0.1 --port 9000 --phone 013912345678 --plate 4a54383038 --terminal 31323334353637 --tries 3",
         "report --host=127.0.0.1 --port=9000 --phone=013912345678 --plate=4a54383038 --terminal=31323334353637 --tries=3",
         "report --tries 3 --terminal=31323334353637 --plate 4A54383038 --phone=013912345678 --port 9000 --host=127.0.0.1",
@@ -46,18 +55,19 @@ fn words_in_any_order(rt: HostRuntime) -> Result<(), Fail> {
         "report --edition=2013 --plate 4a54383038 --port 9000 --terminal 31323334353637 --host 127.0.0.1 --tries 3 --phone 013912345678",
     ];
     for text in rows {
-        assert!(rt; is_one_vehicle(rt.alloc(), text)?, "{text}");
+        let told = told(&rt, rt.alloc(), text);
+        assert!(rt; is_one_vehicle(&told), "{text}");
+        drop(told);
     }
-    Ok(())
 }
 
 // Whether the words are those of one vehicle of 2019, the same in each row.
-fn is_one_of_2019(alloc: Global, text: &str) -> Result<bool, Memory> {
+fn is_one_of_2019(told: &Option<ReportWords>) -> bool {
     let phone = Phone {
         edition: Edition::E2019,
         digits: [0x98, 0x76, 0x54, 0x32, 0x10, 0x13, 0x91, 0x23, 0x45, 0x67],
     };
-    Ok(match told(alloc, text)? {
+    match told {
         Some(told) => {
             told.host.as_str() == "a-host.example:x"
                 && told.port == 65535
@@ -67,24 +77,25 @@ fn is_one_of_2019(alloc: Global, text: &str) -> Result<bool, Memory> {
                 && told.tries == 100
         }
         None => false,
-    })
+    }
 }
 
 #[test]
-fn words_of_2019(rt: HostRuntime) -> Result<(), Fail> {
-    let rows = [
+fn words_of_2019(rt: HostRuntime) {
+    let rows: &[&str] = &[
         "report --host a-host.example:x --port 65535 --phone 98765432101391234567 --plate 00 --terminal 313233343536373839303132333435363738393031323334353637383930 --tries 100 --edition 2019",
         "report --edition=2019 --host a-host.example:x --port 65535 --phone 98765432101391234567 --plate 00 --terminal 313233343536373839303132333435363738393031323334353637383930 --tries 100",
     ];
     for text in rows {
-        assert!(rt; is_one_of_2019(rt.alloc(), text)?, "{text}");
+        let told = told(&rt, rt.alloc(), text);
+        assert!(rt; is_one_of_2019(&told), "{text}");
+        drop(told);
     }
-    Ok(())
 }
 
 #[test]
-fn words_of_no_report(rt: HostRuntime) -> Result<(), Fail> {
-    let rows = [
+fn words_of_no_report(rt: HostRuntime) {
+    let rows: &[&str] = &[
         "",
         "report",
         "report --help",
@@ -115,14 +126,13 @@ fn words_of_no_report(rt: HostRuntime) -> Result<(), Fail> {
         "report --host h --port 1 --phone 013912345678 --plate 41 --terminal 31 --tries 1 ",
     ];
     for text in rows {
-        assert!(rt; told(rt.alloc(), text)?.is_none(), "{text}");
+        assert!(rt; is_none(&rt, rt.alloc(), text), "{text}");
     }
-    Ok(())
 }
 
 #[test]
-fn values_out_of_form(rt: HostRuntime) -> Result<(), Fail> {
-    let rows = [
+fn values_out_of_form(rt: HostRuntime) {
+    let rows: &[&str] = &[
         "report --host -h --port 1 --phone 013912345678 --plate 41 --terminal 31 --tries 1",
         "report --host=-h --port 1 --phone 013912345678 --plate 41 --terminal 31 --tries 1",
         "report --host h_h --port 1 --phone 013912345678 --plate 41 --terminal 31 --tries 1",
@@ -154,37 +164,43 @@ fn values_out_of_form(rt: HostRuntime) -> Result<(), Fail> {
         "report --edition 2019 --host h --port 1 --phone 98765432101391234567 --plate 41 --terminal 31323334353637383930313233343536373839303132333435363738393031 --tries 1",
     ];
     for text in rows {
-        assert!(rt; told(rt.alloc(), text)?.is_none(), "{text}");
+        assert!(rt; is_none(&rt, rt.alloc(), text), "{text}");
     }
-    Ok(())
+}
+
+// A word of this option and so many times this text.
+fn word_of(rt: &impl Abort, alloc: Global, option: &str, text: &str, count: usize) -> String {
+    let mut word = String::from_str(alloc, option).expect(rt, "there is memory");
+    for _ in 0..count {
+        word.push_str(text).expect(rt, "there is memory");
+    }
+    word
 }
 
 // Whether a host and a plate of these lengths, of the octets `h` and pairs of the digits `41`, are good.
-fn is_good(alloc: Global, host: usize, plate: usize) -> Result<bool, Memory> {
-    let mut host_word = String::from_str(alloc, "--host=")?;
-    for _ in 0..host {
-        host_word.push_str("h")?;
-    }
-    let mut plate_word = String::from_str(alloc, "--plate=")?;
-    for _ in 0..plate {
-        plate_word.push_str("41")?;
-    }
+fn is_good(rt: &impl Abort, alloc: Global, host: usize, plate: usize) -> bool {
+    let host_word = word_of(rt, alloc, "--host=", "h", host);
+    let plate_word = word_of(rt, alloc, "--plate=", "41", plate);
     let mut words = words(
+        rt,
         alloc,
         "report --port 1 --phone 013912345678 --terminal 31 --tries 1",
-    )?;
-    words.push(host_word)?;
-    words.push(plate_word)?;
-    Ok(ReportWords::from_words(alloc, words.as_slice())?.is_some())
+    );
+    words.push(host_word).expect(rt, "there is memory");
+    words.push(plate_word).expect(rt, "there is memory");
+    let told = ReportWords::from_words(alloc, words.as_slice()).expect(rt, "there is memory");
+    let is_good = told.is_some();
+    drop(told);
+    drop(words);
+    is_good
 }
 
 #[test]
-fn the_longest_host_and_plate(rt: HostRuntime) -> Result<(), Fail> {
-    assert!(rt; is_good(rt.alloc(), 255, 255)?);
-    assert!(rt; is_good(rt.alloc(), 1, 1)?);
-    assert!(rt; !is_good(rt.alloc(), 256, 1)?);
-    assert!(rt; !is_good(rt.alloc(), 1, 256)?);
-    assert!(rt; !is_good(rt.alloc(), 0, 1)?);
-    assert!(rt; !is_good(rt.alloc(), 1, 0)?);
-    Ok(())
+fn the_longest_host_and_plate(rt: HostRuntime) {
+    assert!(rt; is_good(&rt, rt.alloc(), 255, 255));
+    assert!(rt; is_good(&rt, rt.alloc(), 1, 1));
+    assert!(rt; !is_good(&rt, rt.alloc(), 256, 1));
+    assert!(rt; !is_good(&rt, rt.alloc(), 1, 256));
+    assert!(rt; !is_good(&rt, rt.alloc(), 0, 1));
+    assert!(rt; !is_good(&rt, rt.alloc(), 1, 0));
 }

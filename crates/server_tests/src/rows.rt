@@ -1,17 +1,16 @@
-ghost use Rattle.std.specs.Prelude.{◌≡◌, ◌≤◌, [], IfOk};
+ghost use Rattle.std.specs.Prelude.{◌≡◌, ◌≤◌, []};
 ghost use Rattle.jt_outside.specs.ScriptLink.{IsUntouched};
 
-use crate::waiting::Pair;
-use jt_outside::{ScriptLink, ScriptListen};
+use crate::waiting::make_pair;
+use jt_outside::{Listen, ScriptLink, ScriptListen};
 use jt_platform::{Fleet, Hub};
-use jt_server::{ServeEnd, serve};
+use jt_server::{ServeEnd, Served, serve};
 use jt_session::{End, Report};
 use jt_store::MemKeeper;
-use jt_value::{Memory, Octets, Seq};
+use jt_value::{Octets, Seq};
 use std::alloc::Global;
 use std::process::Abort;
-use std::sync::atomic::AtomicU64;
-use std::sync::{Arc, Wait};
+use std::sync::Wait;
 use std::thread::Threads;
 
 /// The heartbeat of phone 013912345678.
@@ -34,18 +33,19 @@ fn new_hub(rt: &impl Abort, alloc: Global) -> Hub<MemKeeper>
         .expect(rt, "there is memory")
 }
 
-fn link(alloc: Global, octets: &[u8]) -> Result<ScriptLink, Memory>
-    ensures { IfOk result (λ link. IsUntouched link) }
+fn link(rt: &impl Abort, alloc: Global, octets: &[u8]) -> ScriptLink
+    ensures { IsUntouched result }
 {
-    let octets = Octets::from_vec(Vec::from_slice(alloc, octets)?);
-    ScriptLink::new(alloc, octets, 65_536, Seq::new(alloc))
+    let octets = Vec::from_slice(alloc, octets).expect(rt, "there is memory");
+    let octets = Octets::from_vec(octets);
+    ScriptLink::new(alloc, octets, 65_536, Seq::new(alloc)).expect(rt, "there is memory")
 }
 
 // A listener to which a heartbeat comes, then nothing, then a heartbeat, and which fails the call of this number.
 fn listener(rt: &impl Abort, alloc: Global, failing: u64) -> ScriptListen {
-    let first = link(alloc, HEARTBEAT).expect(rt, "there is memory");
-    let second = link(alloc, &[]).expect(rt, "there is memory");
-    let third = link(alloc, HEARTBEAT).expect(rt, "there is memory");
+    let first = link(rt, alloc, HEARTBEAT);
+    let second = link(rt, alloc, &[]);
+    let third = link(rt, alloc, HEARTBEAT);
     let mut links = Seq::new(alloc);
     links.push(first).expect(rt, "there is memory");
     links.push(second).expect(rt, "there is memory");
@@ -98,17 +98,7 @@ struct Outcome {
     entries: usize,
 }
 
-fn served_so<R: Threads + Wait + Sync + Abort>(
-    rt: &R,
-    alloc: Global,
-    failing: u64,
-    sessions: u32,
-) -> Outcome
-    requires { 1 ≤ sessions }
-{
-    let hub = new_hub(rt, alloc);
-    let mut listen = listener(rt, alloc, failing);
-    let served = serve(rt, alloc, &mut listen, hub, sessions);
+fn outcome_of(served: &Served<MemKeeper>, listen: &ScriptListen) -> Outcome {
     Outcome {
         end: served.end,
         are_wanted: are_reports(served.reports.as_slice()) && are_back(listen.links_back()),
@@ -118,11 +108,42 @@ fn served_so<R: Threads + Wait + Sync + Abort>(
     }
 }
 
+// Serves so many links of a listener over a new hub. (a call of its own, with no clause: its callers own what it gives)
+fn serve_links<R: Threads + Wait + Sync + Abort, L: Listen>(
+    rt: &R,
+    alloc: Global,
+    listen: &mut L,
+    sessions: u32,
+) -> Served<MemKeeper>
+where
+    L::Link: Send,
+    requires { 1 ≤ sessions }
+{
+    let hub = new_hub(rt, alloc);
+    serve(rt, alloc, listen, hub, sessions)
+}
+
+fn serve_so<R: Threads + Wait + Sync + Abort>(
+    rt: &R,
+    alloc: Global,
+    failing: u64,
+    sessions: u32,
+) -> Outcome
+    requires { 1 ≤ sessions }
+{
+    let mut listen = listener(rt, alloc, failing);
+    let served = serve_links(rt, alloc, &mut listen, sessions);
+    let outcome = outcome_of(&served, &listen);
+    drop(served);
+    drop(listen);
+    outcome
+}
+
 // The number of the listener's call that fails, how many links are asked for, why no more were served, how many were, and how many
 // entries there are.
 #[test]
 fn links_are_served_in_order(rt: HostRuntime) {
-    let rows = [
+    let rows: &[(u64, u32, ServeEnd, usize, usize)] = &[
         (0, 3, ServeEnd::All, 3, 5),
         (0, 1, ServeEnd::All, 1, 2),
         (0, 4, ServeEnd::Over, 3, 5),
@@ -130,27 +151,32 @@ fn links_are_served_in_order(rt: HostRuntime) {
         (1, 1, ServeEnd::ListenFault, 0, 0),
     ];
     for (failing, sessions, end, count, entries) in rows {
-        let outcome = served_so(&rt, rt.alloc(), failing, sessions.max(1));
+        let outcome = serve_so(&rt, rt.alloc(), *failing, (*sessions).max(1));
         assert!(rt; outcome.are_wanted);
-        assert!(rt; outcome.end == end);
-        assert!(rt; outcome.reports == count);
-        assert!(rt; outcome.back == count);
-        assert!(rt; outcome.entries == entries);
+        assert!(rt; outcome.end == *end);
+        assert!(rt; outcome.reports == *count);
+        assert!(rt; outcome.back == *count);
+        assert!(rt; outcome.entries == *entries);
     }
 }
 
-// How two links that wait for each other end: the first one reads only once the second was written.
-fn ends_of_two<R: Threads + Wait + Sync + Abort>(rt: &R, alloc: Global) -> (bool, usize) {
-    let hub = new_hub(rt, alloc);
-    let flag = Arc::new(alloc, AtomicU64::new(0)).expect(rt, "there is memory");
-    let other = Arc::try_clone(&flag).expect(rt, "there is memory");
-    let mut listen = Pair::new(flag, other);
-    let served = serve(rt, alloc, &mut listen, hub, 2);
+// Whether two links were served and each ended, and how many entries there are.
+fn ends_of(served: &Served<MemKeeper>) -> (bool, usize) {
     let mut ended = served.reports.len() == 2;
     for report in served.reports.as_slice() {
         ended = ended && report.end == End::Ended;
     }
     (ended, served.hub.history().len())
+}
+
+// How two links that wait for each other end: the first one reads only once the second was written.
+fn ends_of_two<R: Threads + Wait + Sync + Abort>(rt: &R, alloc: Global) -> (bool, usize) {
+    let mut listen = make_pair(rt, alloc);
+    let served = serve_links(rt, alloc, &mut listen, 2);
+    let ends = ends_of(&served);
+    drop(served);
+    drop(listen);
+    ends
 }
 
 #[test]

@@ -1,20 +1,19 @@
 //! Whole runs of `platform` and `report` by their words.
 
-ghost use Rattle.std.specs.Prelude.{None, IfOk};
+ghost use Rattle.std.specs.Prelude.{None};
 ghost use Rattle.jt_outside.specs.ScriptLink.{IsUntouched};
 
-use crate::waiting::Pair;
-use jt_cli::{Ended, Outside, Status, run};
+use crate::waiting::make_pair;
+use jt_cli::{Ended, Outside, Status, run_bare};
 use jt_outside::{
-    Accepted, Dial, Listen, MemSink, MemSource, ScriptClock, ScriptDial, ScriptLink, ScriptListen,
+    Accepted, Clock, Dial, Listen, MemSink, MemSource, ScriptClock, ScriptDial, ScriptLink,
+    ScriptListen, Source,
 };
-use jt_store::{MemKeeper, MemVault};
-use jt_value::{Memory, Octets, Seq};
+use jt_store::{Keeper, MemKeeper, MemVault, Vault};
+use jt_value::{Octets, Seq};
 use std::alloc::Global;
 use std::process::Abort;
-use std::sync::atomic::AtomicU64;
-use std::sync::{Arc, Wait};
-use std::test::Fail;
+use std::sync::Wait;
 use std::thread::Threads;
 
 /// The heartbeat of phone 013912345678.
@@ -27,37 +26,112 @@ const REFUSED: &[u8] =
 const USAGE: &[u8] =
     b"usage: jt808 view|check|rehearse|make|platform|report|orders|fence|relay|gateway\n";
 
-/// What a run over a dial and a listener in memory gives back.
-type Ran<D, L> = Ended<MemSource, MemSink, D, L, ScriptClock, MemKeeper, MemVault>;
+/// The fleet of every run of `platform`.
+const FLEET: &str = "secret 3132";
+
+/// What is compared of a run.
+#[derive(Drop)]
+struct Found<D, L> {
+    /// Whether it had the status that is wanted and printed what is wanted.
+    is_told: bool,
+    reports: usize,
+    entries: usize,
+    dial: D,
+    listen: L,
+}
 
 // The words of a text, which one space divides.
-fn words_of(alloc: Global, text: &str) -> Result<Vec<String>, Memory> {
+fn words_of(rt: &impl Abort, alloc: Global, text: &str) -> Vec<String> {
     let mut words = Vec::new(alloc);
     for word in text.split(' ') {
-        words.push(String::from_str(alloc, word)?)?;
+        let word = String::from_str(alloc, word).expect(rt, "there is memory");
+        words.push(word).expect(rt, "there is memory");
     }
-    Ok(words)
+    words
 }
 
-fn source(alloc: Global, text: &str) -> Result<MemSource, Memory> {
-    let octets = Octets::from_vec(Vec::from_slice(alloc, text.as_bytes())?);
-    Ok(MemSource::new(octets, Seq::new(alloc)))
+fn source(rt: &impl Abort, alloc: Global, text: &str) -> MemSource {
+    let octets = Vec::from_slice(alloc, text.as_bytes()).expect(rt, "there is memory");
+    MemSource::new(Octets::from_vec(octets), Seq::new(alloc))
 }
 
-// Runs words over a text, a dial and a listener.
-fn ran_over<R: Threads + Wait + Sync + Abort, D: Dial + Drop, L: Listen + Drop>(
+// Looks at how a run ended, and lets go of all but the dial and the listener.
+fn look<S: Drop, D, L, C: Drop, P: Drop, V: Drop>(
+    ended: Ended<S, MemSink, D, L, C, P, V>,
+    wanted: Status,
+    printed: &[u8],
+) -> Found<D, L> {
+    let Ended {
+        status,
+        outside,
+        reports,
+        history,
+    } = ended;
+    let Outside {
+        source,
+        sink,
+        dial,
+        listen,
+        clock,
+        keeper,
+        vault,
+    } = outside;
+    let found = Found {
+        is_told: status == wanted && sink.octets() == printed,
+        reports: reports.len(),
+        entries: history.len(),
+        dial,
+        listen,
+    };
+    drop(source);
+    drop(sink);
+    drop(clock);
+    drop(keeper);
+    drop(vault);
+    drop(reports);
+    drop(history);
+    found
+}
+
+// Runs words, and looks whether it ends with this status and prints this. (of any types, since all that a run is over is large)
+fn run_and_look<
+    R: Threads + Wait + Sync,
+    S: Source + Drop,
+    D: Dial,
+    L: Listen,
+    C: Clock + Drop,
+    P: Keeper + Send + Drop,
+    V: Vault + Drop,
+>(
+    rt: &R,
+    alloc: Global,
+    words: &Vec<String>,
+    outside: Outside<S, MemSink, D, L, C, P, V>,
+    status: Status,
+    printed: &[u8],
+) -> Found<D, L>
+where
+    L::Link: Send,
+{
+    look(run_bare(rt, alloc, words, outside), status, printed)
+}
+
+// The same of words and a text, over a dial and a listener.
+fn run_over<R: Threads + Wait + Sync + Abort, D: Dial, L: Listen>(
     rt: &R,
     alloc: Global,
     words: &str,
     text: &str,
     dial: D,
     listen: L,
-) -> Ran<D, L>
+    status: Status,
+    printed: &[u8],
+) -> Found<D, L>
 where
     L::Link: Send,
 {
-    let words = words_of(alloc, words).expect(rt, "there is memory");
-    let source = source(alloc, text).expect(rt, "there is memory");
+    let words = words_of(rt, alloc, words);
+    let source = source(rt, alloc, text);
     let sink = MemSink::new(alloc, 8192, Seq::new(alloc)).expect(rt, "there is memory");
     let outside = Outside {
         source,
@@ -68,17 +142,20 @@ where
         keeper: MemKeeper::new(alloc, 1000, Seq::new(alloc)),
         vault: MemVault::new(alloc, 100, Seq::new(alloc)),
     };
-    run(rt, alloc, &words, outside)
+    let found = run_and_look(rt, alloc, &words, outside, status, printed);
+    drop(words);
+    found
 }
 
-// Runs words over the fleet of a text and a listener, with a dial that has no links.
-fn ran<R: Threads + Wait + Sync + Abort, L: Listen + Drop>(
+// The same over the fleet and a listener, with a dial that has no links.
+fn run_fleet<R: Threads + Wait + Sync + Abort, L: Listen>(
     rt: &R,
     alloc: Global,
     words: &str,
-    fleet: &str,
     listen: L,
-) -> Ran<ScriptDial, L>
+    status: Status,
+    printed: &[u8],
+) -> Found<ScriptDial, L>
 where
     L::Link: Send,
 {
@@ -86,31 +163,32 @@ where
         rt,
         "there is memory",
     );
-    ran_over(rt, alloc, words, fleet, dial, listen)
+    run_over(rt, alloc, words, FLEET, dial, listen, status, printed)
 }
 
-fn failing(alloc: Global, call: u64) -> Result<Seq<u64>, Memory> {
+fn failing(rt: &impl Abort, alloc: Global, call: u64) -> Seq<u64> {
     let mut calls = Seq::new(alloc);
-    calls.push(call)?;
-    Ok(calls)
+    calls.push(call).expect(rt, "there is memory");
+    calls
 }
 
 // A link of one heartbeat, which fails the call of this number, where 0 is none.
-fn link(alloc: Global, fails: u64) -> Result<ScriptLink, Memory>
-    ensures { IfOk result (λ link. IsUntouched link) }
+fn link(rt: &impl Abort, alloc: Global, fails: u64) -> ScriptLink
+    ensures { IsUntouched result }
 {
-    let octets = Octets::from_vec(Vec::from_slice(alloc, HEARTBEAT)?);
-    let calls = failing(alloc, fails)?;
-    ScriptLink::new(alloc, octets, 65_536, calls)
+    let octets = Vec::from_slice(alloc, HEARTBEAT).expect(rt, "there is memory");
+    let octets = Octets::from_vec(octets);
+    let calls = failing(rt, alloc, fails);
+    ScriptLink::new(alloc, octets, 65_536, calls).expect(rt, "there is memory")
 }
 
 // A listener to which such a link comes, and which fails the call of this number.
-fn heartbeat(alloc: Global, link_fails: u64, listen_fails: u64) -> Result<ScriptListen, Memory> {
-    let link = link(alloc, link_fails)?;
-    let calls = failing(alloc, listen_fails)?;
+fn heartbeat(rt: &impl Abort, alloc: Global, link_fails: u64, listen_fails: u64) -> ScriptListen {
+    let link = link(rt, alloc, link_fails);
+    let calls = failing(rt, alloc, listen_fails);
     let mut links = Seq::new(alloc);
-    links.push(link)?;
-    ScriptListen::new(alloc, links, calls)
+    links.push(link).expect(rt, "there is memory");
+    ScriptListen::new(alloc, links, calls).expect(rt, "there is memory")
 }
 
 // Whether one link came back, to which this was written.
@@ -121,33 +199,44 @@ fn is_back(links: &[ScriptLink], written: &[u8]) -> bool {
     }
 }
 
-// Whether a run ended so and printed this.
-fn is_ran<D, L>(ran: &Ran<D, L>, status: Status, printed: &[u8]) -> bool {
-    ran.status == status && ran.outside.sink.octets() == printed
+#[test]
+fn a_heartbeat_by_words(rt: HostRuntime) {
+    let found = run_fleet(
+        &rt,
+        rt.alloc(),
+        "platform --port 9000 --sessions 1",
+        heartbeat(&rt, rt.alloc(), 0, 0),
+        Status::Done,
+        b"session 1 ended read=15 written=20 frames=1 refused=0 dropped=0\nentries=2 stored=0 repeat=0 renumbered=0\n",
+    );
+    assert!(rt; found.is_told);
+    assert!(rt; is_back(found.listen.links_back(), REFUSED));
+    assert!(rt; found.reports == 1);
+    assert!(rt; found.entries == 2);
+    drop(found);
 }
 
-#[test]
-fn a_heartbeat_by_words(rt: HostRuntime) -> Result<(), Fail> {
-    let listen = heartbeat(rt.alloc(), 0, 0)?;
-    let words = "platform --port 9000 --sessions 1";
-    let ended = ran(&rt, rt.alloc(), words, "secret 3132", listen);
-    assert!(rt;
-        is_ran(
-            &ended,
-            Status::Done,
-            b"session 1 ended read=15 written=20 frames=1 refused=0 dropped=0\nentries=2 stored=0 repeat=0 renumbered=0\n"
-        )
-    );
-    assert!(rt; is_back(ended.outside.listen.links_back(), REFUSED));
-    assert!(rt; ended.reports.len() == 1);
-    assert!(rt; ended.history.len() == 2);
-    Ok(())
+// Whether a run over a heartbeat ends with this status and prints this.
+fn heartbeat_is_told<R: Threads + Wait + Sync + Abort>(
+    rt: &R,
+    alloc: Global,
+    words: &str,
+    link_fails: u64,
+    listen_fails: u64,
+    printed: &str,
+    status: Status,
+) -> bool {
+    let listen = heartbeat(rt, alloc, link_fails, listen_fails);
+    let found = run_fleet(rt, alloc, words, listen, status, printed.as_bytes());
+    let is_told = found.is_told;
+    drop(found);
+    is_told
 }
 
 // The words, the call of the link and that of the listener that fails, where 0 is none, what is printed, and the status.
 #[test]
-fn faults_of_links_by_words(rt: HostRuntime) -> Result<(), Fail> {
-    let rows = [
+fn faults_of_links_by_words(rt: HostRuntime) {
+    let rows: &[(&str, u64, u64, &str, Status)] = &[
         (
             "platform --port 9000 --sessions 1",
             3,
@@ -178,34 +267,34 @@ fn faults_of_links_by_words(rt: HostRuntime) -> Result<(), Fail> {
         ),
     ];
     for (words, link_fails, listen_fails, printed, status) in rows {
-        let listen = heartbeat(rt.alloc(), link_fails, listen_fails)?;
-        let ended = ran(&rt, rt.alloc(), words, "secret 3132", listen);
-        assert!(rt; is_ran(&ended, status, printed.as_bytes()), "{printed}");
+        assert!(rt;
+            heartbeat_is_told(
+                &rt,
+                rt.alloc(),
+                words,
+                *link_fails,
+                *listen_fails,
+                printed,
+                *status
+            ),
+            "{printed}"
+        );
     }
-    Ok(())
 }
 
 // Each read of the first link waits until the second was written.
 #[test]
-fn two_links_that_wait_for_each_other_by_words(rt: HostRuntime) -> Result<(), Fail> {
-    let flag = Arc::new(rt.alloc(), AtomicU64::new(0))?;
-    let other = Arc::try_clone(&flag)?;
-    let words = "platform --sessions=2 --port=9000";
-    let ended = ran(
+fn two_links_that_wait_for_each_other_by_words(rt: HostRuntime) {
+    let found = run_fleet(
         &rt,
         rt.alloc(),
-        words,
-        "secret 3132",
-        Pair::new(flag, other),
+        "platform --sessions=2 --port=9000",
+        make_pair(&rt, rt.alloc()),
+        Status::Done,
+        b"session 1 ended read=15 written=20 frames=1 refused=0 dropped=0\nsession 2 ended read=15 written=20 frames=1 refused=0 dropped=0\nentries=4 stored=0 repeat=0 renumbered=0\n",
     );
-    assert!(rt;
-        is_ran(
-            &ended,
-            Status::Done,
-            b"session 1 ended read=15 written=20 frames=1 refused=0 dropped=0\nsession 2 ended read=15 written=20 frames=1 refused=0 dropped=0\nentries=4 stored=0 repeat=0 renumbered=0\n"
-        )
-    );
-    Ok(())
+    assert!(rt; found.is_told);
+    drop(found);
 }
 
 // A listener to which nobody comes, and which keeps the port that it is told.
@@ -235,40 +324,47 @@ impl Listen for Port {
     }
 }
 
+// Whether a run ends with this status and prints this, and the port that the listener was told, where 0 is none.
+fn port_of<R: Threads + Wait + Sync + Abort>(
+    rt: &R,
+    alloc: Global,
+    words: &str,
+    status: Status,
+    printed: &[u8],
+) -> (bool, u16) {
+    let found = run_fleet(rt, alloc, words, Port { told: 0 }, status, printed);
+    let port = (found.is_told, found.listen.told);
+    drop(found);
+    port
+}
+
 #[test]
-fn the_listener_is_told_the_port_of_the_words(rt: HostRuntime) -> Result<(), Fail> {
-    let rows = [
+fn the_listener_is_told_the_port_of_the_words(rt: HostRuntime) {
+    let printed = b"entries=0 stored=0 repeat=0 renumbered=0\n";
+    let rows: &[(&str, u16)] = &[
         ("platform --port 9000 --sessions 1", 9000),
         ("platform --sessions=3 --port=65535", 65535),
     ];
     for (words, port) in rows {
-        let ended = ran(&rt, rt.alloc(), words, "secret 3132", Port { told: 0 });
-        assert!(rt; ended.outside.listen.told == port);
-        assert!(rt;
-            is_ran(
-                &ended,
-                Status::Done,
-                b"entries=0 stored=0 repeat=0 renumbered=0\n"
-            )
-        );
+        let (is_told, told) = port_of(&rt, rt.alloc(), words, Status::Done, printed);
+        assert!(rt; told == *port);
+        assert!(rt; is_told);
     }
-    Ok(())
 }
 
 #[test]
-fn words_that_are_none_of_platform(rt: HostRuntime) -> Result<(), Fail> {
-    let rows = [
+fn words_that_are_none_of_platform(rt: HostRuntime) {
+    let rows: &[&str] = &[
         "platform",
         "platform --port 0 --sessions 1",
         "platform --port 9000 --sessions 1025",
         "platform --port 9000 --port 9000",
     ];
     for words in rows {
-        let ended = ran(&rt, rt.alloc(), words, "secret 3132", Port { told: 0 });
-        assert!(rt; is_ran(&ended, Status::Usage, USAGE), "{words}");
-        assert!(rt; ended.outside.listen.told == 0, "{words}");
+        let (is_told, told) = port_of(&rt, rt.alloc(), words, Status::Usage, USAGE);
+        assert!(rt; is_told, "{words}");
+        assert!(rt; told == 0, "{words}");
     }
-    Ok(())
 }
 
 // A dial that has no links, and keeps whether it was always told this host and this port.
@@ -299,7 +395,7 @@ impl Dial for Address {
 }
 
 #[test]
-fn the_dial_is_told_the_host_and_the_port_of_the_words(rt: HostRuntime) -> Result<(), Fail> {
+fn the_dial_is_told_the_host_and_the_port_of_the_words(rt: HostRuntime) {
     let words =
         "report --port 9001 --host example.org --phone 013912345678 --plate 4a54383038 --terminal 31323334353637 --tries 2";
     let dial = Address {
@@ -309,15 +405,18 @@ fn the_dial_is_told_the_host_and_the_port_of_the_words(rt: HostRuntime) -> Resul
         calls: 0,
     };
     let fix = "00000000000000030000000106bc3e40000000000000240101000000";
-    let ended = ran_over(&rt, rt.alloc(), words, fix, dial, Port { told: 0 });
-    assert!(rt;
-        is_ran(
-            &ended,
-            Status::Unsent,
-            b"try 1 dial\ntry 2 dial\naccepted=0 of 1\n"
-        )
+    let found = run_over(
+        &rt,
+        rt.alloc(),
+        words,
+        fix,
+        dial,
+        Port { told: 0 },
+        Status::Unsent,
+        b"try 1 dial\ntry 2 dial\naccepted=0 of 1\n",
     );
-    assert!(rt; ended.outside.dial.is_told);
-    assert!(rt; ended.outside.dial.calls == 2);
-    Ok(())
+    assert!(rt; found.is_told);
+    assert!(rt; found.dial.is_told);
+    assert!(rt; found.dial.calls == 2);
+    drop(found);
 }

@@ -4,6 +4,7 @@ ghost use Rattle.std.specs.Prelude.{◌≡◌, ◌≤◌, ◌<◌, ◌^◌, ◌-
 
 use jt_outside::{Accepted, Link, LinkGot, Listen, Put, Sink};
 use std::alloc::Global;
+use std::process::Abort;
 use std::sync::Arc;
 use std::sync::atomic::{AtomicU64, Ordering};
 
@@ -75,12 +76,13 @@ pub struct Pair {
     second: Option<Arc<AtomicU64, Global>>,
 }
 
-impl Pair {
-    pub fn new(first: Arc<AtomicU64, Global>, second: Arc<AtomicU64, Global>) -> Pair {
-        Pair {
-            first: Some(first),
-            second: Some(second),
-        }
+/// A listener to which two links come that share a flag.
+pub fn make_pair(rt: &impl Abort, alloc: Global) -> Pair {
+    let flag = Arc::new(alloc, AtomicU64::new(0)).expect(rt, "there is memory");
+    let other = Arc::try_clone(&flag).expect(rt, "there is memory");
+    Pair {
+        first: Some(flag),
+        second: Some(other),
     }
 }
 

@@ -1,6 +1,6 @@
-//! Runs of words, all in memory. One function alone makes the call, so its contract is paid for once.
+//! Runs of words, all in memory. One function alone makes the call, which brings no contract with it.
 
-use jt_cli::{Ended, Outside, Status, run_alone};
+use jt_cli::{Ended, Outside, Status, run_alone_bare};
 use jt_outside::{MemSink, MemSource, ScriptClock, ScriptDial, Sink, Source};
 use jt_store::{MemKeeper, MemVault};
 use jt_value::{Octets, Seq};
@@ -30,7 +30,7 @@ pub(crate) fn ran<S: Source, K: Sink>(
         outside,
         reports,
         history,
-    } = run_alone(&(), alloc, words, outside);
+    } = run_alone_bare(&(), alloc, words, outside);
     drop(reports);
     drop(history);
     (status, outside)
