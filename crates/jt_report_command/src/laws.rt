@@ -52,8 +52,8 @@ pub fn law_of_answered_runs()
 
 /// A script that holds, in order, the acceptances of all that a terminal without a line sends once one is opened, answers all that it
 /// sends, in time: where none of its waits passes and no heartbeat is due, as where the clock's answers all come within the first
-/// wait. So the two laws above speak of a dial whose first link has such a script. A terminal that started, and recorded fixes, has
-/// no line.
+/// wait and heartbeats are off or no sooner. So the two laws above speak of a dial whose first link has such a script. A terminal
+/// that started, and recorded fixes, has no line.
 pub fn law_of_acceptances()
     ensures in_time { (terminal : State) (octets : List ℕ) (time : Time) → terminal.phase ≡ Down →
         HoldsAcceptances terminal octets → IsInTime terminal octets time →
