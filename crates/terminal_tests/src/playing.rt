@@ -342,7 +342,7 @@ pub fn expect_in(
 
 /// In each edition the terminal says what the rows say, once it is let in or from its start.
 pub fn expect_both(rt: &impl Abort, alloc: Global, is_live: bool, rows: &[Both]) {
-    let live: &[Both] = if is_live { LIVE } else { &[] };
+    let live = &LIVE[..if is_live { LIVE.len() } else { 0 }];
     expect_behind(rt, alloc, Edition::E2013, live, rows);
     expect_behind(rt, alloc, Edition::E2019, live, rows);
 }
