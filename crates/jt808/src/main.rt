@@ -10,6 +10,7 @@ use jt_store::{Keeper, Vault};
 use jt_value::Memory;
 use std::alloc::{AllocError, Global};
 use std::env::Env;
+use std::io::{Stdin, Stdout};
 use std::process::ExitCode;
 use std::sync::Wait;
 use std::thread::Threads;
@@ -35,16 +36,28 @@ fn words<R: Env + AllocGlobal>(rt: &R) -> io::Result<Vec<String>> {
     }
 }
 
-// Who gives links both ways, and the clock.
+// All that is outside but the stores.
 #[derive(Drop)]
-struct Links {
-    dial: TcpDial<HostRuntime>,
-    listen: TcpListen<HostRuntime>,
-    clock: StdClock<HostRuntime>,
+struct Ends<S, K, D, L, C> {
+    source: S,
+    sink: K,
+    dial: D,
+    listen: L,
+    clock: C,
 }
 
-fn make_links(rt: &HostRuntime) -> Result<Links, AllocError> {
-    Ok(Links {
+type RealEnds = Ends<
+    StdSource<Stdin>,
+    StdSink<Stdout>,
+    TcpDial<HostRuntime>,
+    TcpListen<HostRuntime>,
+    StdClock<HostRuntime>,
+>;
+
+fn make_ends(rt: &HostRuntime) -> Result<RealEnds, AllocError> {
+    Ok(Ends {
+        source: StdSource::new(rt.stdin()),
+        sink: StdSink::new(rt.stdout()),
         dial: TcpDial::new(rt.clone()?),
         listen: TcpListen::new(rt.clone()?),
         clock: StdClock::new(rt.clone()?),
@@ -92,36 +105,46 @@ where
     status
 }
 
-// The run over the real objects, once there are links.
-fn over_stores<R: Threads + Wait + Sync>(
+// The run over the real stores and ends of any types. (the types of both at once are too much for one proof)
+fn over_stores<
+    R: Threads + Wait + Sync,
+    S: Source + Drop,
+    K: Sink + Drop,
+    D: Dial + Drop,
+    L: Listen + Drop,
+    C: Clock + Drop,
+>(
     threads: &R,
-    rt: &HostRuntime,
+    alloc: Global,
     words: &Vec<String>,
-    links: Links,
+    ends: Ends<S, K, D, L, C>,
     stores: Stores,
-) -> Status {
+) -> Status
+where
+    L::Link: Send,
+{
     let outside = Outside {
-        source: StdSource::new(rt.stdin()),
-        sink: StdSink::new(rt.stdout()),
-        dial: links.dial,
-        listen: links.listen,
-        clock: links.clock,
+        source: ends.source,
+        sink: ends.sink,
+        dial: ends.dial,
+        listen: ends.listen,
+        clock: ends.clock,
         keeper: stores.keeper,
         vault: stores.vault,
     };
-    ran(threads, rt.alloc(), words, outside)
+    ran(threads, alloc, words, outside)
 }
 
-fn over_links<R: Threads + Wait + Sync>(
+fn over_ends<R: Threads + Wait + Sync>(
     threads: &R,
     rt: &HostRuntime,
     words: &Vec<String>,
-    links: Links,
+    ends: RealEnds,
 ) -> Status {
     match make_stores(rt) {
-        Ok(stores) => over_stores(threads, rt, words, links, stores),
+        Ok(stores) => over_stores(threads, rt.alloc(), words, ends, stores),
         Err(_) => {
-            drop(links);
+            drop(ends);
             Status::Memory
         }
     }
@@ -132,8 +155,8 @@ fn over_words<R: Threads + Wait + Sync>(
     rt: &HostRuntime,
     words: &Vec<String>,
 ) -> Status {
-    match make_links(rt) {
-        Ok(links) => over_links(threads, rt, words, links),
+    match make_ends(rt) {
+        Ok(ends) => over_ends(threads, rt, words, ends),
         Err(_) => Status::Memory,
     }
 }
