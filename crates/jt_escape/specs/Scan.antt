@@ -1,5 +1,6 @@
 -- Going through a stream octet by octet: the state that is kept, the next state, and the events on the way. A step
--- function for the proofs.
+-- function: to be believed in the clauses of a splitter's own calls; over a whole stream a law says that it gives
+-- the events of Span.
 use Rattle.std.specs.Prelude.{◌≡◌, ◌≢◌, ◌⊎◌, Option, Some, None, ℕ, ◌+◌, ◌<◌, List, [], ◌∷◌, ◌++◌, length, take, ◌==◌, if◌then◌else◌}
 use Rattle.jt_value.specs.declared.limits.TheConstants.{CONTENT_LIMIT}
 use Rattle.jt_value.specs.declared.refusal.Why.TheVariants as why

@@ -11,11 +11,11 @@ use crate::{Link, LinkGot, Put, Sink};
 use std::io;
 use std::io::ErrorKind;
 use std::marker::Model;
-use std::net::{Shutdown, TcpStream};
+use std::net::{Shutdown, SocketAddr, TcpStream};
 
-/// A TCP stream as a link. A read that ran into the stream's timeout is quiet, every other error is a fault, and so is a
-/// write that takes nothing, or that runs into the stream's timeout as often as the link waits. What was interrupted is made again, up to 1,000 times. Hanging up gives the
-/// stream's descriptor back; each read and write behind it is a fault.
+/// A TCP stream as a link. A read that ran into the stream's timeout is quiet, every other error is a fault, and so is a write that
+/// takes nothing, or that runs into the stream's timeout as often as the link waits. What was interrupted is made again, up to 1,000
+/// times. Hanging up gives the stream's descriptor back; each read and write behind it is a fault.
 #[derive(Drop)]
 pub struct TcpLink {
     stream: Option<TcpStream>,
@@ -38,8 +38,8 @@ impl Model for TcpLink {
 }
 
 impl TcpLink {
-    /// The link of a stream, of which nothing was counted so far.
-    pub(crate) fn new(stream: TcpStream, waits: u32) -> TcpLink
+    /// The link of a stream, of which nothing was counted so far. A write waits for the stream's timeout so often, and at least once.
+    pub fn new(stream: TcpStream, waits: u32) -> TcpLink
         ensures { result ≡ record { faults = 0; quiets = 0; run = 0 } }
     {
         TcpLink {
@@ -49,6 +49,11 @@ impl TcpLink {
             quiets: 0,
             run: 0,
         }
+    }
+
+    /// The other end's address; none behind a hang-up, or where the system knows none.
+    pub fn peer(&self) -> Option<SocketAddr> {
+        self.stream.as_ref()?.peer_addr().ok()
     }
 }
 

@@ -32,18 +32,18 @@ const ENFILE: i32 = 23;
 
 const ENOBUFS: i32 = 105;
 
-// How often an accept waits where descriptors or memory are short, a second each time (this project's own).
+// How often in a row an accept waits where descriptors or memory are short, a second each time (this project's own).
 const MOST_WAITS: u32 = 600;
 
 // How many connections in a row that failed before they were accepted an accept passes over, and how long it waits behind each, in
-// milliseconds: ten minutes in all (this project's own).
+// milliseconds: these waits are ten minutes in all (this project's own).
 const MOST_PASSED: u32 = 60_000;
 
 const PASSED_WAIT: u64 = 10;
 
 /// Listens by TCP on every address of IPv4. The links' reads wait for 60 seconds, their writes likewise. Where descriptors or memory
-/// are short an accept waits a second and tries again, 600 times; then it fails. A connection that failed before it was accepted is
-/// passed over: the accept waits for 10 milliseconds and takes the next one. It fails where 60,000 in a row failed so.
+/// are short an accept waits a second and tries again, 600 times in a row; then it fails. A connection that failed before it was
+/// accepted is passed over: the accept waits for 10 milliseconds and takes the next one. It fails where 60,000 in a row failed so.
 #[derive(Drop)]
 pub struct TcpListen<R: Net> {
     rt: R,
@@ -89,7 +89,7 @@ fn is_short(error: &io::Error) -> bool {
     )
 }
 
-// Whether the listener itself can't accept. Every other error is of one connection, of the network or of a firewall.
+// Whether the listener itself can't accept. Every other error is taken as one of a connection, of the network or of a firewall.
 fn is_of_listener(error: &io::Error) -> bool {
     matches!(
         error.raw_os_error(),
