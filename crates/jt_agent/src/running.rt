@@ -167,7 +167,8 @@ pub fn attempt<K: Link, C: Clock, V: Vault>(
         (at_link terminal.new.state (V.holds terminal.new.vault) (V.faults terminal.new.vault)
         (wire_of K.inbound K.written K.faults link.new))
         (C.time clock.old) (C.time clock.new) result }
-    ensures quiet { (K.inbound link.new).run ≤ (K.inbound link.old).run + most_quiet MOST_QUIETS result }
+    ensures quiet { (K.inbound link.new).run
+        ≤ (K.inbound link.old).run + most_quiet MOST_QUIETS result }
     ensures still { result ≢ Ended how.Link → K.faults link.new ≡ K.faults link.old }
     ensures down { IsDown terminal.new.state }
     ensures late { terminal.new.state.time ≤ (C.time clock.new).last }

@@ -1,12 +1,12 @@
 -- Words that ask one thing ask nothing else.
-use Rattle.std.proofs.Common.{◌≡◌, ℕ, List, Option, Some, None, IfSome, MatchOption, refl, ap, sym, subst}
+use Rattle.std.proofs.Common.{◌≡◌, ℕ, List, Option, Some, None, IfSome, MatchOption, ◌⊎◌, inl, inr, refl, ap, sym, subst}
 use Rattle.jt_relay_command.specs.RelayWords.{AreWords as AreRelayWords}
 use Rattle.jt_value.specs.declared.phone.Phone.{Phone}
 use Rattle.jt_report_command.specs.ReportWords.{ReportValues, AreWords as AreReportWords}
 use Rattle.jt_report_command.specs.Telling.{values_in_words}
 use Rattle.jt_report_command.specs.declared.report_words.ReportWords.{ReportWords}
 use Rattle.jt_words.specs.Platform.{PlatformWords as AreWords}
-use Rattle.jt_cli.specs.Ask.{Ask, Act, ReportFixes, ServeLinks, PassRowsOn, Asks, AskOnly, AskNothing, TakesMemory}
+use Rattle.jt_cli.specs.Ask.{Ask, Act, ReportFixes, ServeLinks, PassRowsOn, Asks, AskLinks, AskOnly, AskNothing, TakesMemory}
 use Rattle.jt_cli.specs.Words.{task_of, AreNoTask, AreNoPlatform, AreNoRelay, AreNoReport}
 use Rattle.jt_cli.specs.declared.task.Task.{Task}
 use Rattle.jt_cli.proofs.TaskWords.{platform_alone, platform_or_relay, platform_or_report, relay_alone, relay_or_report, report_alone}
@@ -114,3 +114,9 @@ serve_alone port sessions read words is only = subst AreNoneAlone is (
   λ told asks. serve_no_report port sessions told (only.only (ReportFixes told) asks),
   λ phone asks. serve_no_relay port sessions phone (only.only (PassRowsOn phone) asks),
 )
+
+-- ---- words that ask for links
+
+pub links_asked : {A M : Type 0} (port sessions : ℕ) (read words : List (List ℕ)) → read ≡ words → AskOnly (ServeLinks port sessions) read → A ⊎ M → A ⊎ (M × AskLinks words)
+links_asked port sessions read words is only (inl still) = inl still
+links_asked port sessions read words is only (inr memory) = inr (memory, (port, sessions, subst (λ (w : List (List ℕ)). Asks (ServeLinks port sessions) w) is only.asks))

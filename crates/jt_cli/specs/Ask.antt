@@ -31,6 +31,10 @@ pub record AskOnly (ask : Ask) (words : List (List ℕ)) : Type 0 where
 abbrev pub AskNothing : List (List ℕ) → Type 0
 AskNothing words = (ask : Ask) → Asks ask words → ⊥
 
+-- these words ask that links are served
+abbrev pub AskLinks : List (List ℕ) → Type 0
+AskLinks words = (port : ℕ) × (sessions : ℕ) × Asks (ServeLinks port sessions) words
+
 -- memory is taken to read words that ask this
 abbrev pub TakesMemory : Ask → Type 0
 TakesMemory (Act task) = ⊥

@@ -29,6 +29,7 @@ fn write_usage<K: Sink>(alloc: Global, sink: &mut K) -> Status
     ensures not_read_fault { result ≢ Status.ReadFault }
     ensures write_fault { result ≡ Status.WriteFault →
         Rose (K.faults sink.old) (K.faults sink.new) }
+    ensures write_still { result ≢ Status.WriteFault → K.faults sink.new ≡ K.faults sink.old }
 {
     let mut line = String::new(alloc);
     match push_usage_line(&mut line) {
@@ -49,11 +50,12 @@ fn act<S: Source, K: Sink>(alloc: Global, source: &mut S, sink: &mut K, task: Ta
         (K.written sink.old) (K.written sink.new) result }
     ensures read_fault { result ≡ Status.ReadFault →
         Rose (S.faults source.old) (S.faults source.new) }
-    // Every other status, so Memory too, comes only where the source's count of faults stood still.
+    // Every other status, so Memory too, comes only where the count of faults stood still.
     ensures read_still { result ≢ Status.ReadFault →
         S.faults source.new ≡ S.faults source.old }
     ensures write_fault { result ≡ Status.WriteFault →
         Rose (K.faults sink.old) (K.faults sink.new) }
+    ensures write_still { result ≢ Status.WriteFault → K.faults sink.new ≡ K.faults sink.old }
     ensures not_usage { result ≢ Status.Usage }
 {
     match task {
@@ -77,11 +79,13 @@ pub fn run_task<S: Source, K: Sink, D: Dial, L, C: Clock, P: Keeper, V: Vault>(
         Streams eyes task outside result }
     ensures read_fault { result.status ≡ Status.ReadFault →
         Rose (S.faults outside.source) (S.faults result.outside.source) }
-    // Every other status, so Memory too, comes only where the source's count of faults stood still.
+    // Every other status, so Memory too, comes only where the count of faults stood still.
     ensures read_still { result.status ≢ Status.ReadFault →
         S.faults result.outside.source ≡ S.faults outside.source }
     ensures write_fault { result.status ≡ Status.WriteFault →
         Rose (K.faults outside.sink) (K.faults result.outside.sink) }
+    ensures write_still { result.status ≢ Status.WriteFault →
+        K.faults result.outside.sink ≡ K.faults outside.sink }
     ensures not_usage { result.status ≢ Status.Usage }
 {
     let mut outside = outside;
@@ -102,10 +106,12 @@ pub fn refuse<S: Source, K: Sink, D: Dial, L, C: Clock, P: Keeper, V: Vault>(
     ensures does { let eyes = eyes_of S.left K.written D.pool D.faults C.time
         P.tables P.limit P.faults V.holds V.limit V.faults V.may_fail in
         Refuses eyes outside result }
-    // Every other status, so Memory too, comes only where the source's count of faults stood still.
+    // Every other status, so Memory too, comes only where the count of faults stood still.
     ensures read_still { S.faults result.outside.source ≡ S.faults outside.source }
     ensures write_fault { result.status ≡ Status.WriteFault →
         Rose (K.faults outside.sink) (K.faults result.outside.sink) }
+    ensures write_still { result.status ≢ Status.WriteFault →
+        K.faults result.outside.sink ≡ K.faults outside.sink }
 {
     let mut outside = outside;
     let status = write_usage(alloc, &mut outside.sink);

@@ -40,11 +40,13 @@ pub fn run_alone<R, S: Source, K: Sink, D: Dial, L, C: Clock, P: Keeper, V: Vaul
         × AreNoRelay (map string_bytes words.now.items) }
     ensures read_fault { result.status ≡ Status.ReadFault →
         Rose (S.faults outside.source) (S.faults result.outside.source) }
-    // Every other status, so Memory too, comes only where the source's count of faults stood still.
+    // Every other status, so Memory too, comes only where the count of faults stood still.
     ensures read_still { result.status ≢ Status.ReadFault →
         S.faults result.outside.source ≡ S.faults outside.source }
     ensures write_fault { result.status ≡ Status.WriteFault →
         Rose (K.faults outside.sink) (K.faults result.outside.sink) }
+    ensures write_still { result.status ≢ Status.WriteFault →
+        K.faults result.outside.sink ≡ K.faults outside.sink }
 {
     law_without_memory();
     match Asked::from_words(alloc, words.as_slice()) {

@@ -26,11 +26,13 @@ pub fn run_report<S: Source, K: Sink, D: Dial, L, C: Clock, P: Keeper, V: Vault>
         Reports eyes (values_in_words words) outside result }
     ensures read_fault { result.status ≡ Status.ReadFault →
         Rose (S.faults outside.source) (S.faults result.outside.source) }
-    // Every other status, so Memory too, comes only where the source's count of faults stood still.
+    // Every other status, so Memory too, comes only where the count of faults stood still.
     ensures read_still { result.status ≢ Status.ReadFault →
         S.faults result.outside.source ≡ S.faults outside.source }
     ensures write_fault { result.status ≡ Status.WriteFault →
         Rose (K.faults outside.sink) (K.faults result.outside.sink) }
+    ensures write_still { result.status ≢ Status.WriteFault →
+        K.faults result.outside.sink ≡ K.faults outside.sink }
     ensures not_usage { result.status ≢ Status.Usage }
 {
     let mut outside = outside;

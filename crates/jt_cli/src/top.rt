@@ -1,9 +1,10 @@
 //! All that the program does.
 
-ghost use Rattle.std.specs.Prelude.{◌≡◌, ◌≢◌, ◌≤◌, Option, map, string_bytes};
+ghost use Rattle.std.specs.Prelude.{◌≡◌, ◌≢◌, ◌≤◌, ◌⊎◌, Option, map, string_bytes};
 ghost use Rattle.jt_value.specs.Counts.{Rose};
 ghost use Rattle.jt_platform.specs.declared.desk.HubOpening.{HubOpening};
-ghost use Rattle.jt_cli.specs.Ask.{AskNothing};
+ghost use Rattle.jt_platform_command.specs.Platform.{EndsForMemory};
+ghost use Rattle.jt_cli.specs.Ask.{AskLinks, AskNothing};
 ghost use Rattle.jt_cli.specs.Running.{Ran, Serves, eyes_of};
 
 use crate::acting::{give_up, refuse, run_task};
@@ -50,6 +51,9 @@ where
         S.faults result.outside.source ≡ S.faults outside.source }
     ensures write_fault { result.status ≡ Status.WriteFault →
         Rose (K.faults outside.sink) (K.faults result.outside.sink) }
+    ensures write_still { result.status ≢ Status.WriteFault →
+        (K.faults result.outside.sink ≡ K.faults outside.sink)
+        ⊎ EndsForMemory result.status result.reports }
     ensures not_usage { result.status ≢ Status.Usage }
 {
     let mut outside = outside;
@@ -117,6 +121,12 @@ where
         S.faults result.outside.source ≡ S.faults outside.source }
     ensures write_fault { result.status ≡ Status.WriteFault →
         Rose (K.faults outside.sink) (K.faults result.outside.sink) }
+    // The same of the sink, but that `platform` tells want of memory before the first session, or in one, also where the write
+    // then fails.
+    ensures write_still { result.status ≢ Status.WriteFault →
+        (K.faults result.outside.sink ≡ K.faults outside.sink)
+        ⊎ (EndsForMemory result.status result.reports
+        × AskLinks (map string_bytes words.now.items)) }
 {
     law_without_memory();
     match Asked::from_words(alloc, words.as_slice()) {

@@ -20,10 +20,11 @@ use Rattle.jt_play.specs.Laws.{RecordsAtMost, recorded_by}
 use Rattle.jt_play.specs.Scripts.{IsScripted, Names, Scene, edition_by, settings_in}
 use Rattle.jt_play.specs.declared.error.WorldError.{WorldError}
 use Rattle.jt_play.specs.declared.error.WorldError.TheVariants as refused
+use Rattle.jt_play.proofs.Scenes.{named_not_full}
 use Rattle.jt_world.specs.Rehearsal.{first, the_identity}
 use Rattle.jt_gateway.specs.World.{GatewayWorld, fixes_behind, gateway_empty}
 use Rattle.jt_gateway.specs.Steps.{GatewayLeads, MayStepOn, ReachedGateway, gateway_after, world_with_fixes}
-use Rattle.jt_gateway.specs.Gateway.{GatewayScene, HasNoLine, IsGateway, IsLed, IsOf2019, entries_of, first_scene, gateway_after_line, is_line_of_b, play_with_fixes, room_for, scene_after, worlds_of}
+use Rattle.jt_gateway.specs.Gateway.{GatewayScene, HasNoLine, IsGateway, IsLed, IsOf2019, entries_of, first_scene, gateway_after_line, gateway_full, is_line_of_b, play_with_fixes, room_for, scene_after, worlds_of}
 use Rattle.jt_gateway.specs.Pumping.{EndsAlike, GoesOn, IsBegun, IsUpstream, PumpsMost, RestartsMiddle, Stepped}
 use Rattle.jt_gateway.specs.declared.event.GatewayEvent.{GatewayEvent}
 use Rattle.jt_gateway.specs.declared.event.GatewayEvent.TheVariants as asked
@@ -49,6 +50,13 @@ full_not_memory limit e = absurd cc
 
 no_line_not_memory : (number : ℕ) → refused.NoLine number ≡ refused.Memory → ⊥
 no_line_not_memory number e = absurd cc
+
+-- a line that names a line of communication finds nothing full
+pub no_line_not_full : (g : GatewayScene) (e : GatewayEvent) (number : ℕ) → HasNoLine g e number → gateway_full g e ≡ false
+no_line_not_full g (asked.A event) number has = named_not_full FIX_LIMIT g.a.play event number has.0
+no_line_not_full g (asked.B event) number has = named_not_full FIX_LIMIT g.b.play event number has.0
+no_line_not_full g asked.Pump number has = absurd has
+no_line_not_full g asked.RestartMiddle number has = absurd has
 
 -- what a step of one of the worlds promises
 pub record Steps {T : Type 0} (old now : Scene) (event : WorldEvent) (next : Play) (r : Result T WorldError) : Type 0 where

@@ -1,6 +1,6 @@
 //! The gateway: two worlds, of which one passes on to the other what it stored.
 
-ghost use Rattle.std.specs.Prelude.{◌≡◌, ◌≢◌, ◌↔◌, ℕ, [], true, false, length, take, Err, IfOk, OnOk};
+ghost use Rattle.std.specs.Prelude.{◌≡◌, ◌≢◌, ◌↔◌, ◌⊎◌, ℕ, [], true, false, length, take, Err, IfOk, OnOk};
 ghost use Rattle.jt_value.specs.declared.limits.TheConstants.{FIX_LIMIT};
 ghost use Rattle.jt_value.specs.declared.phone.Edition.TheVariants.{E2019};
 ghost use Rattle.jt_octets.specs.Reaching.{Leads};
@@ -243,10 +243,10 @@ impl Gateway {
     /// that its fixes were passed on as `law_gateway` says, and the terminal of world b is one of 2019. If lines alone led to the gateway
     /// before, they lead to it after each answer but Memory, and after Ok it is the one that the line defines.
     ///
-    /// NoLine comes exactly where the line of communication that is named was not opened; the gateway is then as before. Full comes
-    /// where as many fixes as the limit are not accepted and one is to be recorded; the gateway is then as before, but that a pump
-    /// recorded as many as there was room for. Memory comes where memory ran out, or where as many lines were opened or fixes recorded
-    /// as have a number; the line was then done in part.
+    /// NoLine comes exactly where the line of communication that is named was not opened; the gateway is then as before. Where as many
+    /// fixes as the limit are not accepted and one is to be recorded, the answer is Full, which comes only there, or Memory; at Full the
+    /// gateway is as before, but that a pump recorded as many as there was room for. Memory comes where memory ran out, or where as many
+    /// lines were opened or fixes recorded as have a number; the line was then done in part.
     pub fn step(&mut self, alloc: Global, event: GatewayEvent) -> Result<Seq<Entry>, WorldError>
         requires { MayAsk event }
         ensures leads { GatewayLeads (worlds_of self.old) (worlds_of self.new) }
@@ -256,6 +256,8 @@ impl Gateway {
         ensures full { (limit : ℕ) → result ≡ Err (refused.Full limit) →
             (limit ≡ FIX_LIMIT) × (gateway_full self.old event ≡ true)
             × (self.new ≡ gateway_at_full self.old event) }
+        ensures at_full { gateway_full self.old event ≡ true →
+            (result ≡ Err (refused.Full FIX_LIMIT)) ⊎ (result ≡ Err refused.Memory) }
         ensures room { OnOk result (gateway_full self.old event ≡ false) }
         ensures no_line { (number : ℕ) →
             (result ≡ Err (refused.NoLine number)) ↔ HasNoLine self.old event number }

@@ -1,5 +1,5 @@
 -- A world of orders that a script plays: what stays true of it, and what its lines answer.
-use Rattle.std.proofs.Common.{ℕ, ◌≡◌, ◌↔◌, List, [], ◌∷◌, Some, None, Bool, true, false, refl, ap, sym, ◌∙◌, subst}
+use Rattle.std.proofs.Common.{ℕ, ◌≡◌, ◌↔◌, List, [], ◌∷◌, Some, None, Bool, true, false, ◌⊎◌, inl, inr, refl, ap, sym, ◌∙◌, subst}
 use Rattle.std.specs.Prelude.{Result, Ok, Err, IfErr, not}
 use Rattle.std.proofs.lemmas.Bool.{false≢true}
 use Rattle.jt_value.specs.Sameness.{key_of}
@@ -22,7 +22,7 @@ use Rattle.jt_order_play.specs.declared.error.OrderWorldError.TheVariants as ref
 use Rattle.jt_order_play.specs.declared.event.OrderEvent.{OrderEvent}
 use Rattle.jt_order_play.specs.declared.event.OrderEvent.TheVariants as line
 use Rattle.jt_order_play.specs.Holding.{is_no_line}
-use Rattle.jt_order_play.specs.Playing.{OrderPlay, is_opened, names_no_line}
+use Rattle.jt_order_play.specs.Playing.{OrderPlay, finds_full, is_opened, names_no_line}
 use Rattle.jt_order_play.specs.Scripts.{IsOrderScene, Names, first_play}
 use Rattle.jt_order_play.proofs.Composing.{still_reached}
 use Rattle.jt_order_play.proofs.Owning.{own_reached}
@@ -133,3 +133,23 @@ pub same_refused : {T U : Type 0} (r : Result T OrderWorldError) (done : Result 
 same_refused r done A no_line full same (refused.NoLine l) is other = subst (λ x. IfErr x (λ (e : OrderWorldError). A)) ((no_line l).0 is) same
 same_refused r done A no_line full same (refused.Full l) is other = subst (λ x. IfErr x (λ (e : OrderWorldError). A)) ((full l).0 is) same
 same_refused r done A no_line full same refused.Memory is other = absurd (other refl)
+
+-- ---- where full is found
+
+pub refusals : (e : OrderWorldError) → ((l : ℕ) × (e ≡ refused.NoLine l)) ⊎ (((l : ℕ) × (e ≡ refused.Full l)) ⊎ (e ≡ refused.Memory))
+refusals (refused.NoLine l) = inl (l, refl)
+refusals (refused.Full l) = inr (inl (l, refl))
+refusals refused.Memory = inr (inr refl)
+
+-- an event that names a line of communication issues nothing
+pub named_not_full : (w : OrderWorld) (e : OrderEvent) (l : ℕ) → Names e l → finds_full w e ≡ false
+named_not_full w (line.Up number count) l named = refl
+named_not_full w (line.Cut number) l named = refl
+named_not_full w (line.Issue order) l named = absurd named
+named_not_full w line.Open l named = refl
+named_not_full w (line.Down count) l named = refl
+named_not_full w (line.Tick by) l named = refl
+named_not_full w line.Run l named = refl
+named_not_full w line.Lost l named = refl
+named_not_full w line.RestartTerminal l named = refl
+named_not_full w line.RestartPlatform l named = refl

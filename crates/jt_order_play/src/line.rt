@@ -242,7 +242,8 @@ impl Line {
     pub(crate) fn offer(&mut self, hub: &Hub<MemKeeper>, book: &mut MemBook) -> bool
         requires { self.old.plain.line.is_open ≡ true }
         ensures offers { (w : OrderWorld) (place : ℕ) →
-            StandsIn w place self.old hub.now book.old.book → OffersInWorld w place self.new result }
+            StandsIn w place self.old hub.now book.old.book →
+            OffersInWorld w place self.new result }
         ensures number { self.new.plain.number ≡ self.old.plain.number }
         ensures opened { self.new.plain.line.is_open ≡ true }
         ensures book { book.new.book ≡ book.old.book }

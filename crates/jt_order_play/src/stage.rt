@@ -341,10 +341,8 @@ impl Stage {
                 if send(alloc, &mut self.lines, actions.frames.as_slice()) {
                     return true;
                 }
-                match self.terminal.event(Event::Lost) {
-                    Ok(_) => false,
-                    Err(_) => false,
-                }
+                let _lost = self.terminal.event(Event::Lost);
+                false
             }
             Err(_) => false,
         }
@@ -679,10 +677,8 @@ impl Stage {
                 if send(alloc, &mut self.lines, actions.frames.as_slice()) {
                     return true;
                 }
-                match self.terminal.event(Event::Lost) {
-                    Ok(_) => false,
-                    Err(_) => false,
-                }
+                let _lost = self.terminal.event(Event::Lost);
+                false
             }
             Err(_) => false,
         }
@@ -762,10 +758,8 @@ impl Stage {
                 if send(alloc, &mut self.lines, actions.frames.as_slice()) {
                     return Ok(());
                 }
-                match self.terminal.event(Event::Lost) {
-                    Ok(_) => Err(Memory),
-                    Err(_) => Err(Memory),
-                }
+                let _lost = self.terminal.event(Event::Lost);
+                Err(Memory)
             }
             Err(_) => {
                 self.hears = false;

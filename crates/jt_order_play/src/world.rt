@@ -1,6 +1,6 @@
 //! The world of orders that a script plays: what a line of it does.
 
-ghost use Rattle.std.specs.Prelude.{◌≡◌, ◌≢◌, ◌↔◌, length, true, false, ℕ, Err, Ok, IfOk, OnOk};
+ghost use Rattle.std.specs.Prelude.{◌≡◌, ◌≢◌, ◌↔◌, ◌⊎◌, length, true, false, ℕ, Err, Ok, IfOk, OnOk};
 ghost use Rattle.jt_terminal_rule.specs.Messages.{AreSettings};
 ghost use Rattle.jt_value.specs.declared.limits.TheConstants.{ROW_LIMIT};
 ghost use Rattle.jt_order.specs.declared.book.TheConstants.{ORDER_LIMIT};
@@ -97,9 +97,10 @@ impl OrderWorld {
 
     /// A line of a script. After each answer the world is one to which steps lead. After Ok it is the one that the line defines.
     ///
-    /// NoLine comes exactly where the line that is named was not opened, and Full only where as many orders as the limit were issued
-    /// and one is to be; the world is then as before. Memory comes where memory ran out, where as many lines were opened as have a
-    /// number, or where an octet would move yet behind 2^64 - 1 rounds; of the world it is then said alone that steps lead to it.
+    /// NoLine comes exactly where the line that is named was not opened. Where as many orders as the limit were issued and one is to
+    /// be, the answer is Full, which comes only there, or Memory. The world is as before at both refusals. Memory comes where memory ran
+    /// out, where as many lines were opened as have a number, or where an octet would move yet behind 2^64 - 1 rounds; of the world it is
+    /// then said alone that steps lead to it.
     pub fn step(&mut self, alloc: Global, event: OrderEvent) -> Result<(), OrderWorldError>
         ensures leads { Leads self.old.play.world self.new.play.world }
         ensures identity { self.new.identity ≡ self.old.identity }
@@ -109,6 +110,8 @@ impl OrderWorld {
             ↔ (Names event line × (is_opened self.old.play.world line ≡ false)) }
         ensures full { (limit : ℕ) → result ≡ Err (refused.Full limit) →
             (limit ≡ ORDER_LIMIT) × (finds_full self.old.play.world event ≡ true) }
+        ensures at_full { finds_full self.old.play.world event ≡ true →
+            (result ≡ Err (refused.Full ORDER_LIMIT)) ⊎ (result ≡ Err refused.Memory) }
         ensures room { OnOk result (finds_full self.old.play.world event ≡ false) }
         ensures same { (error : OrderWorldError) → result ≡ Err error → error ≢ refused.Memory →
             self.new ≡ self.old }

@@ -1,7 +1,9 @@
 -- Why a run of `platform` ends with a status.
 use Rattle.std.proofs.Common.{◌≡◌, ◌≢◌, ◌≤◌, ◌+◌, ◌⊎◌, inl, inr, ℕ, Bool, true, false, if◌then◌else◌, List, [], ◌∷◌, length, Option, Some, None, refl, sym, subst, ◌∙◌, arith}
+use Rattle.std.proofs.lemmas.List.{nil_from_length}
 use Rattle.jt_value.specs.Counts.{Rose, RoseBy}
 use Rattle.jt_outside.specs.Pool.{Pool}
+use Rattle.jt_platform.specs.declared.request.Entry.{Entry}
 use Rattle.jt_input.specs.Answer.{CutsShort, IsFault}
 use Rattle.jt_input.specs.declared.status.Status.{Status}
 use Rattle.jt_input.specs.declared.status.Status.TheVariants as status
@@ -11,7 +13,7 @@ use Rattle.jt_server.specs.declared.served.ServeEnd.TheVariants as served
 use Rattle.jt_session.specs.declared.end.End.{End}
 use Rattle.jt_session.specs.declared.end.End.TheVariants as ends
 use Rattle.jt_session.specs.declared.report.Report.{Report}
-use Rattle.jt_platform_command.specs.Platform.{some_end, is_store_fault, first_limit, last_reply, store_reply}
+use Rattle.jt_platform_command.specs.Platform.{EndsForMemory, Served, first_limit, is_memory, is_store_fault, last_reply, platform_text, some_end, store_reply}
 
 -- a text that is cut short has a status of a fault
 pub cut_fault : (s t : Status) → (s ≡ t) ⊎ CutsShort s → (s ≡ t) ⊎ IsFault s
@@ -82,3 +84,39 @@ pub store_when : (end : ServeEnd) (reports : List Report) (before now : ℕ) (me
     → s ≡ status.StoreFault → RoseBy (store_faults reports) before now → Rose before now ⊎ (first_limit reports ≢ None)
 store_when end reports before now memory s (inl is) e rose = store_cause end reports before now memory (sym is ∙ e) rose
 store_when end reports before now memory s (inr fault) e rose = absurd (subst IsFault e fault)
+
+-- ---- want of memory
+
+not_memory : (store : Bool) (limit : Option ℕ) → (store_reply store limit).status ≡ status.Memory → ⊥
+not_memory true limit e = absurd (cc e)
+not_memory false None e = absurd (cc e)
+not_memory false (Some limit) e = absurd (cc e)
+
+-- it is the status only where a session ended for it, or there was none
+memory_cause : (end : ServeEnd) (reports : List Report) (sessions : ℕ) (pool : Pool) (before now : ℕ) (memory : Bool)
+    → status_of memory (last_reply end reports).status ≡ status.Memory → EndsAs end (length reports) sessions pool before now → (memory ≡ true) ⊎ (reports ≡ [])
+memory_cause end reports sessions pool before now true e ends = inl refl
+memory_cause served.ListenFault reports sessions pool before now false e ends = absurd (cc e)
+memory_cause served.All reports sessions pool before now false e ends = absurd (not_memory (some_end is_store_fault reports) (first_limit reports) e)
+memory_cause served.Over reports sessions pool before now false e ends = absurd (not_memory (some_end is_store_fault reports) (first_limit reports) e)
+memory_cause served.Memory reports sessions pool before now false e ends = inr (nil_from_length reports ends)
+
+-- a write failed behind a text of this status only where that tells want of memory
+pub still_or_memory : {A : Type 0} (s result text : Status) → ((s ≡ status.Memory → ⊥) → A) → (s ≡ status.Memory → result ≡ status.Memory) → s ≡ text → A ⊎ ((result ≡ status.Memory) × (text ≡ status.Memory))
+still_or_memory status.Memory result text still memory is = inr (memory refl, sym is)
+still_or_memory status.Done result text still memory is = inl (still (λ e. absurd (cc e)))
+still_or_memory status.Refused result text still memory is = inl (still (λ e. absurd (cc e)))
+still_or_memory status.Usage result text still memory is = inl (still (λ e. absurd (cc e)))
+still_or_memory status.ReadFault result text still memory is = inl (still (λ e. absurd (cc e)))
+still_or_memory status.WriteFault result text still memory is = inl (still (λ e. absurd (cc e)))
+still_or_memory status.StoreFault result text still memory is = inl (still (λ e. absurd (cc e)))
+still_or_memory status.NetFault result text still memory is = inl (still (λ e. absurd (cc e)))
+still_or_memory status.Unsent result text still memory is = inl (still (λ e. absurd (cc e)))
+
+-- the same of a run that served these sessions
+pub still_or_ended : {A : Type 0} (s : Status) (end : ServeEnd) (reports told : List Report) (entries : List Entry) (sessions : ℕ) (pool : Pool) (before now : ℕ) → told ≡ reports
+    → A ⊎ ((s ≡ status.Memory) × ((platform_text (Served end told entries)).status ≡ status.Memory)) → EndsAs end (length reports) sessions pool before now → A ⊎ EndsForMemory s reports
+unfolding platform_text
+still_or_ended s end reports told entries sessions pool before now same (inl still) ends = inl still
+still_or_ended s end reports told entries sessions pool before now same (inr both) ends =
+    inr (both.0, memory_cause end reports sessions pool before now (some_end is_memory reports) (subst (λ (l : List Report). status_of (some_end is_memory l) (last_reply end l).status ≡ status.Memory) same both.1) ends)

@@ -1,5 +1,5 @@
 -- What `platform` prints, and its status: this project's own texts. To be believed.
-use Rattle.std.specs.Prelude.{ℕ, ◌+◌, List, [], ◌∷◌, ◌++◌, length, codes, Bool, true, false, if◌then◌else◌, Option, Some, None}
+use Rattle.std.specs.Prelude.{◌≡◌, ◌⊎◌, ℕ, ◌+◌, List, [], ◌∷◌, ◌++◌, length, codes, Bool, true, false, if◌then◌else◌, Option, Some, None}
 use Rattle.std.specs.Fmt.{decimal}
 use Rattle.std.specs.List.{flat_map}
 use Rattle.jt_platform.specs.declared.request.Entry.{Entry}
@@ -8,6 +8,7 @@ use Rattle.jt_platform.specs.declared.request.Reply.TheVariants as say
 use Rattle.jt_input.specs.EarlyEnds.{early_reply}
 use Rattle.jt_input.specs.declared.early_end.EarlyEnd.TheVariants as early
 use Rattle.jt_input.specs.Reply.{Reply}
+use Rattle.jt_input.specs.declared.status.Status.{Status}
 use Rattle.jt_input.specs.declared.status.Status.TheVariants as status
 use Rattle.jt_server.specs.declared.served.ServeEnd.{ServeEnd}
 use Rattle.jt_server.specs.declared.served.ServeEnd.TheVariants as served
@@ -109,6 +110,11 @@ last_reply served.ListenFault reports = early_reply early.ListenFault
 last_reply served.All reports = store_reply (some_end is_store_fault reports) (first_limit reports)
 last_reply served.Over reports = store_reply (some_end is_store_fault reports) (first_limit reports)
 last_reply served.Memory reports = record { text = []; status = status.Memory }
+
+-- the run tells want of memory, by which a session ended, or which came before the first one
+abbrev pub EndsForMemory : Status → List Report → Type 0
+EndsForMemory s reports =
+    (s ≡ status.Memory) × ((some_end is_memory reports ≡ true) ⊎ (reports ≡ []))
 
 -- what came of `platform`: a bad line of the source, by its number; a fault before a listener was begun; no listener; or sessions
 pub data Came : Type 0 where

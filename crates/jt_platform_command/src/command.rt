@@ -5,7 +5,7 @@ ghost use Rattle.std.specs.Io.KnownBytes.{IsAtEnd};
 ghost use Rattle.jt_value.specs.Counts.{Rose};
 ghost use Rattle.jt_platform.specs.History.{newest, tables_after};
 ghost use Rattle.jt_platform.specs.declared.desk.HubOpening.{HubOpening};
-ghost use Rattle.jt_platform_command.specs.Platform.{first_limit};
+ghost use Rattle.jt_platform_command.specs.Platform.{EndsForMemory, first_limit};
 ghost use Rattle.jt_platform.specs.Hub.{opening_of};
 ghost use Rattle.jt_platform_command.specs.Running.{RunsPlatform, scene_of};
 ghost use Rattle.jt_platform_command.specs.Opening.{Opens};
@@ -71,7 +71,7 @@ where
     ensures write_fault { result.status ≡ Status.WriteFault →
         Rose (K.faults sink.old) (K.faults sink.new) }
     ensures write_still { result.status ≢ Status.WriteFault →
-        (K.faults sink.new ≡ K.faults sink.old) ⊎ (result.status ≡ Status.Memory) }
+        (K.faults sink.new ≡ K.faults sink.old) ⊎ EndsForMemory result.status result.reports }
     ensures no_read_fault { result.status ≢ Status.ReadFault }
     ensures net_fault { result.status ≡ Status.NetFault →
         Rose (L.faults listen.old) (L.faults listen.new) }
@@ -117,7 +117,7 @@ where
     ensures write_fault { result.status ≡ Status.WriteFault →
         Rose (K.faults sink.old) (K.faults sink.new) }
     ensures write_still { result.status ≢ Status.WriteFault →
-        (K.faults sink.new ≡ K.faults sink.old) ⊎ (result.status ≡ Status.Memory) }
+        (K.faults sink.new ≡ K.faults sink.old) ⊎ EndsForMemory result.status result.reports }
     ensures no_read_fault { result.status ≢ Status.ReadFault }
     ensures net_fault { result.status ≡ Status.NetFault →
         Rose (L.faults listen.old) (L.faults listen.new) }
@@ -170,9 +170,9 @@ where
         S.faults source.new ≡ S.faults source.old }
     ensures write_fault { result.status ≡ Status.WriteFault →
         Rose (K.faults sink.old) (K.faults sink.new) }
-    // The same of the sink, but that want of memory is told also where the write then fails.
+    // The same of the sink, but that want of memory before the first session, or in one, is told also where the write then fails.
     ensures write_still { result.status ≢ Status.WriteFault →
-        (K.faults sink.new ≡ K.faults sink.old) ⊎ (result.status ≡ Status.Memory) }
+        (K.faults sink.new ≡ K.faults sink.old) ⊎ EndsForMemory result.status result.reports }
     ensures net_fault { result.status ≡ Status.NetFault →
         Rose (L.faults listen.old) (L.faults listen.new) }
     ensures store_fault { result.status ≡ Status.StoreFault →

@@ -60,9 +60,10 @@ pub(crate) fn tell_served<K: Sink>(
         ⊎ IsFault result }
     ensures write_fault { result ≡ Status.WriteFault →
         Rose (K.faults sink.old) (K.faults sink.new) }
-    // Want of memory is told also where the write then fails.
-    ensures write_still { result ≢ Status.WriteFault →
-        (K.faults sink.new ≡ K.faults sink.old) ⊎ (result ≡ Memory) }
+    // Want of memory before the first session, or in one, is told also where the write then fails.
+    ensures write_still { result ≢ Status.WriteFault → (K.faults sink.new ≡ K.faults sink.old)
+        ⊎ ((result ≡ Memory)
+        × ((platform_text (Served end reports.now history.now)).status ≡ Memory)) }
     ensures no_read_fault { result ≢ Status.ReadFault }
     ensures ends { EndsOf end result }
 {

@@ -1,6 +1,6 @@
 -- A world that a script plays: what stays true of it, and what its lines answer.
-use Rattle.std.proofs.Common.{ℕ, zero, suc, ◌+◌, ◌-◌, ◌<◌, ◌≤◌, ◌≡◌, ◌↔◌, List, [], ◌∷◌, ◌++◌, length, take, drop, Option, Some, None, Bool, true, false, arith, refl, ap, sym, ◌∙◌, subst, length-drop, take_all}
-use Rattle.std.specs.Prelude.{Result, Ok, Err, IfErr, IfOk, reverse, not}
+use Rattle.std.proofs.Common.{ℕ, zero, suc, ◌+◌, ◌-◌, ◌<◌, ◌≤◌, ◌≡◌, ◌↔◌, List, [], ◌∷◌, ◌++◌, length, take, drop, Option, Some, None, Bool, true, false, ◌⊎◌, inl, inr, arith, refl, ap, sym, ◌∙◌, subst, length-drop, take_all}
+use Rattle.std.specs.Prelude.{Result, Ok, Err, IfErr, IfOk, OnOk, reverse, not}
 use Rattle.std.specs.Coded.{codes, ×_prop, Unit-prop}
 use Rattle.std.proofs.Math.Seq.{take-append_seam}
 use Rattle.std.proofs.Math.Logic.{∥∥₁_elim, ∥∥₁_map}
@@ -35,7 +35,7 @@ use Rattle.jt_play.specs.declared.error.WorldError.TheVariants as refused
 use Rattle.jt_play.specs.Holding.{is_no_line}
 use Rattle.jt_play.specs.Scripts.{IsScene, Names, settings_in}
 use Rattle.jt_play.specs.Laws.{first_play}
-use Rattle.jt_play.specs.Playing.{Play, behind, is_opened, names_no_line}
+use Rattle.jt_play.specs.Playing.{Play, behind, finds_full, is_opened, names_no_line}
 use Rattle.jt_play.proofs.Downward.{leads_both}
 
 -- ---- entries
@@ -227,3 +227,37 @@ pub same_refused : {T U : Type 0} (r : Result T WorldError) (done : Result U Wor
 same_refused r done A no_line full same (refused.NoLine l) is other = subst (λ x. IfErr x (λ (e : WorldError). A)) ((no_line l).0 is) same
 same_refused r done A no_line full same (refused.Full l) is other = subst (λ x. IfErr x (λ (e : WorldError). A)) ((full l).0 is) same
 same_refused r done A no_line full same refused.Memory is other = absurd (other refl)
+
+-- ---- where full is found
+
+-- An answer that is neither a value nor the refusal of a line of communication is then Full of the limit, or want of memory.
+pub at_full_is : {T E : Type 0} (no_line full : ℕ → E) (memory : E) (limit : ℕ) (found : Bool) (r : Result T E) → ((e : E) → ((l : ℕ) × (e ≡ no_line l)) ⊎ (((l : ℕ) × (e ≡ full l)) ⊎ (e ≡ memory)))
+    → OnOk r (found ≡ false) → ((l : ℕ) → r ≡ Err (no_line l) → found ≡ false) → ((l : ℕ) → r ≡ Err (full l) → l ≡ limit) → found ≡ true → (r ≡ Err (full limit)) ⊎ (r ≡ Err memory)
+at_full_is no_line full memory limit found (Ok x) parts room named limited at = absurd (false≢true (sym room ∙ at))
+at_full_is {T} {E} no_line full memory limit found (Err e) parts room named limited at = by (parts e)
+  where
+    by : ((l : ℕ) × (e ≡ no_line l)) ⊎ (((l : ℕ) × (e ≡ full l)) ⊎ (e ≡ memory)) → (◌≡◌ {A = Result T E} (Err e) (Err (full limit))) ⊎ (◌≡◌ {A = Result T E} (Err e) (Err memory))
+    by (inl (l, is)) = absurd (false≢true (sym (named l (ap (λ (x : E). Err x) is)) ∙ at))
+    by (inr (inl (l, is))) = inl (ap (λ (x : E). Err x) (is ∙ ap full (limited l (ap (λ (x : E). Err x) is))))
+    by (inr (inr is)) = inr (ap (λ (x : E). Err x) is)
+
+pub refusals : (e : WorldError) → ((l : ℕ) × (e ≡ refused.NoLine l)) ⊎ (((l : ℕ) × (e ≡ refused.Full l)) ⊎ (e ≡ refused.Memory))
+refusals (refused.NoLine l) = inl (l, refl)
+refusals (refused.Full l) = inr (inl (l, refl))
+refusals refused.Memory = inr (inr refl)
+
+-- an event that names a line of communication records nothing
+pub named_not_full : (limit : ℕ) (p : Play) (e : WorldEvent) (l : ℕ) → Names e l → finds_full limit p e ≡ false
+named_not_full limit p (line.Up number count) l named = refl
+named_not_full limit p (line.Cut number) l named = refl
+named_not_full limit p (line.Fix latitude) l named = absurd named
+named_not_full limit p (line.Raw fix) l named = absurd named
+named_not_full limit p line.Open l named = refl
+named_not_full limit p (line.Down count) l named = refl
+named_not_full limit p (line.Tick by) l named = refl
+named_not_full limit p (line.Beat n) l named = refl
+named_not_full limit p line.Run l named = refl
+named_not_full limit p line.Lost l named = refl
+named_not_full limit p line.RestartTerminal l named = refl
+named_not_full limit p line.RestartPlatform l named = refl
+named_not_full limit p (line.RestartAs edition) l named = refl

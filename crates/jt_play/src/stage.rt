@@ -306,10 +306,8 @@ impl Stage {
                 if send(alloc, &mut self.lines, actions.frames.as_slice()) {
                     return true;
                 }
-                match self.terminal.event(alloc, Event::Lost) {
-                    Ok(_) => false,
-                    Err(_) => false,
-                }
+                let _lost = self.terminal.event(alloc, Event::Lost);
+                false
             }
             Err(_) => false,
         }
@@ -639,10 +637,8 @@ impl Stage {
                 if send(alloc, &mut self.lines, actions.frames.as_slice()) {
                     return true;
                 }
-                match self.terminal.event(alloc, Event::Lost) {
-                    Ok(_) => false,
-                    Err(_) => false,
-                }
+                let _lost = self.terminal.event(alloc, Event::Lost);
+                false
             }
             Err(_) => false,
         }
@@ -728,10 +724,8 @@ impl Stage {
                 if send(alloc, &mut self.lines, actions.frames.as_slice()) {
                     return Ok(());
                 }
-                match self.terminal.event(alloc, Event::Lost) {
-                    Ok(_) => Err(Memory),
-                    Err(_) => Err(Memory),
-                }
+                let _lost = self.terminal.event(alloc, Event::Lost);
+                Err(Memory)
             }
             Err(_) => {
                 self.hears = false;

@@ -1,5 +1,5 @@
 -- Attempts over a link that answers all.
-use Rattle.std.proofs.Common.{◌≡◌, ◌≤◌, ◌<◌, ◌+◌, ◌++◌, ◌⊎◌, ℕ, List, [], ◌∷◌, Option, Some, None, IfSome, length, inl, inr, refl, sym, ap, ◌∙◌, subst, arith, append_assoc, length-append}
+use Rattle.std.proofs.Common.{◌≡◌, ◌≤◌, ◌<◌, ◌++◌, ◌⊎◌, ℕ, List, [], ◌∷◌, Option, Some, None, IfSome, length, inl, inr, refl, sym, ap, ◌∙◌, subst, arith, append_assoc, length-append}
 use Rattle.std.proofs.lemmas.List.{append-nil}
 use Rattle.std.specs.Prelude.{option_map}
 use Rattle.std.specs.Io.KnownBytes.{Consumes, IsAtEnd}
@@ -18,7 +18,7 @@ use Rattle.jt_agent.specs.declared.reporting.Outcome.{Outcome}
 use Rattle.jt_agent.specs.declared.reporting.Outcome.TheVariants.{Done, Unsent, StoreFault, Memory}
 use Rattle.jt_terminal_rule.specs.declared.state.GiveUp.TheVariants as give_up
 use Rattle.jt_agent.specs.Attempt.{AtLink, Attempt}
-use Rattle.jt_agent.specs.Course.{course, waits_of}
+use Rattle.jt_agent.specs.Course.{course}
 use Rattle.jt_agent.specs.Tries.{Between, NoLink, OneTry, OverLink, Reports, Tries, with_link}
 use Rattle.jt_report_command.specs.Answered.{AnswersAll, HasAnswers, HearsFront, WereFine}
 

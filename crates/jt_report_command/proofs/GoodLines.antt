@@ -1,5 +1,5 @@
 -- A text has the fixes of its good lines, and no other.
-use Rattle.std.proofs.Common.{◌≡◌, ◌<◌, ◌+◌, ◌++◌, ◌⊎◌, inl, inr, Bool, true, false, ℕ, List, [], ◌∷◌, Option, Result, Ok, Err, IsTrue, length, length-append, refl, sym, ap, subst, ◌∙◌, arith, append_assoc}
+use Rattle.std.proofs.Common.{◌≡◌, ◌<◌, ◌+◌, ◌++◌, Bool, true, false, ℕ, List, [], ◌∷◌, Result, Ok, Err, length, length-append, sym, ap, subst, ◌∙◌, arith, append_assoc}
 use Rattle.hex.specs.Hex.{decode_of}
 use Rattle.hex.specs.declared.error.FromHexError.{FromHexError}
 use Rattle.jt_value.specs.declared.refusal.Refusal.{Refusal}
@@ -8,7 +8,7 @@ use Rattle.jt_position.specs.declared.position.Position.{Position}
 use Rattle.jt_position.specs.Positions.{position}
 use Rattle.jt_position.proofs.ItemLaws.{position_law}
 use Rattle.jt_input.specs.Spelling.{is_passed}
-use Rattle.jt_input.specs.Text.{lines_of, is_within}
+use Rattle.jt_input.specs.Text.{lines_of}
 use Rattle.jt_report_command.specs.FixLines.{Says, SaysIf, SaysOfDigits, SaysOfOctets}
 use Rattle.jt_report_command.specs.FixesText.{EndsAt, HaveFixes, IsBeyond, SaysAt, fixes_in, is_good}
 use Rattle.jt_report_command.specs.declared.line.FixLine.{FixLine}

@@ -12,6 +12,7 @@ mod Phones
 mod Recording
 mod Scripted
 mod Started
+mod Example
 mod Timing
 mod Tries
 pub mod Causes

@@ -1,6 +1,6 @@
 -- A terminal that is told a script with the acceptances of all that it sends, in time, goes on, and is done at the script's end.
-use Rattle.std.proofs.Common.{◌≡◌, ◌≢◌, ◌≤◌, ◌<◌, ◌+◌, ◌*◌, ◌++◌, ℕ, zero, suc, List, [], ◌∷◌, Bool, true, false, Option, Some, None, All, length, drop, map, refl, sym, ap, ◌∙◌, subst, arith, append_assoc}
-use Rattle.std.specs.Prelude.{◌&&◌, not, nat_le, if◌then◌else◌}
+use Rattle.std.proofs.Common.{◌≡◌, ◌≢◌, ◌≤◌, ◌<◌, ◌+◌, ◌*◌, ◌++◌, ℕ, List, [], ◌∷◌, Bool, true, false, Option, Some, None, All, length, drop, map, refl, sym, ap, ◌∙◌, subst, arith, append_assoc}
+use Rattle.std.specs.Prelude.{◌&&◌, nat_le, if◌then◌else◌}
 use Rattle.std.specs.List.{flat_map}
 use Rattle.std.proofs.Math.Seq.{drop-append_seam}
 use Rattle.std.proofs.lemmas.List.Elements.{All-cons, All-head, All-nil, All-tail}
@@ -13,7 +13,7 @@ use Rattle.jt_stream.specs.Unplaced.{Unplaced, items, of_content}
 use Rattle.jt_subpacket.specs.Partials.{Partial}
 use Rattle.jt_codec.specs.declared.message.Message.{Message}
 use Rattle.jt_outside.specs.Time.{Time, TellsAll}
-use Rattle.jt_terminal_rule.specs.Rule.{Heard, Ruled, Whole, fill, fill_window, gives_up, has_passed, is_silent, is_waiting, on_message, on_tick, or_stays, repeat_sending, rule, say_heartbeat, send_next, stays, and_then, watch_and_fill, window}
+use Rattle.jt_terminal_rule.specs.Rule.{Heard, Ruled, Whole, fill, fill_window, gives_up, has_passed, is_silent, is_waiting, on_message, on_tick, or_stays, repeat_sending, rule, say_heartbeat, send_next, stays, and_then, watch_and_fill}
 use Rattle.jt_terminal_rule.specs.declared.state.Event.TheVariants.{Opened}
 use Rattle.jt_terminal_rule.specs.declared.state.GiveUp.{GiveUp}
 use Rattle.jt_terminal_rule.specs.declared.state.GiveUp.TheVariants.{TimedOut}
@@ -22,7 +22,7 @@ use Rattle.jt_terminal_rule.specs.declared.state.Phase.TheVariants.{Down, Regist
 use Rattle.jt_terminal_rule.specs.declared.state.State.{State}
 use Rattle.jt_terminal_rule.specs.declared.state.Timing.{Timing}
 use Rattle.jt_terminal.specs.Line.{kept_by, new_items, of_body, of_frame, of_item, partial_of, rule_at, rule_at_items, rule_at_octets, then_unless, then_unless_over}
-use Rattle.jt_agent.specs.Course.{ARead, GaveUp, Move, Opens, Reads, Stop, Ticks, Waits, course, due, goes_on, is_done, moments_of, stop_of, waits_of}
+use Rattle.jt_agent.specs.Course.{ARead, GaveUp, Move, Opens, Reads, Stop, Ticks, Waits, course, due, is_done, moments_of, stop_of, waits_of}
 use Rattle.jt_report_command.specs.Answered.{AnswersAll, HearsFront}
 use Rattle.jt_report_command.specs.Scripted.{AcceptsAll, HoldsAcceptances, IsHeardAs, IsInTime, IsSoon, is_due}
 use Rattle.jt_report_command.proofs.Accepting.{IsFull, accepts_alike, goes, opened_alike, opened_full, opened_on, still_full}

@@ -14,4 +14,5 @@ pub mod Came
 pub mod Running
 pub mod Answered
 pub mod Scripted
+pub mod Example
 pub mod Steps

@@ -36,13 +36,16 @@ pub record IsHeardAs (content : List ℕ) (h : Header) (m : Message) : Type 0 wh
 abbrev pub AcceptsOldest : ℕ → List OneUnit → Message → Type 0
 AcceptsOldest sent [] m = ⊥
 AcceptsOldest sent (unit ∷ more) m =
-    (0 < sent) × (result : ℕ) × (m ≡ message.PlatformAck unit.serial unit.id result) × (is_acceptance (record { reply = unit.serial; id = unit.id; result = result }) ≡ true)
+    (0 < sent) × (result : ℕ) × (m ≡ message.PlatformAck unit.serial unit.id result)
+    × (is_acceptance (record { reply = unit.serial; id = unit.id; result = result }) ≡ true)
 
 -- The message accepts what a terminal in this phase waits for: its registration, which it answers with a code; its authentication; or the
 -- oldest of its units, of which so many were sent.
 abbrev pub Accepts : Phase → ℕ → List OneUnit → Message → Type 0
 Accepts Down sent units m = ⊥
-Accepts (Registering serial) sent units m = (reply : RegisterReply) × (m ≡ message.RegisterReply reply) × (reply.reply ≡ serial) × (is_registered reply ≡ true)
+Accepts (Registering serial) sent units m =
+    (reply : RegisterReply) × (m ≡ message.RegisterReply reply) × (reply.reply ≡ serial)
+    × (is_registered reply ≡ true)
 Accepts (Authenticating serial) sent units m = m ≡ message.PlatformAck serial AUTH SUCCESS
 Accepts (Live serial) sent units m = AcceptsOldest sent units m
 
@@ -51,7 +54,8 @@ Accepts (Live serial) sent units m = AcceptsOldest sent units m
 abbrev pub AcceptsAll : State → List (List ℕ) → Type 0
 AcceptsAll s [] = is_done s ≡ true
 AcceptsAll s (content ∷ contents) =
-    (h : Header) × (m : Message) × IsHeardAs content h m × Accepts s.phase s.sent s.units m × AcceptsAll (rule s (Received h m)).state contents
+    (h : Header) × (m : Message) × IsHeardAs content h m × Accepts s.phase s.sent s.units m
+    × AcceptsAll (rule s (Received h m)).state contents
 
 -- a terminal that is Live is so silent that it sends a heartbeat
 abbrev pub is_due : Phase → State → Bool
@@ -62,12 +66,15 @@ is_due (Live serial) s = is_silent s
 
 -- Whatever the terminal heard of the octets before, in whatever pieces: no wait has passed at the clock's next moment, and no heartbeat is due.
 abbrev pub IsInTime : State → List ℕ → Time → Type 0
-IsInTime t octets time = (moves : List Move) (now : ℕ) → HearsFront t octets time (Ticks now ∷ moves)
-    → let s = record (course t moves).state { time = now } in (has_passed s ≡ false) × (is_due s.phase s ≡ false)
+IsInTime t octets time =
+    (moves : List Move) (now : ℕ) → HearsFront t octets time (Ticks now ∷ moves)
+    → let s = record (course t moves).state { time = now } in
+    (has_passed s ≡ false) × (is_due s.phase s ≡ false)
 
 -- No answer of the clock comes a first wait behind its first one, and a heartbeat is not due before.
 pub record IsSoon (timing : Timing) (time : Time) : Type 0 where
-  pub wait : (now : Time) (moments : List ℕ) → TellsAll time now moments → All (λ (moment : ℕ). moment < first_moment moments + 1000 * timing.answer) moments
+  pub wait : (now : Time) (moments : List ℕ) → TellsAll time now moments
+      → All (λ (moment : ℕ). moment < first_moment moments + 1000 * timing.answer) moments
   pub heartbeat : (timing.heartbeat ≡ 0) ⊎ (timing.answer ≤ timing.heartbeat)
 
 -- The octets are frames, in order the acceptances of all that the terminal sends on a line that is opened now.

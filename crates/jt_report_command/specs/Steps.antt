@@ -1,5 +1,5 @@
 -- What the parts of a run do. Step functions for the proofs, but for `VaultKeeps`, which is to be believed.
-use Rattle.std.specs.Prelude.{◌≡◌, ◌≤◌, ◌⊎◌, ℕ, Bool, false, List, Option}
+use Rattle.std.specs.Prelude.{◌≡◌, ◌≤◌, ℕ, Bool, false, List, Option}
 use Rattle.jt_value.specs.Counts.{RoseBy}
 use Rattle.jt_agent.specs.Tries.{Between, Reports, dials_in, ends_in}
 use Rattle.jt_agent.specs.declared.reporting.Outcome.{Outcome}

@@ -15,6 +15,7 @@ ghost use Rattle.jt_agent.specs.Tries.{Between, Reports};
 ghost use Rattle.jt_agent.specs.declared.reporting.Outcome.{Outcome};
 ghost use Rattle.jt_agent.specs.declared.reporting.Outcome.TheVariants.{Done, Memory};
 ghost use Rattle.jt_report_command.specs.Answered.{AnswersAll, HasAll, HasAnswers, WereFine};
+ghost use Rattle.jt_report_command.specs.Example.{a_script, a_terminal, still_clock};
 ghost use Rattle.jt_report_command.specs.Noting.{noted_all};
 ghost use Rattle.jt_report_command.specs.Running.{RunsReport, Scene};
 ghost use Rattle.jt_report_command.specs.Scripted.{HoldsAcceptances, IsInTime, IsSoon};
@@ -54,7 +55,7 @@ pub fn law_of_answered_runs()
 /// sends, in time: where none of its waits passes and no heartbeat is due, as where the clock's answers all come within the first
 /// wait and heartbeats are off or no sooner. So the two laws above speak of a dial whose first link has such a script. A terminal
 /// that started, and recorded fixes, has no line.
-pub fn law_of_acceptances()
+pub fn law_of_accepting_scripts()
     ensures in_time { (terminal : State) (octets : List ℕ) (time : Time) → terminal.phase ≡ Down →
         HoldsAcceptances terminal octets → IsInTime terminal octets time →
         AnswersAll terminal octets time }
@@ -67,4 +68,13 @@ pub fn law_of_acceptances()
 {
     jt_stream::law_front();
     jt_stream::law_frames();
+}
+
+/// One such script: a terminal with the settings of `report` that started over an empty vault and recorded one fix, and the acceptances
+/// of its registration, its authentication and its unit, in three frames. It answers all where the clock stands still.
+pub fn law_of_one_script()
+    ensures holds { HoldsAcceptances a_terminal a_script }
+    ensures answers { AnswersAll a_terminal a_script still_clock }
+{
+    law_of_accepting_scripts();
 }

@@ -1,6 +1,6 @@
 //! The world of a rehearsal.
 
-ghost use Rattle.std.specs.Prelude.{◌≡◌, ◌≢◌, ◌↔◌, drop, length, false, true, ℕ, Err, IfOk, OnOk};
+ghost use Rattle.std.specs.Prelude.{◌≡◌, ◌≢◌, ◌↔◌, ◌⊎◌, drop, length, false, true, ℕ, Err, IfOk, OnOk};
 ghost use Rattle.jt_store.specs.Units.{fixes_in};
 ghost use Rattle.jt_value.specs.declared.limits.TheConstants.{FIX_LIMIT};
 ghost use Rattle.jt_value.specs.declared.phone.Edition.TheVariants.{E2013};
@@ -72,10 +72,10 @@ impl World {
     /// lines of a script alone led to the one before; of each line but `run` and the terminal's restart
     /// that holds whatever happened before.
     ///
-    /// NoLine comes exactly where the line that is named was not opened, and Full where as many
-    /// fixes as the limit are not accepted and one is to be recorded; the world is then as before.
-    /// Memory comes where memory ran out, or where as many lines were opened as have a number; the
-    /// line was then done in part.
+    /// NoLine comes exactly where the line that is named was not opened. Where as many fixes as the
+    /// limit are not accepted and one is to be recorded, the answer is Full, which comes only there, or
+    /// Memory. The world is as before at both refusals. Memory comes where memory ran out, or where as
+    /// many lines were opened as have a number; the line was then done in part.
     pub fn step(&mut self, alloc: Global, event: WorldEvent) -> Result<Seq<Entry>, WorldError>
         ensures leads { Leads self.old.play.world self.new.play.world }
         ensures identity { self.new.identity ≡ self.old.identity }
@@ -98,6 +98,8 @@ impl World {
             ↔ (Names event line × (is_opened self.old.play.world line ≡ false)) }
         ensures full { (limit : ℕ) → result ≡ Err (refused.Full limit) →
             (limit ≡ FIX_LIMIT) × (finds_full FIX_LIMIT self.old.play event ≡ true) }
+        ensures at_full { finds_full FIX_LIMIT self.old.play event ≡ true →
+            (result ≡ Err (refused.Full FIX_LIMIT)) ⊎ (result ≡ Err refused.Memory) }
         ensures room { OnOk result (finds_full FIX_LIMIT self.old.play event ≡ false) }
         ensures same { (error : WorldError) → result ≡ Err error → error ≢ refused.Memory →
             self.new ≡ self.old }

@@ -1,5 +1,5 @@
 use Rattle.std.proofs.Common.{map, string_bytes, ap}
-use Rattle.jt_cli.proofs.Asking.{nothing_along}
+use Rattle.jt_cli.proofs.Asking.{links_asked, nothing_along}
 use Rattle.jt_cli.proofs.Runs.{did, refused, gave_up}
 use Rattle.jt_cli.proofs.top.run.Goals as goal
 
@@ -23,3 +23,6 @@ returns-in-Unread-clause-ran g c = gave_up _ _ _ _ _ _ (ap (map string_bytes) c.
 
 pub returns-in-Nothing-clause-usage : goal.returns-in-Nothing-clause-usage
 returns-in-Nothing-clause-usage g c = λ usage. nothing_along _ _ (ap (map string_bytes) c.as_slice.ensures.value) c.in-Nothing.ensures
+
+pub returns-in-Platform-clause-write_still : goal.returns-in-Platform-clause-write_still
+returns-in-Platform-clause-write_still g c = λ other. links_asked _ _ _ _ (ap (map string_bytes) c.as_slice.ensures.value) c.in-Platform.ensures (c.run_platform.ensures.write_still other)

@@ -28,19 +28,19 @@ returns-then-send-clause-leads c =
     (meets_leads s.terminal s.hears s.hub s.book.book s.issued s.lines.items (past_of s.past.items) (told_places s.told.items) s.clock c.self.invariant c.args.event c.requires.silent c.requires.no_message c.event.new.self c.event.ensures.settings c.event.ensures.log.0 c.event.ensures.log.1
     c.law_rule.ensures.steps c.requires.other))
 
-pub returns-in-Ok-event-clause-leads : goal.returns-in-Ok-event-clause-leads
-returns-in-Ok-event-clause-leads c =
+pub returns-else-send-clause-leads : goal.returns-else-send-clause-leads
+returns-else-send-clause-leads c =
     let s = c.self.inside in
-    let ok = c.event-in-Ok.ensures.lost refl in
-    subst (λ (ls : List LineOfOrders). Leads c.args.self.now.world (order_play_of c.event-in-Ok.new.self s.hub s.book.book ls (past_of s.past.items) (told_places s.told.items) s.clock).world) (sym (c.send.ensures.unsent c.if-send.false))
-    (subst (λ (p : OrderPlay). Leads p.world (order_play_of c.event-in-Ok.new.self s.hub s.book.book s.lines.items (past_of s.past.items) (told_places s.told.items) s.clock).world) c.self.view_is
-    (cut_acted s.terminal s.hears s.hub s.book.book s.issued s.lines.items (past_of s.past.items) (told_places s.told.items) s.clock c.self.invariant c.args.event c.requires.silent c.requires.no_message c.event-in-Ok.new.self (c.event-in-Ok.ensures.settings ∙ c.event.ensures.settings)
-    (c.event-in-Ok.ensures.log.0 ∙ c.event.ensures.log.0) (c.event-in-Ok.ensures.log.1 ∙ c.event.ensures.log.1) c.law_rule.ensures.cut
-    (rule s.terminal.terminal.state c.args.event).steps [] (sym (append-nil (rule s.terminal.terminal.state c.args.event).steps)) (ok_of c.event-in-Ok.result ok c.event-in-Ok.ensures.vault ∙ c.in-Ok.ensures.vault)
-    (down_is c.event.new.self.terminal.state c.event-in-Ok.new.self.terminal.state (ok_of c.event-in-Ok.result ok c.event-in-Ok.ensures.state))))
+    let ok = c.event-lost.ensures.lost refl in
+    subst (λ (ls : List LineOfOrders). Leads c.args.self.now.world (order_play_of c.event-lost.new.self s.hub s.book.book ls (past_of s.past.items) (told_places s.told.items) s.clock).world) (sym (c.send.ensures.unsent c.if-send.false))
+    (subst (λ (p : OrderPlay). Leads p.world (order_play_of c.event-lost.new.self s.hub s.book.book s.lines.items (past_of s.past.items) (told_places s.told.items) s.clock).world) c.self.view_is
+    (cut_acted s.terminal s.hears s.hub s.book.book s.issued s.lines.items (past_of s.past.items) (told_places s.told.items) s.clock c.self.invariant c.args.event c.requires.silent c.requires.no_message c.event-lost.new.self (c.event-lost.ensures.settings ∙ c.event.ensures.settings)
+    (c.event-lost.ensures.log.0 ∙ c.event.ensures.log.0) (c.event-lost.ensures.log.1 ∙ c.event.ensures.log.1) c.law_rule.ensures.cut
+    (rule s.terminal.terminal.state c.args.event).steps [] (sym (append-nil (rule s.terminal.terminal.state c.args.event).steps)) (ok_of c.event-lost.result ok c.event-lost.ensures.vault ∙ c.in-Ok.ensures.vault)
+    (down_is c.event.new.self.terminal.state c.event-lost.new.self.terminal.state (ok_of c.event-lost.result ok c.event-lost.ensures.state))))
 
-pub returns-clause-leads : goal.returns-clause-leads
-returns-clause-leads c =
+pub returns-in-Err-clause-leads : goal.returns-in-Err-clause-leads
+returns-in-Err-clause-leads c =
     let s = c.self.inside in
     let short = c.in-Err.ensures.cut in
     subst (λ (p : OrderPlay). Leads p.world (order_play_of c.event.new.self s.hub s.book.book s.lines.items (past_of s.past.items) (told_places s.told.items) s.clock).world) c.self.view_is
@@ -56,11 +56,11 @@ invariant_of-self c =
     (record { late = subst (λ (n : ℕ). n ≤ s.clock) (sym c.event.ensures.time) (moment_after s.terminal.terminal.state s.clock c.args.event (subst (λ (p : OrderPlay). IsMoment p.clock c.args.event) (sym c.self.view_is) c.requires.moment) c.self.invariant.clock_is.late); small = c.self.invariant.clock_is.small })
     (flat_map (λ frame. frame) c.as_slice.result.now))
 
-pub invariant_of-self-in-Ok-event : goal.invariant_of-self-in-Ok-event
-invariant_of-self-in-Ok-event c =
+pub invariant_of-self-in-Ok : goal.invariant_of-self-in-Ok
+invariant_of-self-in-Ok c =
     let s = c.self.inside in
-    subst (λ (ls : List LineOfOrders). IsStage c.event-in-Ok.new.self s.hears s.hub s.book.book s.issued ls s.clock) (sym (c.send.ensures.unsent c.if-send.false))
-    (still_stage s.terminal s.hears s.hub s.book.book s.issued s.lines.items (past_of s.past.items) (told_places s.told.items) s.clock c.self.invariant c.args.event c.requires.silent c.requires.no_message c.event-in-Ok.new.self (c.event-in-Ok.ensures.settings ∙ c.event.ensures.settings)
-    (c.event-in-Ok.ensures.log.0 ∙ c.event.ensures.log.0) (c.event-in-Ok.ensures.log.1 ∙ c.event.ensures.log.1)
-    c.event-in-Ok.ensures.sound (c.event-in-Ok.ensures.limit ∙ c.event.ensures.limit) (c.event-in-Ok.ensures.same (apart_of Lost tt) ∙ c.event.ensures.same (apart_of c.args.event c.requires.other))
-    (record { late = subst (λ (n : ℕ). n ≤ s.clock) (sym (c.event-in-Ok.ensures.time ∙ c.event.ensures.time)) (moment_after s.terminal.terminal.state s.clock c.args.event (subst (λ (p : OrderPlay). IsMoment p.clock c.args.event) (sym c.self.view_is) c.requires.moment) c.self.invariant.clock_is.late); small = c.self.invariant.clock_is.small }))
+    subst (λ (ls : List LineOfOrders). IsStage c.event-lost.new.self s.hears s.hub s.book.book s.issued ls s.clock) (sym (c.send.ensures.unsent c.if-send.false))
+    (still_stage s.terminal s.hears s.hub s.book.book s.issued s.lines.items (past_of s.past.items) (told_places s.told.items) s.clock c.self.invariant c.args.event c.requires.silent c.requires.no_message c.event-lost.new.self (c.event-lost.ensures.settings ∙ c.event.ensures.settings)
+    (c.event-lost.ensures.log.0 ∙ c.event.ensures.log.0) (c.event-lost.ensures.log.1 ∙ c.event.ensures.log.1)
+    c.event-lost.ensures.sound (c.event-lost.ensures.limit ∙ c.event.ensures.limit) (c.event-lost.ensures.same (apart_of Lost tt) ∙ c.event.ensures.same (apart_of c.args.event c.requires.other))
+    (record { late = subst (λ (n : ℕ). n ≤ s.clock) (sym (c.event-lost.ensures.time ∙ c.event.ensures.time)) (moment_after s.terminal.terminal.state s.clock c.args.event (subst (λ (p : OrderPlay). IsMoment p.clock c.args.event) (sym c.self.view_is) c.requires.moment) c.self.invariant.clock_is.late); small = c.self.invariant.clock_is.small }))

@@ -65,8 +65,8 @@ returns-then-send-clause-leads c =
     c.event.new.self c.event.ensures.settings c.event.ensures.log.0 c.event.ensures.log.1 c.law_rule.ensures.steps))
 
 -- opened, but not told whole
-pub returns-clause-leads : goal.returns-clause-leads
-returns-clause-leads c =
+pub returns-in-Err-clause-leads : goal.returns-in-Err-clause-leads
+returns-in-Err-clause-leads c =
     let s = c.self.inside in
     let past = past_of s.past.items in
     let told = told_places s.told.items in
@@ -95,8 +95,8 @@ invariant_of-self-in-Err c =
     (record { late = subst (λ (n : ℕ). n ≤ s.clock) (sym c.event.ensures.time) c.self.invariant.clock_is.late; small = c.self.invariant.clock_is.small }) added.1))
 
 -- opened, and no room for what is to be sent
-pub invariant_of-self-in-Ok-event : goal.invariant_of-self-in-Ok-event
-invariant_of-self-in-Ok-event c =
+pub invariant_of-self-in-Ok : goal.invariant_of-self-in-Ok
+invariant_of-self-in-Ok c =
     let s = c.self.inside in
     let added = c.add_line.ensures.added c.if-not-add_line.false in
     let room = c.add_line.ensures.room in
@@ -104,29 +104,29 @@ invariant_of-self-in-Ok-event c =
     let more = s.lines.items ++ first_order_line number ∷ [] in
     let lines_are : c.send.new.lines.items ≡ more = c.send.ensures.unsent c.if-send.false ∙ added.0 in
     let first = c.event.ensures.opened refl in
-    let same : c.event-in-Ok.new.self.stream ≡ c.event.new.self.stream = c.event-in-Ok.ensures.same (apart_of Lost tt) in
-    subst (λ (ls : List LineOfOrders). IsStage c.event-in-Ok.new.self true c.add_line.new.hub s.book.book s.issued ls s.clock) (sym lines_are)
-    (subst (λ (h : HubValue KeeperState). IsStage c.event-in-Ok.new.self true h s.book.book s.issued more s.clock) (sym room.is)
+    let same : c.event-lost.new.self.stream ≡ c.event.new.self.stream = c.event-lost.ensures.same (apart_of Lost tt) in
+    subst (λ (ls : List LineOfOrders). IsStage c.event-lost.new.self true c.add_line.new.hub s.book.book s.issued ls s.clock) (sym lines_are)
+    (subst (λ (h : HubValue KeeperState). IsStage c.event-lost.new.self true h s.book.book s.issued more s.clock) (sym room.is)
     (opened_stage s.terminal s.hears s.hub s.book.book s.issued s.lines.items (past_of s.past.items) (told_places s.told.items) s.clock number c.add_line.new.hub.reserved c.self.invariant refl room.grew
-    c.event-in-Ok.new.self (c.event-in-Ok.ensures.settings ∙ c.event.ensures.settings) (c.event-in-Ok.ensures.log.0 ∙ c.event.ensures.log.0) (c.event-in-Ok.ensures.log.1 ∙ c.event.ensures.log.1)
-    c.event-in-Ok.ensures.sound (c.event-in-Ok.ensures.limit ∙ c.event.ensures.limit)
+    c.event-lost.new.self (c.event-lost.ensures.settings ∙ c.event.ensures.settings) (c.event-lost.ensures.log.0 ∙ c.event.ensures.log.0) (c.event-lost.ensures.log.1 ∙ c.event.ensures.log.1)
+    c.event-lost.ensures.sound (c.event-lost.ensures.limit ∙ c.event.ensures.limit)
     (subst (λ (z : Splitting). StandsForLine z []) (sym same) first.0) (ap (λ (z : Splitting). z.place) same ∙ first.1)
-    (record { late = subst (λ (n : ℕ). n ≤ s.clock) (sym (c.event-in-Ok.ensures.time ∙ c.event.ensures.time)) c.self.invariant.clock_is.late; small = c.self.invariant.clock_is.small }) added.1))
+    (record { late = subst (λ (n : ℕ). n ≤ s.clock) (sym (c.event-lost.ensures.time ∙ c.event.ensures.time)) c.self.invariant.clock_is.late; small = c.self.invariant.clock_is.small }) added.1))
 
-pub returns-in-Ok-event-clause-leads : goal.returns-in-Ok-event-clause-leads
-returns-in-Ok-event-clause-leads c =
+pub returns-else-send-clause-leads : goal.returns-else-send-clause-leads
+returns-else-send-clause-leads c =
     let s = c.self.inside in
     let past = past_of s.past.items in
     let told = told_places s.told.items in
     let added = c.add_line.ensures.added c.if-not-add_line.false in
     let room = c.add_line.ensures.room in
     let lines_are = c.send.ensures.unsent c.if-send.false ∙ added.0 in
-    let ok = c.event-in-Ok.ensures.lost refl in
+    let ok = c.event-lost.ensures.lost refl in
     let w = (order_play_of s.terminal s.hub s.book.book s.lines.items past told s.clock).world in
-    subst (λ (p : OrderPlay). Leads p.world (order_play_of c.event-in-Ok.new.self c.add_line.new.hub s.book.book c.send.new.lines.items past told s.clock).world) c.self.view_is
-    (subst (λ (ls : List LineOfOrders). Leads w (order_play_of c.event-in-Ok.new.self c.add_line.new.hub s.book.book ls past told s.clock).world) (sym lines_are)
-    (subst (λ (h : HubValue KeeperState). Leads w (order_play_of c.event-in-Ok.new.self h s.book.book (s.lines.items ++ first_order_line (length s.lines.items + 1) ∷ []) past told s.clock).world) (sym room.is)
+    subst (λ (p : OrderPlay). Leads p.world (order_play_of c.event-lost.new.self c.add_line.new.hub s.book.book c.send.new.lines.items past told s.clock).world) c.self.view_is
+    (subst (λ (ls : List LineOfOrders). Leads w (order_play_of c.event-lost.new.self c.add_line.new.hub s.book.book ls past told s.clock).world) (sym lines_are)
+    (subst (λ (h : HubValue KeeperState). Leads w (order_play_of c.event-lost.new.self h s.book.book (s.lines.items ++ first_order_line (length s.lines.items + 1) ∷ []) past told s.clock).world) (sym room.is)
     (cut_opened s.terminal s.hears s.hub s.book.book s.issued s.lines.items past told s.clock (length s.lines.items + 1) c.add_line.new.hub.reserved c.self.invariant refl room.grew
-    c.event-in-Ok.new.self (c.event-in-Ok.ensures.settings ∙ c.event.ensures.settings) (c.event-in-Ok.ensures.log.0 ∙ c.event.ensures.log.0) (c.event-in-Ok.ensures.log.1 ∙ c.event.ensures.log.1)
-    (ok_of c.event-in-Ok.result ok c.event-in-Ok.ensures.vault ∙ (c.in-Ok.ensures.vault ∙ open_quiet s.terminal.terminal.state (Some s.terminal.terminal.vault.held)))
-    (down_is c.event.new.self.terminal.state c.event-in-Ok.new.self.terminal.state (ok_of c.event-in-Ok.result ok c.event-in-Ok.ensures.state)))))
+    c.event-lost.new.self (c.event-lost.ensures.settings ∙ c.event.ensures.settings) (c.event-lost.ensures.log.0 ∙ c.event.ensures.log.0) (c.event-lost.ensures.log.1 ∙ c.event.ensures.log.1)
+    (ok_of c.event-lost.result ok c.event-lost.ensures.vault ∙ (c.in-Ok.ensures.vault ∙ open_quiet s.terminal.terminal.state (Some s.terminal.terminal.vault.held)))
+    (down_is c.event.new.self.terminal.state c.event-lost.new.self.terminal.state (ok_of c.event-lost.result ok c.event-lost.ensures.state)))))

@@ -127,21 +127,21 @@ returns-then-send-clause-leads c =
     (c.accepted-accepted.ensures ∙ ap (λ (v : Stock). v.held.accepted) c.vault.ensures) c.in_ok-push.ensures.items c.note_told.ensures (c.as_slice.ensures ∙ (says.1 ∙ ap (λ (d : Done). d.told) does))))
 
 -- read, and no room for what is to be sent
-pub invariant_of-self-in-Ok-event : goal.invariant_of-self-in-Ok-event
-invariant_of-self-in-Ok-event c =
+pub invariant_of-self-in-Ok : goal.invariant_of-self-in-Ok
+invariant_of-self-in-Ok c =
     let s = c.self.inside in
     let laws = c.law_reading.ensures in
     let heard = c.self.invariant.hearing c.if-not-self.false in
     let past = past_of s.past.items in
     let seen = taken_on (lines_in (plain_lines s.lines.items)) in
     let facts = order_next s.terminal s.hears s.hub s.book.book s.issued s.lines.items past (told_places s.told.items) s.clock c.args.place c.next-octet.result c.index.result.now c.index_mut.result.now c.pass.new.self c.args.self.now c.self.invariant c.self.view_is c.requires.last c.requires.in_use c.requires.left c.index.ensures c.next-octet.ensures c.index_mut.ensures.value c.pass.ensures in
-    subst (λ (ls : List LineOfOrders). IsStage c.event.new.self c.is_none-self-inside.result s.hub s.book.book s.issued ls s.clock) (sym (c.send.ensures.unsent c.if-send.false))
-    (read_stage s.terminal s.hears s.hub s.book.book s.issued s.lines.items past s.told.items s.clock c.args.place c.next-octet.result c.pass.new.self c.self.invariant facts laws c.event.new.self (c.event.ensures.settings ∙ c.feed.ensures.same.settings) c.event.ensures.sound (c.event.ensures.limit ∙ c.feed.ensures.limit) (c.event.ensures.time ∙ c.feed.ensures.same.time) c.event.ensures.ledger c.is_none-self-inside.result
-    (subst (λ z. Hears c.is_none-self-inside.result z (seen ++ c.next-octet.result ∷ [])) (sym (c.event.ensures.same (apart_of Lost tt)))
+    subst (λ (ls : List LineOfOrders). IsStage c.event-lost.new.self c.is_none-self-inside.result s.hub s.book.book s.issued ls s.clock) (sym (c.send.ensures.unsent c.if-send.false))
+    (read_stage s.terminal s.hears s.hub s.book.book s.issued s.lines.items past s.told.items s.clock c.args.place c.next-octet.result c.pass.new.self c.self.invariant facts laws c.event-lost.new.self (c.event-lost.ensures.settings ∙ c.feed.ensures.same.settings) c.event-lost.ensures.sound (c.event-lost.ensures.limit ∙ c.feed.ensures.limit) (c.event-lost.ensures.time ∙ c.feed.ensures.same.time) c.event-lost.ensures.ledger c.is_none-self-inside.result
+    (subst (λ z. Hears c.is_none-self-inside.result z (seen ++ c.next-octet.result ∷ [])) (sym (c.event-lost.ensures.same (apart_of Lost tt)))
     (hears_on c.is_none-self-inside.result s.terminal.stream c.feed.new.self.stream seen c.next-octet.result (λ on. c.in-Ok.ensures.stands seen heard.stands facts.in_use (none_is c.in-Ok.actions.end (c.is_none-self-inside.ensures ∙ ap not on))) heard c.feed.ensures.place)))
 
-pub returns-in-Ok-event-clause-leads : goal.returns-in-Ok-event-clause-leads
-returns-in-Ok-event-clause-leads c =
+pub returns-else-send-clause-leads : goal.returns-else-send-clause-leads
+returns-else-send-clause-leads c =
     let s = c.self.inside in
     let laws = c.law_reading.ensures in
     let heard = c.self.invariant.hearing c.if-not-self.false in
@@ -154,15 +154,15 @@ returns-in-Ok-event-clause-leads c =
     let does = does_next s.terminal s.hears s.hub s.book.book s.issued s.lines.items past s.told.items s.clock c.args.place c.next-octet.result c.pass.new.self c.self.invariant facts laws in
     let did = c.in-Ok.ensures.state seen heard.stands in
     let says = c.in-Ok.ensures.actions seen heard.stands in
-    let ok = c.event.ensures.lost refl in
-    let logged = ap (λ (g : LogStock). g.performed) c.event.ensures.log.0 ∙ same_Some _ _ (did.3 ∙ ap (λ (d : Done). log_with d.performed (Some s.terminal.log.performed)) does) in
-    subst (λ (p : OrderPlay). Leads p.world (order_play_of c.event.new.self s.hub s.book.book c.send.new.lines.items past (told_places c.note_told.new.told.items) s.clock).world) c.self.view_is
-    (subst (λ (ls : List LineOfOrders). Leads (order_play_of s.terminal s.hub s.book.book s.lines.items past (told_places s.told.items) s.clock).world (order_play_of c.event.new.self s.hub s.book.book ls past (told_places c.note_told.new.told.items) s.clock).world) (sym (c.send.ensures.unsent c.if-send.false))
-    (cut_unsent s.terminal s.hears s.hub s.book.book s.issued s.lines.items past s.told.items s.clock c.args.place c.next-octet.result c.pass.new.self c.self.invariant facts laws are reached sent c.event.new.self (c.event.ensures.settings ∙ c.feed.ensures.same.settings) c.event.ensures.ledger logged (told_places c.note_told.new.told.items)
-    (told_is s.terminal s.hears s.hub s.book.book s.issued s.lines.items past s.told.items s.clock c.args.place c.next-octet.result c.pass.new.self c.self.invariant facts laws are reached sent c.event.new.self (c.event.ensures.settings ∙ c.feed.ensures.same.settings) c.event.ensures.ledger logged c.len-count.result c.accepted-accepted.result c.push.new.self.items c.note_told.new.told.items c.as_slice.result.now (c.len-count.ensures ∙ Prim.search)
+    let ok = c.event-lost.ensures.lost refl in
+    let logged = ap (λ (g : LogStock). g.performed) c.event-lost.ensures.log.0 ∙ same_Some _ _ (did.3 ∙ ap (λ (d : Done). log_with d.performed (Some s.terminal.log.performed)) does) in
+    subst (λ (p : OrderPlay). Leads p.world (order_play_of c.event-lost.new.self s.hub s.book.book c.send.new.lines.items past (told_places c.note_told.new.told.items) s.clock).world) c.self.view_is
+    (subst (λ (ls : List LineOfOrders). Leads (order_play_of s.terminal s.hub s.book.book s.lines.items past (told_places s.told.items) s.clock).world (order_play_of c.event-lost.new.self s.hub s.book.book ls past (told_places c.note_told.new.told.items) s.clock).world) (sym (c.send.ensures.unsent c.if-send.false))
+    (cut_unsent s.terminal s.hears s.hub s.book.book s.issued s.lines.items past s.told.items s.clock c.args.place c.next-octet.result c.pass.new.self c.self.invariant facts laws are reached sent c.event-lost.new.self (c.event-lost.ensures.settings ∙ c.feed.ensures.same.settings) c.event-lost.ensures.ledger logged (told_places c.note_told.new.told.items)
+    (told_is s.terminal s.hears s.hub s.book.book s.issued s.lines.items past s.told.items s.clock c.args.place c.next-octet.result c.pass.new.self c.self.invariant facts laws are reached sent c.event-lost.new.self (c.event-lost.ensures.settings ∙ c.feed.ensures.same.settings) c.event-lost.ensures.ledger logged c.len-count.result c.accepted-accepted.result c.push.new.self.items c.note_told.new.told.items c.as_slice.result.now (c.len-count.ensures ∙ Prim.search)
     (c.accepted-accepted.ensures ∙ ap (λ (v : Stock). v.held.accepted) c.vault.ensures) c.in_ok-push.ensures.items c.note_told.ensures (c.as_slice.ensures ∙ (says.1 ∙ ap (λ (d : Done). d.told) does)))
-    (ok_of c.event.result ok c.event.ensures.vault ∙ (did.2 ∙ ap (λ (d : Done). holds_after d.steps (Some s.terminal.terminal.vault.held)) does))
-    (down_is c.feed.new.self.terminal.state c.event.new.self.terminal.state (ok_of c.event.result ok c.event.ensures.state))))
+    (ok_of c.event-lost.result ok c.event-lost.ensures.vault ∙ (did.2 ∙ ap (λ (d : Done). holds_after d.steps (Some s.terminal.terminal.vault.held)) does))
+    (down_is c.feed.new.self.terminal.state c.event-lost.new.self.terminal.state (ok_of c.event-lost.result ok c.event-lost.ensures.state))))
 
 -- cut short, and read with its acceptance
 pub invariant_of-self-then-accepted : goal.invariant_of-self-then-accepted
@@ -232,8 +232,8 @@ invariant_of-self-else-performed c =
     let facts = order_next s.terminal s.hears s.hub s.book.book s.issued s.lines.items past (told_places s.told.items) s.clock c.args.place c.next-octet.result c.index.result.now c.index.result.now (record c.index.result.now { plain = record c.index.result.now.plain { line = record c.index.result.now.plain.line { down = with_one_taken c.index.result.now.plain.line.down } } }) c.args.self.now c.self.invariant c.self.view_is c.requires.last c.requires.in_use c.requires.left c.index.ensures c.next-octet.ensures c.index.ensures refl in
     unread_stage s.terminal s.hears s.hub s.book.book s.issued s.lines.items past s.told.items s.clock c.args.place c.next-octet.result (record c.index.result.now { plain = record c.index.result.now.plain { line = record c.index.result.now.plain.line { down = with_one_taken c.index.result.now.plain.line.down } } }) c.self.invariant facts laws c.feed.new.self c.feed.ensures.same.settings (c.feed.ensures.stays_sound c.self.invariant.running.sound) c.feed.ensures.limit c.feed.ensures.same.time c.feed.ensures.ledger
 
-pub returns-clause-leads : goal.returns-clause-leads
-returns-clause-leads c =
+pub returns-else-performed-clause-leads : goal.returns-else-performed-clause-leads
+returns-else-performed-clause-leads c =
     let s = c.self.inside in
     let laws = c.law_reading.ensures in
     let heard = c.self.invariant.hearing c.if-not-self.false in

@@ -1,11 +1,12 @@
-use Rattle.std.proofs.Common.{◌≡◌, ◌↔◌, true, false, ap, ◌∙◌, subst}
-use Rattle.std.specs.Prelude.{Err, OnOk}
+use Rattle.std.proofs.Common.{◌≡◌, ◌↔◌, true, false, ap, sym, ◌∙◌, subst}
+use Rattle.std.specs.Prelude.{Err, IfOk, OnOk}
 use Rattle.jt_order.specs.declared.book.TheConstants.{ORDER_LIMIT}
+use Rattle.jt_play.proofs.Scenes.{at_full_is}
 use Rattle.jt_play.proofs.Worlds.{on_ok}
 use Rattle.jt_order_play.specs.declared.error.OrderWorldError.TheVariants as refused
 use Rattle.jt_order_play.specs.Playing.{ComesTo, OrderPlay, finds_full, is_opened}
 use Rattle.jt_order_play.specs.Scripts.{Names, OrderScene}
-use Rattle.jt_order_play.proofs.Scenes.{no_line_is, own_history, same_refused, scene_on}
+use Rattle.jt_order_play.proofs.Scenes.{named_not_full, no_line_is, own_history, refusals, same_refused, scene_on}
 use Rattle.jt_order_play.proofs.world.OrderWorld.step.Goals as goal
 
 pub step-done-requires-clause-own : goal.step-done-requires-clause-own
@@ -26,6 +27,15 @@ returns-clause-no_line c line =
 pub returns-clause-full : goal.returns-clause-full
 returns-clause-full c limit is =
     subst (λ (v : OrderScene). (limit ≡ ORDER_LIMIT) × (finds_full v.play.world c.args.event ≡ true)) c.self.view_is (c.step-done.ensures.full limit ((c.answer.ensures.full limit).0 is))
+
+pub returns-clause-at_full : goal.returns-clause-at_full
+returns-clause-at_full c found =
+    let w = c.self.inside.stage.world in
+    at_full_is refused.NoLine refused.Full refused.Memory ORDER_LIMIT (finds_full w c.args.event) c.answer.result refusals
+    (on_ok c.answer.result (λ is. subst (λ r. IfOk r (λ done. finds_full w c.args.event ≡ false)) is c.step-done.ensures.room) c.answer.ensures.done)
+    (λ line is. named_not_full w c.args.event line (c.step-done.ensures.number line ((c.answer.ensures.no_line line).0 is)))
+    (λ limit is. (c.step-done.ensures.full limit ((c.answer.ensures.full limit).0 is)).0)
+    (subst (λ (v : OrderScene). finds_full v.play.world c.args.event ≡ true) (sym c.self.view_is) found)
 
 pub returns-clause-same : goal.returns-clause-same
 returns-clause-same c error is other =

@@ -42,24 +42,24 @@ returns-then-send-clause-leads c =
     (subst (λ (p : Play). Leads p.world (meets p c.args.event).world) c.self.view_is
     (meets_leads s.terminal s.hub s.lines.items (past_of s.past.items) (told_of s.told.items) s.clock c.self.invariant.0 c.args.event c.requires.silent c.event.new.self c.event.ensures.settings c.law_rule.ensures.steps c.requires.other))
 
-pub invariant_of-self-in-Ok-event : goal.invariant_of-self-in-Ok-event
-invariant_of-self-in-Ok-event c =
+pub invariant_of-self-in-Ok : goal.invariant_of-self-in-Ok
+invariant_of-self-in-Ok c =
     let s = c.self.inside in
-    subst (λ (ls : List Numbered). IsRunning c.event-in-Ok.new.self s.hub ls × Hears s.hears s.ears (taken_on (lines_in ls)) × IsClock c.event-in-Ok.new.self s.clock) (sym (c.send.ensures.unsent c.if-send.false))
-    (still_running s.terminal s.hub s.lines.items (past_of s.past.items) (told_of s.told.items) s.clock c.self.invariant.0 c.event-in-Ok.new.self c.event-in-Ok.ensures.sound (c.event-in-Ok.ensures.settings ∙ c.event.ensures.settings) (c.event-in-Ok.ensures.outside.limit ∙ c.event.ensures.outside.limit), c.self.invariant.1, record { late = subst (λ (n : ℕ). n ≤ s.clock) (sym (c.event-in-Ok.ensures.time ∙ c.event.ensures.time)) (moment_after s.terminal.state s.clock c.args.event (subst (λ (p : Play). IsMoment p.clock c.args.event) (sym c.self.view_is) c.requires.moment) c.self.invariant.2.late); small = c.self.invariant.2.small })
+    subst (λ (ls : List Numbered). IsRunning c.event-lost.new.self s.hub ls × Hears s.hears s.ears (taken_on (lines_in ls)) × IsClock c.event-lost.new.self s.clock) (sym (c.send.ensures.unsent c.if-send.false))
+    (still_running s.terminal s.hub s.lines.items (past_of s.past.items) (told_of s.told.items) s.clock c.self.invariant.0 c.event-lost.new.self c.event-lost.ensures.sound (c.event-lost.ensures.settings ∙ c.event.ensures.settings) (c.event-lost.ensures.outside.limit ∙ c.event.ensures.outside.limit), c.self.invariant.1, record { late = subst (λ (n : ℕ). n ≤ s.clock) (sym (c.event-lost.ensures.time ∙ c.event.ensures.time)) (moment_after s.terminal.state s.clock c.args.event (subst (λ (p : Play). IsMoment p.clock c.args.event) (sym c.self.view_is) c.requires.moment) c.self.invariant.2.late); small = c.self.invariant.2.small })
 
-pub returns-in-Ok-event-clause-leads : goal.returns-in-Ok-event-clause-leads
-returns-in-Ok-event-clause-leads c =
+pub returns-else-send-clause-leads : goal.returns-else-send-clause-leads
+returns-else-send-clause-leads c =
     let s = c.self.inside in
-    let ok = c.event-in-Ok.ensures.lost refl in
-    subst (λ (ls : List Numbered). Leads c.args.self.now.world (play_of c.event-in-Ok.new.self s.hub ls (past_of s.past.items) (told_of s.told.items) s.clock).world) (sym (c.send.ensures.unsent c.if-send.false))
-    (subst (λ (p : Play). Leads p.world (play_of c.event-in-Ok.new.self s.hub s.lines.items (past_of s.past.items) (told_of s.told.items) s.clock).world) c.self.view_is
-    (cut_acted s.terminal s.hub s.lines.items (past_of s.past.items) (told_of s.told.items) s.clock c.self.invariant.0 c.args.event c.requires.silent c.event-in-Ok.new.self (c.event-in-Ok.ensures.settings ∙ c.event.ensures.settings) c.law_rule.ensures.cut
-    (rule s.terminal.state c.args.event).steps [] (sym (append-nil (rule s.terminal.state c.args.event).steps)) (ok_of c.event-in-Ok.result ok c.event-in-Ok.ensures.vault ∙ c.in-Ok.ensures.vault)
-    (down_is c.event.new.self.state c.event-in-Ok.new.self.state (ok_of c.event-in-Ok.result ok c.event-in-Ok.ensures.state))))
+    let ok = c.event-lost.ensures.lost refl in
+    subst (λ (ls : List Numbered). Leads c.args.self.now.world (play_of c.event-lost.new.self s.hub ls (past_of s.past.items) (told_of s.told.items) s.clock).world) (sym (c.send.ensures.unsent c.if-send.false))
+    (subst (λ (p : Play). Leads p.world (play_of c.event-lost.new.self s.hub s.lines.items (past_of s.past.items) (told_of s.told.items) s.clock).world) c.self.view_is
+    (cut_acted s.terminal s.hub s.lines.items (past_of s.past.items) (told_of s.told.items) s.clock c.self.invariant.0 c.args.event c.requires.silent c.event-lost.new.self (c.event-lost.ensures.settings ∙ c.event.ensures.settings) c.law_rule.ensures.cut
+    (rule s.terminal.state c.args.event).steps [] (sym (append-nil (rule s.terminal.state c.args.event).steps)) (ok_of c.event-lost.result ok c.event-lost.ensures.vault ∙ c.in-Ok.ensures.vault)
+    (down_is c.event.new.self.state c.event-lost.new.self.state (ok_of c.event-lost.result ok c.event-lost.ensures.state))))
 
-pub returns-clause-leads : goal.returns-clause-leads
-returns-clause-leads c =
+pub returns-in-Err-clause-leads : goal.returns-in-Err-clause-leads
+returns-in-Err-clause-leads c =
     let s = c.self.inside in
     let short = c.in-Err.ensures.cut in
     subst (λ (p : Play). Leads p.world (play_of c.event.new.self s.hub s.lines.items (past_of s.past.items) (told_of s.told.items) s.clock).world) c.self.view_is
@@ -72,15 +72,15 @@ returns-then-send-clause-recorded c =
     let t = c.self.inside.terminal in
     event_kept t.state c.args.event t.vault.held c.event.new.self.vault.held c.in-Ok.ensures.vault ∙ ap recorded_in c.self.view_is
 
-pub returns-in-Ok-event-clause-recorded : goal.returns-in-Ok-event-clause-recorded
-returns-in-Ok-event-clause-recorded c =
+pub returns-else-send-clause-recorded : goal.returns-else-send-clause-recorded
+returns-else-send-clause-recorded c =
     let t = c.self.inside.terminal in
     let mid = c.event.new.self in
-    event_kept mid.state Lost mid.vault.held c.event-in-Ok.new.self.vault.held (ok_of c.event-in-Ok.result (c.event-in-Ok.ensures.lost refl) c.event-in-Ok.ensures.vault)
+    event_kept mid.state Lost mid.vault.held c.event-lost.new.self.vault.held (ok_of c.event-lost.result (c.event-lost.ensures.lost refl) c.event-lost.ensures.vault)
     ∙ (event_kept t.state c.args.event t.vault.held mid.vault.held c.in-Ok.ensures.vault ∙ ap recorded_in c.self.view_is)
 
-pub returns-clause-recorded : goal.returns-clause-recorded
-returns-clause-recorded c =
+pub returns-in-Err-clause-recorded : goal.returns-in-Err-clause-recorded
+returns-in-Err-clause-recorded c =
     let t = c.self.inside.terminal in
     event_cut t.state c.args.event t.vault.held c.event.new.self.vault.held c.in-Err.ensures.cut ∙ ap recorded_in c.self.view_is
 
@@ -88,8 +88,8 @@ returns-clause-recorded c =
 pub returns-then-send-clause-phone : goal.returns-then-send-clause-phone
 returns-then-send-clause-phone c = ap (λ (s : Settings). s.phone) c.event.ensures.settings ∙ ap phone_in c.self.view_is
 
-pub returns-in-Ok-event-clause-phone : goal.returns-in-Ok-event-clause-phone
-returns-in-Ok-event-clause-phone c = ap (λ (s : Settings). s.phone) (c.event-in-Ok.ensures.settings ∙ c.event.ensures.settings) ∙ ap phone_in c.self.view_is
+pub returns-else-send-clause-phone : goal.returns-else-send-clause-phone
+returns-else-send-clause-phone c = ap (λ (s : Settings). s.phone) (c.event-lost.ensures.settings ∙ c.event.ensures.settings) ∙ ap phone_in c.self.view_is
 
-pub returns-clause-phone : goal.returns-clause-phone
-returns-clause-phone c = ap (λ (s : Settings). s.phone) c.event.ensures.settings ∙ ap phone_in c.self.view_is
+pub returns-in-Err-clause-phone : goal.returns-in-Err-clause-phone
+returns-in-Err-clause-phone c = ap (λ (s : Settings). s.phone) c.event.ensures.settings ∙ ap phone_in c.self.view_is

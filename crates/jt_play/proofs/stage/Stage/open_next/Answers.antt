@@ -74,8 +74,8 @@ returns-then-send-clause-leads c =
     (opened_leads s.terminal s.hub s.lines.items (past_of s.past.items) (told_of s.told.items) s.clock (length s.lines.items + 1) c.add_line.new.hub.reserved c.self.invariant.0 refl room.grew c.event.new.self c.event.ensures.settings c.law_rule.ensures.steps))
 
 -- opened, but not told whole
-pub returns-clause-leads : goal.returns-clause-leads
-returns-clause-leads c =
+pub returns-in-Err-clause-leads : goal.returns-in-Err-clause-leads
+returns-in-Err-clause-leads c =
     let s = c.self.inside in
     let added = c.add_line.ensures.added c.if-not-add_line.false in
     let room = c.add_line.ensures.room in
@@ -103,8 +103,8 @@ invariant_of-self-in-Err c =
     )
 
 -- opened, and no room for what is to be sent
-pub invariant_of-self-in-Ok-event : goal.invariant_of-self-in-Ok-event
-invariant_of-self-in-Ok-event c =
+pub invariant_of-self-in-Ok : goal.invariant_of-self-in-Ok
+invariant_of-self-in-Ok c =
     let s = c.self.inside in
     let added = c.add_line.ensures.added c.if-not-add_line.false in
     let room = c.add_line.ensures.room in
@@ -115,25 +115,25 @@ invariant_of-self-in-Ok-event c =
     subst (λ (h : HubValue KeeperState). IsRunning s.terminal h more) (sym room.is) (more_running s.terminal s.hub s.lines.items (past_of s.past.items) (told_of s.told.items) s.clock number c.add_line.new.hub.reserved c.self.invariant.0 refl room.grew added.1) in
     let seen : taken_on (lines_in c.send.new.lines.items) ≡ [] = ap (λ (ls : List Numbered). taken_on (lines_in ls)) lines_are
     ∙ taken_more s.terminal s.hub s.lines.items (past_of s.past.items) (told_of s.told.items) s.clock number c.add_line.new.hub.reserved c.self.invariant.0 refl room.grew in (
-      subst (λ (ls : List Numbered). IsRunning c.event-in-Ok.new.self c.add_line.new.hub ls) (sym lines_are)
-          (still_running s.terminal c.add_line.new.hub more (past_of s.past.items) (told_of s.told.items) s.clock base c.event-in-Ok.new.self c.event-in-Ok.ensures.sound (c.event-in-Ok.ensures.settings ∙ c.event.ensures.settings) (c.event-in-Ok.ensures.outside.limit ∙ c.event.ensures.outside.limit)),
+      subst (λ (ls : List Numbered). IsRunning c.event-lost.new.self c.add_line.new.hub ls) (sym lines_are)
+          (still_running s.terminal c.add_line.new.hub more (past_of s.past.items) (told_of s.told.items) s.clock base c.event-lost.new.self c.event-lost.ensures.sound (c.event-lost.ensures.settings ∙ c.event.ensures.settings) (c.event-lost.ensures.outside.limit ∙ c.event.ensures.outside.limit)),
       λ on. heard_from_new c.new.result (taken_on (lines_in c.send.new.lines.items)) c.new.ensures.stands c.new.ensures.place seen,
-      (record { late = subst (λ (n : ℕ). n ≤ s.clock) (sym (c.event-in-Ok.ensures.time ∙ c.event.ensures.time)) c.self.invariant.2.late; small = c.self.invariant.2.small }),
+      (record { late = subst (λ (n : ℕ). n ≤ s.clock) (sym (c.event-lost.ensures.time ∙ c.event.ensures.time)) c.self.invariant.2.late; small = c.self.invariant.2.small }),
     )
 
-pub returns-in-Ok-event-clause-leads : goal.returns-in-Ok-event-clause-leads
-returns-in-Ok-event-clause-leads c =
+pub returns-else-send-clause-leads : goal.returns-else-send-clause-leads
+returns-else-send-clause-leads c =
     let s = c.self.inside in
     let added = c.add_line.ensures.added c.if-not-add_line.false in
     let room = c.add_line.ensures.room in
     let lines_are = c.send.ensures.unsent c.if-send.false ∙ added.0 in
-    let ok = c.event-in-Ok.ensures.lost refl in
-    subst (λ (p : Play). Leads p.world (play_of c.event-in-Ok.new.self c.add_line.new.hub c.send.new.lines.items (past_of s.past.items) (told_of s.told.items) s.clock).world) c.self.view_is
-    (subst (λ (ls : List Numbered). Leads (play_of s.terminal s.hub s.lines.items (past_of s.past.items) (told_of s.told.items) s.clock).world (play_of c.event-in-Ok.new.self c.add_line.new.hub ls (past_of s.past.items) (told_of s.told.items) s.clock).world) (sym lines_are)
-    (subst (λ (h : HubValue KeeperState). Leads (play_of s.terminal s.hub s.lines.items (past_of s.past.items) (told_of s.told.items) s.clock).world (play_of c.event-in-Ok.new.self h (s.lines.items ++ first_line (length s.lines.items + 1) ∷ []) (past_of s.past.items) (told_of s.told.items) s.clock).world) (sym room.is)
-    (cut_opened s.terminal s.hub s.lines.items (past_of s.past.items) (told_of s.told.items) s.clock (length s.lines.items + 1) c.add_line.new.hub.reserved c.self.invariant.0 refl room.grew c.event-in-Ok.new.self (c.event-in-Ok.ensures.settings ∙ c.event.ensures.settings)
-    (ok_of c.event-in-Ok.result ok c.event-in-Ok.ensures.vault ∙ (c.in-Ok.ensures.vault ∙ open_quiet s.terminal.state (Some s.terminal.vault.held)))
-    (down_is c.event.new.self.state c.event-in-Ok.new.self.state (ok_of c.event-in-Ok.result ok c.event-in-Ok.ensures.state)))))
+    let ok = c.event-lost.ensures.lost refl in
+    subst (λ (p : Play). Leads p.world (play_of c.event-lost.new.self c.add_line.new.hub c.send.new.lines.items (past_of s.past.items) (told_of s.told.items) s.clock).world) c.self.view_is
+    (subst (λ (ls : List Numbered). Leads (play_of s.terminal s.hub s.lines.items (past_of s.past.items) (told_of s.told.items) s.clock).world (play_of c.event-lost.new.self c.add_line.new.hub ls (past_of s.past.items) (told_of s.told.items) s.clock).world) (sym lines_are)
+    (subst (λ (h : HubValue KeeperState). Leads (play_of s.terminal s.hub s.lines.items (past_of s.past.items) (told_of s.told.items) s.clock).world (play_of c.event-lost.new.self h (s.lines.items ++ first_line (length s.lines.items + 1) ∷ []) (past_of s.past.items) (told_of s.told.items) s.clock).world) (sym room.is)
+    (cut_opened s.terminal s.hub s.lines.items (past_of s.past.items) (told_of s.told.items) s.clock (length s.lines.items + 1) c.add_line.new.hub.reserved c.self.invariant.0 refl room.grew c.event-lost.new.self (c.event-lost.ensures.settings ∙ c.event.ensures.settings)
+    (ok_of c.event-lost.result ok c.event-lost.ensures.vault ∙ (c.in-Ok.ensures.vault ∙ open_quiet s.terminal.state (Some s.terminal.vault.held)))
+    (down_is c.event.new.self.state c.event-lost.new.self.state (ok_of c.event-lost.result ok c.event-lost.ensures.state)))))
 
 -- what was recorded
 pub returns-then-send-clause-recorded : goal.returns-then-send-clause-recorded
@@ -141,15 +141,15 @@ returns-then-send-clause-recorded c =
     let t = c.self.inside.terminal in
     event_kept t.state Opened t.vault.held c.event.new.self.vault.held c.in-Ok.ensures.vault ∙ ap recorded_in c.self.view_is
 
-pub returns-in-Ok-event-clause-recorded : goal.returns-in-Ok-event-clause-recorded
-returns-in-Ok-event-clause-recorded c =
+pub returns-else-send-clause-recorded : goal.returns-else-send-clause-recorded
+returns-else-send-clause-recorded c =
     let t = c.self.inside.terminal in
     let mid = c.event.new.self in
-    event_kept mid.state Lost mid.vault.held c.event-in-Ok.new.self.vault.held (ok_of c.event-in-Ok.result (c.event-in-Ok.ensures.lost refl) c.event-in-Ok.ensures.vault)
+    event_kept mid.state Lost mid.vault.held c.event-lost.new.self.vault.held (ok_of c.event-lost.result (c.event-lost.ensures.lost refl) c.event-lost.ensures.vault)
     ∙ (event_kept t.state Opened t.vault.held mid.vault.held c.in-Ok.ensures.vault ∙ ap recorded_in c.self.view_is)
 
-pub returns-clause-recorded : goal.returns-clause-recorded
-returns-clause-recorded c =
+pub returns-in-Err-clause-recorded : goal.returns-in-Err-clause-recorded
+returns-in-Err-clause-recorded c =
     let t = c.self.inside.terminal in
     event_cut t.state Opened t.vault.held c.event.new.self.vault.held c.in-Err.ensures.cut ∙ ap recorded_in c.self.view_is
 
@@ -157,8 +157,8 @@ returns-clause-recorded c =
 pub returns-then-send-clause-phone : goal.returns-then-send-clause-phone
 returns-then-send-clause-phone c = ap (λ (s : Settings). s.phone) c.event.ensures.settings ∙ ap phone_in c.self.view_is
 
-pub returns-in-Ok-event-clause-phone : goal.returns-in-Ok-event-clause-phone
-returns-in-Ok-event-clause-phone c = ap (λ (s : Settings). s.phone) (c.event-in-Ok.ensures.settings ∙ c.event.ensures.settings) ∙ ap phone_in c.self.view_is
+pub returns-else-send-clause-phone : goal.returns-else-send-clause-phone
+returns-else-send-clause-phone c = ap (λ (s : Settings). s.phone) (c.event-lost.ensures.settings ∙ c.event.ensures.settings) ∙ ap phone_in c.self.view_is
 
-pub returns-clause-phone : goal.returns-clause-phone
-returns-clause-phone c = ap (λ (s : Settings). s.phone) c.event.ensures.settings ∙ ap phone_in c.self.view_is
+pub returns-in-Err-clause-phone : goal.returns-in-Err-clause-phone
+returns-in-Err-clause-phone c = ap (λ (s : Settings). s.phone) c.event.ensures.settings ∙ ap phone_in c.self.view_is

@@ -77,8 +77,8 @@ returns-then-send-clause-leads c =
     (octet_leads s.terminal s.hub s.lines.items (past_of s.past.items) s.told.items s.clock c.args.place c.next-octet.result c.pass.new.self facts streams c.feed.new.terminal c.feed.ensures.settings c.law_rule.ensures.heard c.law_rule.ensures.settings))
 
 -- read, and no room for what is to be sent
-pub invariant_of-self-in-Ok-event : goal.invariant_of-self-in-Ok-event
-invariant_of-self-in-Ok-event c =
+pub invariant_of-self-in-Ok : goal.invariant_of-self-in-Ok
+invariant_of-self-in-Ok c =
     let s = c.self.inside in
     let heard = c.self.invariant.1 c.if-not-self.false in
     let seen = taken_on (lines_in s.lines.items) in
@@ -87,30 +87,30 @@ invariant_of-self-in-Ok-event c =
     let streams : StreamLaws = record { front = c.law_front.ensures.unplaced; one = c.law_one_octet.ensures; frames = c.law_frames.ensures.frames; message = c.law_frames.ensures.message; long = c.law_of_contents.ensures.len } in
     let mid = set s.lines.items c.args.place c.pass.new.self in
     let lines_are : c.send.new.lines.items ≡ mid = c.send.ensures.unsent c.if-send.false in (
-      subst (λ (ls : List Numbered). IsRunning c.event.new.self s.hub ls) (sym lines_are)
-          (mid_running s.terminal s.hub s.lines.items (past_of s.past.items) s.told.items s.clock c.args.place c.next-octet.result c.pass.new.self facts streams c.event.new.self (still_running s.terminal s.hub s.lines.items (past_of s.past.items) (told_of s.told.items) s.clock c.self.invariant.0 c.event.new.self c.event.ensures.sound (c.event.ensures.settings ∙ c.feed.ensures.settings) (c.event.ensures.outside.limit ∙ c.feed.ensures.outside.limit))),
+      subst (λ (ls : List Numbered). IsRunning c.event-lost.new.self s.hub ls) (sym lines_are)
+          (mid_running s.terminal s.hub s.lines.items (past_of s.past.items) s.told.items s.clock c.args.place c.next-octet.result c.pass.new.self facts streams c.event-lost.new.self (still_running s.terminal s.hub s.lines.items (past_of s.past.items) (told_of s.told.items) s.clock c.self.invariant.0 c.event-lost.new.self c.event-lost.ensures.sound (c.event-lost.ensures.settings ∙ c.feed.ensures.settings) (c.event-lost.ensures.outside.limit ∙ c.feed.ensures.outside.limit))),
       hears_on c.is_none-self-inside.result s.ears c.feed.new.self seen c.next-octet.result (taken_on (lines_in c.send.new.lines.items))
           (λ on. c.in-Ok.ensures.stands seen heard.stands (none_is c.in-Ok.actions.end (c.is_none-self-inside.ensures ∙ ap not on))) heard c.feed.ensures.place
           (ap (λ (ls : List Numbered). taken_on (lines_in ls)) lines_are ∙ taken_mid s.terminal s.hub s.lines.items (past_of s.past.items) s.told.items s.clock c.args.place c.next-octet.result c.pass.new.self facts streams),
-      (record { late = subst (λ (n : ℕ). n ≤ s.clock) (sym (c.event.ensures.time ∙ c.feed.ensures.time)) c.self.invariant.2.late; small = c.self.invariant.2.small }),
+      (record { late = subst (λ (n : ℕ). n ≤ s.clock) (sym (c.event-lost.ensures.time ∙ c.feed.ensures.time)) c.self.invariant.2.late; small = c.self.invariant.2.small }),
     )
 
-pub returns-in-Ok-event-clause-leads : goal.returns-in-Ok-event-clause-leads
-returns-in-Ok-event-clause-leads c =
+pub returns-else-send-clause-leads : goal.returns-else-send-clause-leads
+returns-else-send-clause-leads c =
     let s = c.self.inside in
     let heard = c.self.invariant.1 c.if-not-self.false in
     let seen = taken_on (lines_in s.lines.items) in
     let facts = is_next s.terminal s.hub s.lines.items (past_of s.past.items) (told_of s.told.items) s.clock c.args.place c.next-octet.result c.index.result.now c.index_mut.result.now c.pass.new.self c.args.self.now c.self.invariant.0 c.self.view_is c.requires.last c.requires.in_use c.requires.left c.index.ensures
     c.next-octet.ensures c.index_mut.ensures.value c.pass.ensures in
     let streams : StreamLaws = record { front = c.law_front.ensures.unplaced; one = c.law_one_octet.ensures; frames = c.law_frames.ensures.frames; message = c.law_frames.ensures.message; long = c.law_of_contents.ensures.len } in
-    let ok = c.event.ensures.lost refl in
+    let ok = c.event-lost.ensures.lost refl in
     let ruling = ruled s.terminal s.hub s.lines.items (past_of s.past.items) s.told.items s.clock c.args.place c.next-octet.result c.pass.new.self facts streams in
     let steps = (heard_next (play_of s.terminal s.hub s.lines.items (past_of s.past.items) (told_of s.told.items) s.clock)).steps in
-    subst (λ (p : Play). Leads p.world (play_of c.event.new.self s.hub c.send.new.lines.items (past_of s.past.items) (told_of c.note_told.new.told.items) s.clock).world) c.self.view_is
-    (subst (λ (ls : List Numbered). Leads (play_of s.terminal s.hub s.lines.items (past_of s.past.items) (told_of s.told.items) s.clock).world (play_of c.event.new.self s.hub ls (past_of s.past.items) (told_of c.note_told.new.told.items) s.clock).world) (sym (c.send.ensures.unsent c.if-send.false))
-    (cut_read s.terminal s.hub s.lines.items (past_of s.past.items) s.told.items s.clock c.args.place c.next-octet.result c.pass.new.self facts streams c.event.new.self (c.event.ensures.settings ∙ c.feed.ensures.settings) c.law_rule.ensures.cut c.law_rule.ensures.heard_cut steps [] (sym (append-nil steps))
-    (ok_of c.event.result ok c.event.ensures.vault ∙ (c.in-Ok.ensures.vault seen heard.stands ∙ ap (λ (r : Ruled). holds_after r.steps (Some s.terminal.vault.held)) ruling))
-    (down_is c.feed.new.terminal.state c.event.new.self.state (ok_of c.event.result ok c.event.ensures.state)) (told_of c.note_told.new.told.items)
+    subst (λ (p : Play). Leads p.world (play_of c.event-lost.new.self s.hub c.send.new.lines.items (past_of s.past.items) (told_of c.note_told.new.told.items) s.clock).world) c.self.view_is
+    (subst (λ (ls : List Numbered). Leads (play_of s.terminal s.hub s.lines.items (past_of s.past.items) (told_of s.told.items) s.clock).world (play_of c.event-lost.new.self s.hub ls (past_of s.past.items) (told_of c.note_told.new.told.items) s.clock).world) (sym (c.send.ensures.unsent c.if-send.false))
+    (cut_read s.terminal s.hub s.lines.items (past_of s.past.items) s.told.items s.clock c.args.place c.next-octet.result c.pass.new.self facts streams c.event-lost.new.self (c.event-lost.ensures.settings ∙ c.feed.ensures.settings) c.law_rule.ensures.cut c.law_rule.ensures.heard_cut steps [] (sym (append-nil steps))
+    (ok_of c.event-lost.result ok c.event-lost.ensures.vault ∙ (c.in-Ok.ensures.vault seen heard.stands ∙ ap (λ (r : Ruled). holds_after r.steps (Some s.terminal.vault.held)) ruling))
+    (down_is c.feed.new.terminal.state c.event-lost.new.self.state (ok_of c.event-lost.result ok c.event-lost.ensures.state)) (told_of c.note_told.new.told.items)
     (told_noted_now s.terminal s.hub s.lines.items (past_of s.past.items) s.told.items s.clock c.args.place c.next-octet.result c.pass.new.self facts streams c.feed.new.terminal c.feed.ensures.settings c.law_rule.ensures.told c.len-count.result c.accepted-accepted.result c.push.new.self.items c.note_told.new.told.items c.as_slice.result.now (c.len-count.ensures ∙ Prim.search)
     (c.accepted-accepted.ensures ∙ ap (λ (v : Stock). v.held.accepted) c.vault.ensures) c.in_ok-push.ensures.items c.note_told.ensures (c.as_slice.ensures ∙ (c.in-Ok.ensures.told seen heard.stands ∙ tells s.terminal s.hub s.lines.items (past_of s.past.items) s.told.items s.clock c.args.place c.next-octet.result c.pass.new.self facts streams)))))
 
@@ -175,12 +175,12 @@ returns-then-send-clause-recorded c =
     let seen = taken_on (lines_in s.lines.items) in
     octets_kept s.terminal.state seen (c.next-octet.result ∷ []) s.terminal.vault.held c.feed.new.terminal.vault.held (c.in-Ok.ensures.vault seen (c.self.invariant.1 c.if-not-self.false).stands) ∙ ap recorded_in c.self.view_is
 
-pub returns-in-Ok-event-clause-recorded : goal.returns-in-Ok-event-clause-recorded
-returns-in-Ok-event-clause-recorded c =
+pub returns-else-send-clause-recorded : goal.returns-else-send-clause-recorded
+returns-else-send-clause-recorded c =
     let s = c.self.inside in
     let seen = taken_on (lines_in s.lines.items) in
     let mid = c.feed.new.terminal in
-    event_kept mid.state Lost mid.vault.held c.event.new.self.vault.held (ok_of c.event.result (c.event.ensures.lost refl) c.event.ensures.vault)
+    event_kept mid.state Lost mid.vault.held c.event-lost.new.self.vault.held (ok_of c.event-lost.result (c.event-lost.ensures.lost refl) c.event-lost.ensures.vault)
     ∙ (octets_kept s.terminal.state seen (c.next-octet.result ∷ []) s.terminal.vault.held mid.vault.held (c.in-Ok.ensures.vault seen (c.self.invariant.1 c.if-not-self.false).stands) ∙ ap recorded_in c.self.view_is)
 
 pub returns-then-accepted-clause-recorded : goal.returns-then-accepted-clause-recorded
@@ -199,8 +199,8 @@ returns-else-accepted-clause-recorded c =
 pub returns-then-send-clause-phone : goal.returns-then-send-clause-phone
 returns-then-send-clause-phone c = ap (λ (s : Settings). s.phone) c.feed.ensures.settings ∙ ap phone_in c.self.view_is
 
-pub returns-in-Ok-event-clause-phone : goal.returns-in-Ok-event-clause-phone
-returns-in-Ok-event-clause-phone c = ap (λ (s : Settings). s.phone) (c.event.ensures.settings ∙ c.feed.ensures.settings) ∙ ap phone_in c.self.view_is
+pub returns-else-send-clause-phone : goal.returns-else-send-clause-phone
+returns-else-send-clause-phone c = ap (λ (s : Settings). s.phone) (c.event-lost.ensures.settings ∙ c.feed.ensures.settings) ∙ ap phone_in c.self.view_is
 
 pub returns-then-accepted-clause-phone : goal.returns-then-accepted-clause-phone
 returns-then-accepted-clause-phone c = ap (λ (s : Settings). s.phone) c.feed.ensures.settings ∙ ap phone_in c.self.view_is

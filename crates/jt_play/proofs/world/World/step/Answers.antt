@@ -1,5 +1,5 @@
-use Rattle.std.proofs.Common.{◌≡◌, ◌↔◌, true, false, ap, ◌∙◌, subst}
-use Rattle.std.specs.Prelude.{Err, OnOk}
+use Rattle.std.proofs.Common.{◌≡◌, ◌↔◌, true, false, ap, sym, ◌∙◌, subst}
+use Rattle.std.specs.Prelude.{Err, IfOk, OnOk}
 use Rattle.jt_value.specs.declared.limits.TheConstants.{FIX_LIMIT}
 use Rattle.jt_value.specs.declared.phone.Edition.{Edition}
 use Rattle.jt_play.specs.declared.error.WorldError.TheVariants as refused
@@ -8,7 +8,7 @@ use Rattle.jt_play.specs.Holding.{phone_in, recorded_in}
 use Rattle.jt_play.specs.Laws.{RecordsAtMost}
 use Rattle.jt_play.specs.Playing.{Play, finds_full, is_opened}
 use Rattle.jt_play.proofs.Scripting.{step_ok, step_played, step_scripted}
-use Rattle.jt_play.proofs.Scenes.{no_line_is, own_history, same_refused, scene_on}
+use Rattle.jt_play.proofs.Scenes.{at_full_is, named_not_full, no_line_is, own_history, refusals, same_refused, scene_on}
 use Rattle.jt_play.proofs.Worlds.{on_ok}
 use Rattle.jt_play.proofs.world.World.step.Goals as goal
 
@@ -45,6 +45,15 @@ returns-clause-no_line c line =
 pub returns-clause-full : goal.returns-clause-full
 returns-clause-full c limit is =
     subst (λ (v : Scene). (limit ≡ FIX_LIMIT) × (finds_full FIX_LIMIT v.play c.args.event ≡ true)) c.self.view_is (c.step-done.ensures.full limit ((c.answer.ensures.full limit).0 is))
+
+pub returns-clause-at_full : goal.returns-clause-at_full
+returns-clause-at_full c found =
+    let p = c.self.inside.stage in
+    at_full_is refused.NoLine refused.Full refused.Memory FIX_LIMIT (finds_full FIX_LIMIT p c.args.event) c.answer.result refusals
+    (on_ok c.answer.result (λ is. subst (λ r. IfOk r (λ done. finds_full FIX_LIMIT p c.args.event ≡ false)) is c.step-done.ensures.room) c.answer.ensures.done)
+    (λ line is. named_not_full FIX_LIMIT p c.args.event line (c.step-done.ensures.number line ((c.answer.ensures.no_line line).0 is)))
+    (λ limit is. (c.step-done.ensures.full limit ((c.answer.ensures.full limit).0 is)).0)
+    (subst (λ (v : Scene). finds_full FIX_LIMIT v.play c.args.event ≡ true) (sym c.self.view_is) found)
 
 pub returns-clause-same : goal.returns-clause-same
 returns-clause-same c error is other =
