@@ -9,7 +9,8 @@ octet. Likewise in a folder that was removed, and in one that cannot be written,
 read-only, for which it needs the leave to mount). Where each store is the other one's file, and for `relay` where both stores are
 one file, of either kind. Two processes: of two `report`, and of two `platform`, in one folder the second
 is refused, and the first goes on. A full disk (a small tmpfs): `store fault`, the file is sound for sqlite3 and has what was
-accepted, and once there is room the next run goes on. It prints a line for each case; the status is 1 where one is wrong.
+accepted, and once there is room the next run goes on; and a platform that runs on while its disk is full for a while: the write
+that fails shuts its file, a call behind that opens it again, and all that was accepted is still there. It prints a line for each case; the status is 1 where one is wrong.
 """
 import argparse
 import contextlib
@@ -228,6 +229,38 @@ def full_disk(programs, folder, _):
         subprocess.run(["umount", "-l", folder], check=True)
 
 
+def filled(path):
+    """Fills the disk that a file lies on."""
+    with contextlib.suppress(OSError), open(path, "wb", buffering=0) as file:
+        while file.write(bytes(512)):
+            pass
+
+
+def disk_full_for_a_while(programs, folder, _):
+    """One platform and five terminals: the second meets the full disk, and the next one the file that this has shut."""
+    disk, wanted = f"{folder}/disk", [0, 7, 7, 0, 0]
+    for it in ("disk", "terminals"):
+        os.mkdir(f"{folder}/{it}")
+    subprocess.run(["mount", "-t", "tmpfs", "-o", "size=600k", "none", disk], check=True)
+    try:
+        platform, port = programs.platform(disk, len(wanted))
+        ends = []
+        for number in range(len(wanted)):
+            if number == 1:
+                filled(f"{disk}/more")
+            if number == 2:
+                os.remove(f"{disk}/more")
+            own = f"{folder}/terminals/{number}"
+            os.mkdir(own)
+            ends.append(ended(programs.report(own, port, kill_loop.fix(0, number).hex() + "\n"))[0])
+        found = ended(platform)
+        with contextlib.closing(sqlite3.connect(f"{disk}/platform.db")) as base:
+            rows = base.execute("SELECT COUNT(*) FROM rows808").fetchone()[0]
+        return found, ends == wanted and rows == ends.count(0)
+    finally:
+        subprocess.run(["umount", "-l", disk], check=True)
+
+
 def cases():
     for name, make in FILES.items():
         yield f"report over {name}", over_terminal, make
@@ -243,6 +276,7 @@ def cases():
     if os.geteuid() == 0:
         yield "both in a folder that can't be written", closed_folder, None
         yield "a full disk", full_disk, None
+        yield "a disk that is full for a while", disk_full_for_a_while, None
 
 
 def main():

@@ -68,8 +68,13 @@ WRONG = {
     ),
     "a load that believes the count of a unit": (
         "jt_store_answers/src/order.rt",
-        "unit.count == carried(unit.id, unit.body.as_slice())",
-        "carried(unit.id, unit.body.as_slice()) >= 1",
+        "unit.count == said(unit)",
+        "said(unit) >= 1",
+    ),
+    "a unit that counts others than its body says, and is formed": (
+        "jt_sql/src/vaulting.rt",
+        "if !is_unit(unit) || !may_form(",
+        "if (unit.count == 0 && !is_unit(unit)) || !may_form(",
     ),
     "a registration anew that keeps the terminal id": (
         "jt_sql/src/registrations.rt",

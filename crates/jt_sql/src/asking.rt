@@ -18,6 +18,19 @@ pub(crate) fn one_row<S: Alter>(
     }
 }
 
+/// Whether there is a row that is asked for. A file that lacks the table has none.
+pub(crate) fn has_row<S: Alter>(
+    work: &mut Transaction<'_, S>,
+    sql: &str,
+    values: &[ValueRef<'_>],
+) -> Result<bool, Refused> {
+    match work.query_row(sql, values) {
+        Ok(_) => Ok(true),
+        Err(Error::QueryReturnedNoRows | Error::SqlInputError(_)) => Ok(false),
+        Err(error) => Err(Refused::from(error)),
+    }
+}
+
 /// All rows that are asked for.
 pub(crate) fn all_rows<S: Alter>(
     work: &mut Transaction<'_, S>,

@@ -1,6 +1,9 @@
 //! Why a call on the database gave up.
 
-ghost use Rattle.std.specs.Prelude.{◌≡◌};
+ghost use Rattle.std.specs.Prelude.{◌≡◌, ◌↔◌};
+ghost use Rattle.sqlite.specs.declared.error.Error.TheVariants.{SqliteFailure};
+ghost use Rattle.sqlite.specs.declared.error.ErrorCode.TheVariants.{OutOfMemory};
+ghost use Rattle.jt_sql.specs.declared.refused.Refused.TheVariants.{Memory as NoMemory};
 
 use jt_store::StoreError;
 use jt_store_answers::Refusal;
@@ -20,15 +23,16 @@ pub enum Refused {
 }
 
 impl Refusal for Refused {
+    ghost wants_memory = { λ refused. refused ≡ NoMemory };
+
     fn is_memory(&self) -> bool {
-        *self == Refused::Memory
+        matches!(self, Refused::Memory)
     }
 }
 
 // What an error of the database says of the call.
 fn refused_for(error: &Error) -> Refused
-    ensures memory { error.now ≡ Error.SqliteFailure ErrorCode.OutOfMemory → result ≡ Refused.Memory }
-    ensures fault { result ≡ Refused.Memory → error.now ≡ Error.SqliteFailure ErrorCode.OutOfMemory }
+    ensures memory { (result ≡ NoMemory) ↔ (error.now ≡ SqliteFailure OutOfMemory) }
 {
     match error {
         Error::SqliteFailure(ErrorCode::OutOfMemory) => Refused::Memory,
@@ -38,24 +42,33 @@ fn refused_for(error: &Error) -> Refused
 }
 
 impl From<Error> for Refused {
+    ghost from_gives = { λ error refused.
+        (refused ≡ NoMemory) ↔ (error ≡ SqliteFailure OutOfMemory) };
+
     fn from(error: Error) -> Refused {
         refused_for(&error)
     }
 }
 
 impl From<Memory> for Refused {
+    ghost from_gives = { λ _ refused. refused ≡ NoMemory };
+
     fn from(_memory: Memory) -> Refused {
         Refused::Memory
     }
 }
 
 impl From<AllocError> for Refused {
+    ghost from_gives = { λ _ refused. refused ≡ NoMemory };
+
     fn from(_error: AllocError) -> Refused {
         Refused::Memory
     }
 }
 
 impl<T: Drop> From<AllocFailed<T>> for Refused {
+    ghost from_gives = { λ _ refused. refused ≡ NoMemory };
+
     fn from(_error: AllocFailed<T>) -> Refused {
         Refused::Memory
     }

@@ -2,7 +2,7 @@
 
 ghost use Rattle.std.specs.Prelude.{◌<◌, ◌≤◌, ◌^◌, IfOk, IfSome};
 
-use crate::asking::{all_rows, change, one_row, value};
+use crate::asking::{all_rows, change, has_row, one_row, value};
 use crate::refused::Refused;
 use jt_store::Row;
 use jt_store_answers::{Adding, is_from};
@@ -36,6 +36,9 @@ const AT: &str = "SELECT number, id, body FROM rows808 WHERE phone = ?1 AND numb
 
 const FROM: &str =
     "SELECT number, id, body FROM rows808 WHERE phone = ?1 AND number >= ?2 ORDER BY number LIMIT 1";
+
+// Of each phone of which rows were moved into another database (tools/archive.py): the number of the last one of them.
+const LEFT: &str = "SELECT number FROM left808 WHERE phone = ?1 AND number >= ?2";
 
 const ALL: &str = "SELECT number, id, body FROM rows808 WHERE phone = ?1 ORDER BY number";
 
@@ -108,7 +111,20 @@ pub(crate) fn at<S: Alter>(
     find(work, AT, phone, number)
 }
 
-/// The row of the least number from this one on.
+// Whether rows of this number or above it were moved into another database.
+fn have_left<S: Alter>(
+    work: &mut Transaction<'_, S>,
+    phone: &[u8],
+    number: u64,
+) -> Result<bool, Refused> {
+    match i64::try_from(number) {
+        Ok(number) => has_row(work, LEFT, params![phone, number]),
+        Err(_) => Ok(false),
+    }
+}
+
+/// The row of the least number from this one on. It fails where rows from there on were moved into another database: who goes
+/// through all rows would pass over them.
 pub(crate) fn from<S: Alter>(
     work: &mut Transaction<'_, S>,
     phone: &[u8],
@@ -117,6 +133,9 @@ pub(crate) fn from<S: Alter>(
     ensures { IfOk result (λ found.
         IfSome found (λ row. (number ≤ row.number) × (row.number < 2 ^ 47))) }
 {
+    if have_left(work, phone, number)? {
+        return Err(Refused::Failed);
+    }
     match find(work, FROM, phone, number)? {
         Some(row) if is_from(&row, number) => Ok(Some(row)),
         Some(_) => Err(Refused::Failed),

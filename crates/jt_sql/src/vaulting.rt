@@ -11,7 +11,7 @@ use crate::versions::version;
 use crate::{fixes, units};
 use jt_position::Fix;
 use jt_store::{Loaded, Unit};
-use jt_store_answers::{Adding, are_in_order, may_form};
+use jt_store_answers::{Adding, are_in_order, is_unit, may_form};
 use jt_value::Seq;
 use jt_value::limits::FIX_LIMIT;
 use sqlite::{Alter, Connection, Transaction};
@@ -157,10 +157,11 @@ pub(crate) fn note_fix<S: Alter>(
     settled(work, adding)
 }
 
-// Puts a unit behind the others. A serial that would not be in order is refused.
+// Puts a unit behind the others. A unit that no load would take is refused: one whose serial would not be in order, and one
+// that does not count as many fixes as its body says.
 fn form_within<S: Alter>(work: &mut Transaction<'_, S>, unit: &Unit) -> Result<(), Refused> {
     let state = state::read(work)?;
-    if !may_form(state.mark, state.next, unit.serial) {
+    if !is_unit(unit) || !may_form(state.mark, state.next, unit.serial) {
         return Err(Refused::Failed);
     }
     let place = units::count(work)?;

@@ -1,6 +1,6 @@
 //! What a store answers, and its count of faults.
 
-ghost use Rattle.std.specs.Prelude.{◌≡◌, ◌≤◌, ◌-◌, ◌^◌, ℕ, List, None, Ok, IfOk, length, true};
+ghost use Rattle.std.specs.Prelude.{◌≡◌, ◌↔◌, ◌≤◌, ◌-◌, ◌^◌, ℕ, List, None, Ok, IfOk, IsErrAnd, IsErrOf, length, true};
 ghost use Rattle.jt_store.specs.Tables.{HasCause, IsSteady, Tables, Writes, WritesWithin};
 ghost use Rattle.jt_value.specs.Counts.{Rose};
 ghost use Rattle.jt_store.specs.Vaults.{Held, pending_count};
@@ -36,6 +36,7 @@ pub fn answered<T: Drop, R: Refusal + Drop>(
 ) -> Result<T, StoreError>
     requires range { faults.old ≤ 2 ^ 64 - 1 }
     ensures found { IfOk result (λ x. answer ≡ Ok x) }
+    ensures memory { IsErrOf result StoreError.Memory ↔ IsErrAnd answer R.wants_memory }
     ensures untold { IsNotFull result }
     ensures range { faults.new ≤ 2 ^ 64 - 1 }
     ensures cause { HasCause faults.old faults.new result }
@@ -53,6 +54,7 @@ pub fn changed<R: Refusal + Drop>(faults: &mut u64, answer: Result<(), R>) -> Re
     requires range { faults.old ≤ 2 ^ 64 - 1 }
     ensures tables { Writes {H = Tables} None None None result }
     ensures held { Writes {H = Held} None None None result }
+    ensures memory { IsErrOf result StoreError.Memory ↔ IsErrAnd answer R.wants_memory }
     ensures range { faults.new ≤ 2 ^ 64 - 1 }
     ensures cause { HasCause faults.old faults.new result }
     ensures steady { IsSteady true true result }
@@ -74,6 +76,8 @@ pub fn added<R: Refusal + Drop>(
     ensures tables { (key : List ℕ) →
         WritesWithin limit (λ (t : Tables). length (t.rows key)) None None None result }
     ensures held { WritesWithin limit pending_count None None None result }
+    ensures memory { IsErrOf result StoreError.Memory ↔ IsErrAnd answer R.wants_memory }
+    ensures full { IsErrOf result (StoreError.Full limit) ↔ (answer ≡ Ok Adding.Full) }
     ensures range { faults.new ≤ 2 ^ 64 - 1 }
     ensures cause { HasCause faults.old faults.new result }
     ensures steady { IsSteady true true result }

@@ -7,5 +7,5 @@ mod order;
 mod refusal;
 
 pub use answers::{Adding, added, answered, changed};
-pub use order::{are_in_order, is_from, may_form};
+pub use order::{are_in_order, is_from, is_unit, may_form};
 pub use refusal::Refusal;

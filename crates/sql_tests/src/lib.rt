@@ -10,6 +10,8 @@ mod keeper_calls;
 #[cfg(test)]
 mod keeper_tests;
 #[cfg(test)]
+mod left_tests;
+#[cfg(test)]
 mod limit_tests;
 #[cfg(test)]
 mod migration_tests;
