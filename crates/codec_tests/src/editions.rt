@@ -2,6 +2,13 @@ use jt_codec::{Message, read_body, write_body};
 use jt_value::{CodecError, Edition, Refusal, Why};
 use std::alloc::Global;
 
+// The editions of which a row is.
+const BOTH: &[Edition] = &[Edition::E2013, Edition::E2019];
+
+const EARLIER: &[Edition] = &[Edition::E2013];
+
+const LATER: &[Edition] = &[Edition::E2019];
+
 // What a test asks of a body.
 #[derive(Clone, Copy)]
 enum Asked {
@@ -108,141 +115,102 @@ fn is_so(alloc: Global, edition: Edition, id: u16, body: &[u8], asked: Asked) ->
     is_read_so(alloc, edition, id, body, &read, asked)
 }
 
+// Whether the body is kept in each of these editions.
+fn is_kept_in(alloc: Global, editions: &[Edition], id: u16, body: &[u8]) -> bool {
+    for &edition in editions {
+        if !is_so(alloc, edition, id, body, Asked::Kept) {
+            return false;
+        }
+    }
+    true
+}
+
 #[test]
 fn each_row_in_each_edition_that_has_it(rt: HostRuntime) {
-    let rows: &[(Edition, u16, &[u8])] = &[
-        (Edition::E2013, 0x0001, b"\x00\x07\x81\x03\x02"),
-        (Edition::E2013, 0x8001, b"\xff\xff\x00\x02\xff"),
-        (Edition::E2013, 0x0002, b""),
-        (Edition::E2013, 0x0003, b""),
-        (Edition::E2013, 0x8100, b"\x00\x05\x00\x41"),
+    let rows: &[(&[Edition], u16, &[u8])] = &[
+        (BOTH, 0x0001, b"\x00\x07\x81\x03\x02"),
+        (BOTH, 0x8001, b"\xff\xff\x00\x02\xff"),
+        (BOTH, 0x0002, b""),
+        (BOTH, 0x0003, b""),
+        (BOTH, 0x8100, b"\x00\x05\x00\x41"),
         (
-            Edition::E2013,
+            BOTH,
             0x8103,
             b"\x02\x00\x00\x00\x03\x04\x00\x00\x00\x05\x00\x00\x00\x03\x02\x00\x05",
         ),
-        (Edition::E2013, 0x8104, b""),
-        (Edition::E2013, 0x8106, b"\x01\x00\x00\x00\x01"),
+        (BOTH, 0x8104, b""),
+        (BOTH, 0x8106, b"\x01\x00\x00\x00\x01"),
         (
-            Edition::E2013,
+            BOTH,
             0x0104,
             b"\x00\x07\x01\x00\x00\x00\x01\x04\x00\x00\x00\x3c",
         ),
         (
-            Edition::E2013,
+            BOTH,
             0x0200,
             b"\x00\x00\x00\x00\x00\x00\x00\x03\x01\x31\x2d\x00\x06\xbc\x3e\x40\x00\x00\x00\x00\x00\x00\x24\x01\x01\x00\x00\x00\x01\x04\x00\x00\x00\x0a",
         ),
         (
-            Edition::E2013,
+            BOTH,
             0x0201,
             b"\x00\x09\x00\x00\x00\x00\x00\x00\x00\x03\x01\x31\x2d\x00\x06\xbc\x3e\x40\x00\x00\x00\x00\x00\x00\x24\x01\x01\x00\x00\x00",
         ),
-        (Edition::E2013, 0x8201, b""),
-        (Edition::E2013, 0x8202, b"\x00\x05\x00\x00\x02\x58"),
+        (BOTH, 0x8201, b""),
+        (BOTH, 0x8202, b"\x00\x05\x00\x00\x02\x58"),
         (
-            Edition::E2013,
+            BOTH,
             0x0704,
             b"\x00\x01\x00\x00\x1c\x00\x00\x00\x00\x00\x00\x00\x03\x01\x31\x2d\x00\x06\xbc\x3e\x40\x00\x00\x00\x00\x00\x00\x24\x01\x01\x00\x00\x00",
         ),
-        (Edition::E2013, 0x8105, b"\x03\xd6\x00"),
-        (Edition::E2013, 0x8601, b"\x00"),
-        (Edition::E2013, 0x8603, b"\x01\x00\x00\x00\x07"),
-        (Edition::E2013, 0x8605, b"\x01\x00\x00\x00\x07"),
+        (BOTH, 0x8105, b"\x03\xd6\x00"),
+        (BOTH, 0x8601, b"\x00"),
+        (BOTH, 0x8603, b"\x01\x00\x00\x00\x07"),
+        (BOTH, 0x8605, b"\x01\x00\x00\x00\x07"),
+        (BOTH, 0x8607, b"\x02\x00\x00\x00\x07\x00\x00\x01\x00"),
+        (BOTH, 0x8003, b"\x00\x0a\x02\x00\x01\x00\x02"),
+        (BOTH, 0x8300, b"\x01\x02\x41"),
         (
-            Edition::E2013,
-            0x8607,
-            b"\x02\x00\x00\x00\x07\x00\x00\x01\x00",
-        ),
-        (Edition::E2013, 0x8003, b"\x00\x0a\x02\x00\x01\x00\x02"),
-        (
-            Edition::E2013,
+            EARLIER,
             0x0100,
             b"\x00\x2c\x01\x2c\x37\x30\x31\x31\x31\x41\x31\x00\x00\x00\x00\x00\x00\x00\x00\x00\x00\x00\x00\x00\x00\x00\x00\x00\x00\x30\x31\x32\x33\x34\x35\x36\x02\xd4\xc1",
         ),
-        (Edition::E2013, 0x0102, b"\x41\x00"),
-        (Edition::E2013, 0x8300, b"\x01\x02\x41"),
+        (EARLIER, 0x0102, b"\x41\x00"),
         (
-            Edition::E2013,
+            EARLIER,
             0x8600,
             b"\x01\x01\x00\x00\x00\x09\x00\x00\x01\x31\x2d\x00\x06\xbc\x3e\x40\x00\x00\x00\x64",
         ),
         (
-            Edition::E2013,
+            EARLIER,
             0x8602,
             b"\x00\x01\x00\x00\x00\x07\x00\x00\x01\x31\x2d\x0a\x06\xbc\x3e\x40\x01\x31\x2d\x00\x06\xbc\x3e\x4a",
         ),
         (
-            Edition::E2013,
+            EARLIER,
             0x8604,
             b"\x00\x00\x00\x09\x00\x00\x00\x03\x00\x00\x00\x00\x06\xbc\x3e\x36\x00\x00\x00\x0a\x06\xbc\x3e\x4a\x00\x00\x00\x00\x06\xbc\x3e\x4a",
         ),
         (
-            Edition::E2013,
+            EARLIER,
             0x8606,
             b"\x00\x00\x00\x05\x00\x01\x24\x01\x01\x00\x00\x00\x24\x01\x02\x00\x00\x00\x00\x01\x00\x00\x00\x06\x00\x00\x00\x07\x01\x31\x2d\x00\x06\xbc\x3e\x40\x0a\x03\x00\x3c\x00\x1e\x00\x50\x05",
         ),
-        (Edition::E2019, 0x0001, b"\x00\x07\x81\x03\x02"),
-        (Edition::E2019, 0x8001, b"\xff\xff\x00\x02\xff"),
-        (Edition::E2019, 0x0002, b""),
-        (Edition::E2019, 0x0003, b""),
-        (Edition::E2019, 0x8100, b"\x00\x05\x00\x41"),
+        (LATER, 0x0005, b"\x00\x0a\x02\x00\x01\x00\x02"),
+        (LATER, 0x0005, b"\x00\x0a\x00\x02\x00\x01\x00\x02"),
+        (LATER, 0x8003, b"\x00\x0a\x00\x02\x00\x01\x00\x02"),
         (
-            Edition::E2019,
-            0x8103,
-            b"\x02\x00\x00\x00\x03\x04\x00\x00\x00\x05\x00\x00\x00\x03\x02\x00\x05",
-        ),
-        (Edition::E2019, 0x8104, b""),
-        (Edition::E2019, 0x8106, b"\x01\x00\x00\x00\x01"),
-        (
-            Edition::E2019,
-            0x0104,
-            b"\x00\x07\x01\x00\x00\x00\x01\x04\x00\x00\x00\x3c",
-        ),
-        (
-            Edition::E2019,
-            0x0200,
-            b"\x00\x00\x00\x00\x00\x00\x00\x03\x01\x31\x2d\x00\x06\xbc\x3e\x40\x00\x00\x00\x00\x00\x00\x24\x01\x01\x00\x00\x00\x01\x04\x00\x00\x00\x0a",
-        ),
-        (
-            Edition::E2019,
-            0x0201,
-            b"\x00\x09\x00\x00\x00\x00\x00\x00\x00\x03\x01\x31\x2d\x00\x06\xbc\x3e\x40\x00\x00\x00\x00\x00\x00\x24\x01\x01\x00\x00\x00",
-        ),
-        (Edition::E2019, 0x8201, b""),
-        (Edition::E2019, 0x8202, b"\x00\x05\x00\x00\x02\x58"),
-        (
-            Edition::E2019,
-            0x0704,
-            b"\x00\x01\x00\x00\x1c\x00\x00\x00\x00\x00\x00\x00\x03\x01\x31\x2d\x00\x06\xbc\x3e\x40\x00\x00\x00\x00\x00\x00\x24\x01\x01\x00\x00\x00",
-        ),
-        (Edition::E2019, 0x8105, b"\x03\xd6\x00"),
-        (Edition::E2019, 0x8601, b"\x00"),
-        (Edition::E2019, 0x8603, b"\x01\x00\x00\x00\x07"),
-        (Edition::E2019, 0x8605, b"\x01\x00\x00\x00\x07"),
-        (
-            Edition::E2019,
-            0x8607,
-            b"\x02\x00\x00\x00\x07\x00\x00\x01\x00",
-        ),
-        (Edition::E2019, 0x0005, b"\x00\x0a\x02\x00\x01\x00\x02"),
-        (Edition::E2019, 0x0005, b"\x00\x0a\x00\x02\x00\x01\x00\x02"),
-        (Edition::E2019, 0x8003, b"\x00\x0a\x02\x00\x01\x00\x02"),
-        (Edition::E2019, 0x8003, b"\x00\x0a\x00\x02\x00\x01\x00\x02"),
-        (
-            Edition::E2019,
+            LATER,
             0x0100,
             b"\x00\x2c\x01\x2c\x37\x30\x31\x31\x31\x00\x00\x00\x00\x00\x00\x41\x31\x00\x00\x00\x00\x00\x00\x00\x00\x00\x00\x00\x00\x00\x00\x00\x00\x00\x00\x00\x00\x00\x00\x00\x00\x00\x00\x00\x00\x30\x31\x32\x33\x34\x35\x36\x00\x00\x00\x00\x00\x00\x00\x00\x00\x00\x00\x00\x00\x00\x00\x00\x00\x00\x00\x00\x00\x00\x00\x02\xd4\xc1",
         ),
         (
-            Edition::E2019,
+            LATER,
             0x0102,
             b"\x02\x41\x42\x31\x32\x33\x34\x35\x36\x37\x38\x39\x30\x31\x32\x33\x34\x35\x76\x31\x00\x00\x00\x00\x00\x00\x00\x00\x00\x00\x00\x00\x00\x00\x00\x00\x00\x00",
         ),
-        (Edition::E2019, 0x8300, b"\x01\x02\x41"),
     ];
-    for &(edition, id, body) in rows {
-        assert!(rt; is_so(rt.alloc(), edition, id, body, Asked::Kept), "{id}");
+    for &(editions, id, body) in rows {
+        assert!(rt; is_kept_in(rt.alloc(), editions, id, body), "{id}");
     }
 }
 
