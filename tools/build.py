@@ -1,12 +1,13 @@
 #!/usr/bin/env python3
-"""Proves and builds the program jt808, with the crates that it stands on, side by side where neither stands on the other.
+"""Proves and builds a program, with the crates that it stands on, side by side where neither stands on the other.
 
-    tools/build.py
+    tools/build.py [jt808|dewfelt]
 
-The crate with the most lines above it goes first, and a crate gets the processors that no other waits for, as far as memory
-holds: as under `rt ci`, by the lanes of the kit's own rt. Where that has none, `rt all check` gives each crate one processor. It
-says on standard error which crate of how many is proved, and how long after the start. What is proved is kept: after an
-interrupt it goes on where it was. The exit status is 0, or 1 where a crate is not proved.
+Without a name it is jt808. The crate with the most lines above it goes first, and a crate gets the processors that no other
+waits for, as far as memory holds: as under `rt ci`, by the lanes of the kit's own rt. Where that has none, `rt all check` gives
+each crate one processor. It says on standard error which crate of how many is proved, and how long after the start. What is
+proved is kept: after an interrupt it goes on where it was. The exit status is 0, 1 where a crate is not proved, or 2 where no
+program has that name.
 """
 import importlib.machinery
 import importlib.util
@@ -21,7 +22,8 @@ import threading
 import time
 
 ROOT = os.path.dirname(os.path.dirname(os.path.realpath(__file__)))
-PROGRAM = "jt808"
+PROGRAMS = ("jt808", "dewfelt")
+PROGRAM = sys.argv[1] if len(sys.argv) > 1 else PROGRAMS[0]
 FOLDER = f"{ROOT}/crates/{PROGRAM}"
 # What the check of a large crate takes, and that of the program, in bytes.
 MEMORY_A_CRATE = 2_500_000_000
@@ -55,7 +57,7 @@ def lanes():
 
 
 def say(text):
-    print(f"jt808: {text}", file=sys.stderr, flush=True)
+    print(f"{PROGRAM}: {text}", file=sys.stderr, flush=True)
 
 
 def kit():
@@ -114,7 +116,7 @@ def prove_in_lanes():
 
 def prove(names, began):
     """Proves all crates of these names. Gives the status and all that was said."""
-    words = [sys.executable, os.path.realpath(__file__), IN_LANES] if kit() else ["rt", "all", "check", "--jobs", str(lanes())]
+    words = [sys.executable, os.path.realpath(__file__), PROGRAM, IN_LANES] if kit() else ["rt", "all", "check", "--jobs", str(lanes())]
     how = {"cwd": FOLDER, "stdin": subprocess.DEVNULL, "stdout": subprocess.PIPE, "stderr": subprocess.STDOUT}
     said, count = [], 0
     with subprocess.Popen(words, text=True, errors="replace", **how) as ran:
@@ -160,8 +162,11 @@ def main():
 
 
 if __name__ == "__main__":
+    if PROGRAM not in PROGRAMS:
+        print(__doc__, file=sys.stderr)
+        sys.exit(2)
     try:
-        sys.exit(prove_in_lanes() if sys.argv[1:] == [IN_LANES] else main())
+        sys.exit(prove_in_lanes() if sys.argv[2:] == [IN_LANES] else main())
     except KeyboardInterrupt:
         say("interrupted; what is proved is kept, and the next run goes on from there")
         sys.exit(130)

@@ -1,15 +1,13 @@
 -- A closed session is live for no phone.
-use Rattle.std.proofs.Common.{◌≡◌, ℕ, List, [], ◌∷◌, Some, None, Option, Bool, true, false, ◌==◌, ◌&&◌, ◌||◌, if◌then◌else◌, ◌⊎◌, inl, inr, refl, sym, ap, subst, ◌∙◌}
+use Rattle.std.proofs.Common.{◌≡◌, ℕ, List, [], ◌∷◌, None, Option, Bool, true, false, ◌==◌, ◌&&◌, ◌||◌, if◌then◌else◌, inl, inr, refl, sym, ap, subst, ◌∙◌}
 use Rattle.std.proofs.lemmas.Bool.{eqb-true, false≢true}
-use Rattle.jt_value.specs.Sameness.{key_of, same_key}
 use Rattle.jt_store.specs.Tables.{Tables}
 use Rattle.jt_platform.specs.declared.request.Request.{Request}
 use Rattle.jt_platform.specs.declared.request.Request.TheVariants as ask
 use Rattle.jt_platform.specs.declared.request.Reply.{Reply}
-use Rattle.jt_platform.specs.declared.request.Reply.TheVariants as say
 use Rattle.jt_platform.specs.declared.request.Entry.{Entry}
 use Rattle.jt_platform.specs.History.{live, closed, is_close, says_live, or_else, tables_after}
-use Rattle.jt_platform.specs.Allowed.{Opening, AnyReply, Allowed, Legal}
+use Rattle.jt_platform.specs.Allowed.{Opening, AnyReply, Legal}
 
 -- what a closed session asks changes nothing of whether it is live
 says_none : (o : Opening) (now : Option Tables) (key : List ℕ) (h : List Entry) (session : ℕ) (q : Request) (r : Reply)

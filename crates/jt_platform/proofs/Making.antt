@@ -8,7 +8,7 @@ use Rattle.jt_platform.specs.declared.request.Request.{Request}
 use Rattle.jt_platform.specs.declared.request.Request.TheVariants as ask
 use Rattle.jt_platform.specs.declared.request.Entry.{Entry}
 use Rattle.jt_platform.specs.Hub.{IsOwed}
-use Rattle.jt_platform.specs.Index.{Indexed, closed_place, IsReady, HasPlaces, KeepsPlaces}
+use Rattle.jt_platform.specs.Index.{Indexed, HasClose, IsReady, HasPlaces, KeepsPlaces}
 
 -- the place for an owed Close is there
 pub ready_close : (x : Indexed) (b : Bool) (h : List Entry) (q : Request) (l reserved : ℕ) → HasPlaces x 0 reserved → (IsTrue b ↔ ((q ≡ ask.Close) × IsOwed h reserved l)) → b ≡ true → IsReady x l q
@@ -21,6 +21,6 @@ ready_close x b h q l reserved places owes is =
 pub places_more : (old new : Indexed) (reserved upto : ℕ) → HasPlaces old 0 reserved → KeepsPlaces old new → HasPlaces new reserved upto → HasPlaces new 0 upto
 places_more old new reserved upto was kept more s above below = by_place (ltb reserved s) refl
   where
-    by_place : (b : Bool) → ltb reserved s ≡ b → IsSome (closed_place new s)
+    by_place : (b : Bool) → ltb reserved s ≡ b → HasClose new s
     by_place true is = more s (ltb-true reserved s is) below
     by_place false is = kept s (was s above (ltb-false reserved s is))

@@ -1,6 +1,6 @@
 -- The tables that a hub keeps of its history, and what they tell. A step definition for the proofs, but for `Logged`, which is to be
 -- believed: its entries are the history that a hub shows.
-use Rattle.std.specs.Prelude.{◌≡◌, ◌<◌, ◌≤◌, ℕ, List, [], Bool, true, false, ◌==◌, ◌&&◌, ◌||◌, not, Option, None, Some, IsSome, if◌then◌else◌}
+use Rattle.std.specs.Prelude.{◌≡◌, ◌<◌, ◌≤◌, ℕ, List, [], length, slice_index_or, Bool, true, false, ◌==◌, ◌&&◌, ◌||◌, not, Option, None, Some, IsSome, if◌then◌else◌}
 use Rattle.std.specs.BTreeMap.{is_at}
 use Rattle.std.specs.Cmp.Lexicographic.{slice_cmp}
 use Rattle.std.specs.Map.{lookup}
@@ -14,12 +14,12 @@ use Rattle.jt_platform.specs.declared.request.Reply.TheVariants as say
 use Rattle.jt_platform.specs.declared.request.Entry.{Entry}
 use Rattle.jt_platform.specs.History.{live, closed, holder, is_close, is_accepted_auth, or_else, says_live}
 
--- Who holds each phone, which sessions are live for which phones, and which are closed. A place that was made before its entry
--- stands there with None or false.
+-- Who holds each phone, which sessions are live for which phones, and, by number, which are closed. A place that was made before its
+-- entry stands there with None or false.
 pub record Indexed : Type 0 where
   pub holders : List (List ℕ × Option ℕ)
   pub lives : List ((ℕ × List ℕ) × Bool)
-  pub closes : List (ℕ × Bool)
+  pub closes : List Bool
 
 abbrev pub empty : Indexed
 empty = record { holders = []; lives = []; closes = [] }
@@ -32,8 +32,9 @@ holder_place x key = lookup (is_at (slice_cmp nat_cmp key)) x.holders
 abbrev pub live_place : Indexed → List ℕ → ℕ → Option Bool
 live_place x key session = lookup (is_at (λ (q : ℕ × List ℕ). ordering_then (nat_cmp session q.0) (slice_cmp nat_cmp key q.1))) x.lives
 
-abbrev pub closed_place : Indexed → ℕ → Option Bool
-closed_place x session = lookup (is_at (nat_cmp session)) x.closes
+-- the place for a Close of the session
+abbrev pub HasClose : Indexed → ℕ → Type 0
+HasClose x session = session < length x.closes
 
 -- ---- what stands there
 
@@ -44,7 +45,7 @@ abbrev pub live_in : Indexed → List ℕ → ℕ → Bool
 live_in x key session = unwrap_or (live_place x key session) false
 
 abbrev pub closed_in : Indexed → ℕ → Bool
-closed_in x session = unwrap_or (closed_place x session) false
+closed_in x session = slice_index_or x.closes session false
 
 -- The tables tell what the history says. Of a closed session they may tell anything but that it is closed.
 pub record IsIndex (x : Indexed) (h : List Entry) : Type 0 where
@@ -59,12 +60,12 @@ pub record Keeps (old new : Indexed) : Type 0 where
   pub closes : (session : ℕ) → closed_in new session ≡ closed_in old session
   pub lives : (key : List ℕ) (session : ℕ) → live_in new key session ≡ live_in old key session
   pub holders : (key : List ℕ) → holder_in new key ≡ holder_in old key
-  pub places : (session : ℕ) → IsSome (closed_place old session) → IsSome (closed_place new session)
+  pub places : (session : ℕ) → HasClose old session → HasClose new session
 
 -- the places for what an entry of the session's request changes are there
 abbrev pub IsReady : Indexed → ℕ → Request → Type 0
 IsReady x session (ask.Auth phone code) = IsSome (holder_place x (key_of phone)) × IsSome (live_place x (key_of phone) session)
-IsReady x session ask.Close = IsSome (closed_place x session)
+IsReady x session ask.Close = HasClose x session
 IsReady x session request = Unit {0}
 
 -- what an entry of the session makes of the tables
@@ -72,9 +73,9 @@ pub record Notes (old new : Indexed) (session : ℕ) (request : Request) (reply 
   pub closes : (other : ℕ) → closed_in new other ≡ (((session == other) && is_close request) || closed_in old other)
   pub lives : (key : List ℕ) (other : ℕ) → is_close request ≡ false
       → live_in new key other ≡ (if session == other then or_else (says_live key request reply) (live_in old key other) else live_in old key other)
-  pub kept : (key : List ℕ) (other : ℕ) → is_close request ≡ true → live_in new key other ≡ live_in old key other
+  pub kept : (key : List ℕ) (other : ℕ) → is_close request ≡ true → (session == other) ≡ false → live_in new key other ≡ live_in old key other
   pub holders : (key : List ℕ) → holder_in new key ≡ (if is_accepted_auth key request reply && not (live_in old key session) then Some session else holder_in old key)
-  pub places : (other : ℕ) → IsSome (closed_place old other) → IsSome (closed_place new other)
+  pub places : (other : ℕ) → HasClose old other → HasClose new other
 
 -- the session is live for the phone, and holds it if it was not live before
 pub record LetsIn (old new : Indexed) (session : ℕ) (key : List ℕ) : Type 0 where
@@ -91,7 +92,14 @@ pub record LetsOut (old new : Indexed) (session : ℕ) (key : List ℕ) : Type 0
 -- the session is closed
 pub record Closes (old new : Indexed) (session : ℕ) : Type 0 where
   pub closes : (s : ℕ) → closed_in new s ≡ ((session == s) || closed_in old s)
-  pub places : (s : ℕ) → IsSome (closed_place old s) → IsSome (closed_place new s)
+  pub places : (s : ℕ) → HasClose old s → HasClose new s
+  pub lives : (key : List ℕ) (s : ℕ) → (session == s) ≡ false → live_in new key s ≡ live_in old key s
+  pub holders : new.holders ≡ old.holders
+
+-- the session is marked as closed
+pub record Marks (old new : Indexed) (session : ℕ) : Type 0 where
+  pub closes : (s : ℕ) → closed_in new s ≡ ((session == s) || closed_in old s)
+  pub places : (s : ℕ) → HasClose old s → HasClose new s
   pub lives : new.lives ≡ old.lives
   pub holders : new.holders ≡ old.holders
 
@@ -105,11 +113,11 @@ pub record Logged : Type 0 where
 
 -- a place that was there still is
 abbrev pub KeepsPlaces : Indexed → Indexed → Type 0
-KeepsPlaces old new = (session : ℕ) → IsSome (closed_place old session) → IsSome (closed_place new session)
+KeepsPlaces old new = (session : ℕ) → HasClose old session → HasClose new session
 
 -- the place for the Close of each session above one and up to another is there
 abbrev pub HasPlaces : Indexed → ℕ → ℕ → Type 0
-HasPlaces x above upto = (session : ℕ) → above < session → session ≤ upto → IsSome (closed_place x session)
+HasPlaces x above upto = (session : ℕ) → above < session → session ≤ upto → HasClose x session
 
 -- an accepted authentication
 abbrev pub is_let_in : Request → Reply → Bool

@@ -1,6 +1,7 @@
 //! The hub as a desk that many sessions share by turns.
 
 use crate::hub::Hub;
+use crate::journal::Journal;
 use crate::request::{Fleet, Reply, Request};
 use jt_store::Keeper;
 use jt_turn::Desk;
@@ -19,7 +20,7 @@ pub struct HubOpening<P> {
 }
 
 // The opening is `Some` for each hub.
-impl<P: Keeper> Desk for Hub<P> {
+impl<P: Keeper, J: Journal> Desk for Hub<P, J> {
     ghost use Rattle.std.specs.Prelude.{Some, None, IfSome, map};
     ghost use Rattle.jt_platform.specs.Allowed.{makes_entry};
     ghost use Rattle.jt_platform.specs.Hub.{opening_of};

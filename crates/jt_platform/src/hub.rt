@@ -13,20 +13,21 @@ ghost use Rattle.jt_platform.specs.declared.request.Reply.TheVariants.{Accepted}
 
 use crate::code::code_octets;
 use crate::copying::{copy_reply, copy_request};
+use crate::journal::Journal;
 use crate::log::Log;
 use crate::registering::{auth, deregister, register};
 use crate::request::{Entry, Fleet, Reply, Request};
 use crate::roll::Roll;
 use crate::unit::unit;
 use jt_store::Keeper;
-use jt_value::{Memory, Octets, Phone, Seq};
+use jt_value::{Buffer, Memory, Octets, Phone, Seq};
 use std::alloc::Global;
 use std::marker::Model;
 use std::mem::replace;
 use std::snapshot::Snapshot;
 
 // NotLive or Fenced, where the session is not live for the phone or not its holder.
-fn guard(log: &Log, phone: &Phone, session: u32) -> Option<Reply>
+fn guard<J: Journal>(log: &Log<J>, phone: &Phone, session: u32) -> Option<Reply>
     requires { closed (newest log.now.entries) session ≡ false }
     ensures { IsGuard (key_of phone.now) (newest log.now.entries) session result }
 {
@@ -67,12 +68,12 @@ fn unit_in<P: Keeper>(alloc: Global, keeper: &mut P, request: &mut Request) -> R
 }
 
 // The answer to a request of a session that is not closed.
-fn answer_open<P: Keeper>(
+fn answer_open<P: Keeper, J: Journal>(
     alloc: Global,
     keeper: &mut P,
     fleet: &Roll,
     secret: &Octets,
-    log: &Log,
+    log: &Log<J>,
     session: u32,
     request: &Request,
     copy: &mut Request,
@@ -118,12 +119,12 @@ fn answer_open<P: Keeper>(
 }
 
 // The answer to a request, whose copy lends its body. A Close asks nothing of the keeper.
-fn answer<P: Keeper>(
+fn answer<P: Keeper, J: Journal>(
     alloc: Global,
     keeper: &mut P,
     fleet: &Roll,
     secret: &Octets,
-    log: &Log,
+    log: &Log<J>,
     session: u32,
     request: &Request,
     copy: &mut Request,
@@ -170,7 +171,7 @@ fn entry_code(alloc: Global, secret: &Octets, request: &Request) -> Result<Octet
 }
 
 // Whether the request is a Close whose memory is there.
-fn is_owed_close(log: &Log, reserved: u32, session: u32, request: &Request) -> bool
+fn is_owed_close<J: Journal>(log: &Log<J>, reserved: u32, session: u32, request: &Request) -> bool
     ensures { IsTrue result ↔ ((request.now ≡ Close) × IsOwed log.now.entries reserved session) }
 {
     matches!(request, Request::Close)
@@ -180,8 +181,8 @@ fn is_owed_close(log: &Log, reserved: u32, session: u32, request: &Request) -> b
 }
 
 // Makes room and places for an entry of the request, beside those that are owed.
-fn make_room(
-    log: &mut Log,
+fn make_room<J: Journal>(
+    log: &mut Log<J>,
     owed: u64,
     is_owed: bool,
     session: u32,
@@ -206,22 +207,22 @@ fn make_room(
     log.reserve(owed + 1)
 }
 
-/// The hub over a keeper, with its history. It keeps the allocator that it began with, and, for contracts alone and in no
-/// octets, the keeper as it was at the start.
+/// The hub over a keeper, with its history, whose entries go to a journal: `Hub<P>` keeps them. It keeps the allocator that it
+/// began with, and, for contracts alone and in no octets, the keeper as it was at the start.
 #[derive(Drop)]
-pub struct Hub<P: Keeper> {
+pub struct Hub<P: Keeper, J: Journal = Buffer<Entry>> {
     alloc: Global,
     keeper: P,
     start: Snapshot<P>,
     fleet: Roll,
     secret: Octets,
-    log: Log,
+    log: Log<J>,
     reserved: u32,
     // For how many Closes the history has room at least.
     owed: u64,
 }
 
-impl<P: Keeper> Model for Hub<P> {
+impl<P: Keeper, J: Journal> Model for Hub<P, J> {
     ghost use Rattle.jt_platform.specs.Index.{IsReady, KeepsPlaces};
     ghost use Rattle.jt_platform.specs.Hub.{HubValue, IsAt, opening_of};
     ghost use Rattle.jt_platform.specs.Calls.{HasRoom};
@@ -236,15 +237,38 @@ impl<P: Keeper> Model for Hub<P> {
     ghost invariant = { λ h. IsAt (P.tables h.start.value) (P.tables h.keeper) (P.limit h.start.value) (P.limit h.keeper) h.log.entries × HasRoom h.log.entries h.reserved h.owed h.log.spare × Legal (opening_of (P.tables h.start.value) (P.limit h.start.value) h.fleet h.secret) (newest h.log.entries) × HasPlaces h.log.index 0 h.reserved };
 }
 
-impl<P: Keeper> Hub<P> {
+impl<P: Keeper, J: Journal> Hub<P, J> {
     /// A hub over a keeper, with an empty history over the keeper's registrations and rows. It takes memory for the fleet's
     /// names; Memory gives the keeper back.
-    pub fn start(
+    pub fn begin(
         alloc: Global,
         keeper: P,
         fleet: Fleet,
         secret: Octets,
-    ) -> Result<Hub<P>, (P, Memory)>
+    ) -> Result<Hub<P, J>, (P, Memory)>
+        ensures ok { IfOk result (λ hub. hub ≡ record {
+          keeper = keeper;
+          start = keeper;
+          fleet = fleet;
+          secret = secret;
+          history = [];
+          reserved = 0;
+        }) }
+        ensures err { IfErr result (λ refused. refused.0 ≡ keeper) }
+    {
+        Hub::begin_with(alloc, keeper, fleet, secret, J::new(alloc))
+    }
+
+    /// A hub as `begin` makes it, over a journal without entries that the caller made. Memory gives the keeper back, and lets the
+    /// journal go.
+    pub fn begin_with(
+        alloc: Global,
+        keeper: P,
+        fleet: Fleet,
+        secret: Octets,
+        journal: J,
+    ) -> Result<Hub<P, J>, (P, Memory)>
+        requires journal { J.entries journal ≡ [] }
         ensures ok { IfOk result (λ hub. hub ≡ record {
           keeper = keeper;
           start = keeper;
@@ -265,7 +289,7 @@ impl<P: Keeper> Hub<P> {
             start,
             fleet: roll,
             secret,
-            log: Log::new(alloc),
+            log: Log::over(alloc, journal),
             reserved: 0,
             owed: 0,
         })
@@ -276,17 +300,6 @@ impl<P: Keeper> Hub<P> {
         ensures { result.now ≡ self.now.keeper }
     {
         &self.keeper
-    }
-
-    /// The entries, oldest first. Each reply is one that the entries before it allow, and the keeper is where they leave it.
-    pub fn history(&self) -> &[Entry]
-        ensures entries { result.now ≡ self.now.history }
-        ensures keeper { IsAt (P.tables self.now.start) (P.tables self.now.keeper)
-            (P.limit self.now.start) (P.limit self.now.keeper) self.now.history }
-        ensures legal { Legal (opening_of (P.tables self.now.start) (P.limit self.now.start)
-            self.now.fleet self.now.secret) (newest self.now.history) }
-    {
-        self.log.entries()
     }
 
     /// Whether the session is live for the phone and holds it, by the entries so far.
@@ -373,6 +386,61 @@ impl<P: Keeper> Hub<P> {
             self.owed -= 1;
         }
         reply
+    }
+
+    /// The keeper, which is where the history leaves it, with no memory taken. The history is let go.
+    pub fn into_keeper(self) -> P
+        ensures parts { result ≡ self.keeper }
+        ensures keeper { IsAt (P.tables self.start) (P.tables result) (P.limit self.start)
+            (P.limit result) self.history }
+        ensures legal { Legal (opening_of (P.tables self.start) (P.limit self.start) self.fleet
+            self.secret) (newest self.history) }
+    {
+        let Hub {
+            alloc: _,
+            keeper,
+            start: _,
+            fleet: _,
+            secret: _,
+            log: _,
+            reserved: _,
+            owed: _,
+        } = self;
+        keeper
+    }
+}
+
+impl<P: Keeper> Hub<P> {
+    /// A hub over a keeper, which keeps all entries, with an empty history over the keeper's registrations and rows. It takes
+    /// memory for the fleet's names; Memory gives the keeper back.
+    pub fn start(
+        alloc: Global,
+        keeper: P,
+        fleet: Fleet,
+        secret: Octets,
+    ) -> Result<Hub<P>, (P, Memory)>
+        ensures ok { IfOk result (λ hub. hub ≡ record {
+          keeper = keeper;
+          start = keeper;
+          fleet = fleet;
+          secret = secret;
+          history = [];
+          reserved = 0;
+        }) }
+        ensures err { IfErr result (λ refused. refused.0 ≡ keeper) }
+    {
+        Hub::begin(alloc, keeper, fleet, secret)
+    }
+
+    /// The entries, oldest first. Each reply is one that the entries before it allow, and the keeper is where they leave it.
+    pub fn history(&self) -> &[Entry]
+        ensures entries { result.now ≡ self.now.history }
+        ensures keeper { IsAt (P.tables self.now.start) (P.tables self.now.keeper)
+            (P.limit self.now.start) (P.limit self.now.keeper) self.now.history }
+        ensures legal { Legal (opening_of (P.tables self.now.start) (P.limit self.now.start)
+            self.now.fleet self.now.secret) (newest self.now.history) }
+    {
+        self.log.entries()
     }
 
     /// Begins anew in place, with no memory taken: an empty history over the registrations and rows that the keeper has now, with

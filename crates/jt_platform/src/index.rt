@@ -2,8 +2,9 @@
 
 ghost use Rattle.std.specs.Prelude.{◌≡◌, [], OnOk, IsOk, IsSome};
 ghost use Rattle.jt_value.specs.Sameness.{key_of};
-ghost use Rattle.jt_platform.specs.Index.{Indexed, empty, holder_in, live_in, closed_in, closed_place, holder_place, live_place, IsReady, Keeps, Notes, LetsIn, LetsOut, Closes};
+ghost use Rattle.jt_platform.specs.Index.{Indexed, empty, holder_in, live_in, closed_in, HasClose, holder_place, live_place, IsReady, Keeps, Notes, LetsIn, LetsOut, Closes, Marks};
 
+use crate::flags::Flags;
 use crate::lookup::Lookup;
 use crate::request::{Reply, Request};
 use jt_store::Digits;
@@ -16,7 +17,7 @@ use std::marker::Model;
 pub(crate) struct Index {
     holders: Lookup<Digits, Option<u32>>,
     lives: Lookup<(u32, Digits), bool>,
-    closes: Lookup<u32, bool>,
+    closes: Flags,
 }
 
 impl Model for Index {
@@ -40,7 +41,7 @@ impl Index {
         Index {
             holders: Lookup::new(alloc),
             lives: Lookup::new(alloc),
-            closes: Lookup::new(alloc),
+            closes: Flags::new(alloc),
         }
     }
 
@@ -65,18 +66,15 @@ impl Index {
     pub(crate) fn is_closed(&self, session: u32) -> bool
         ensures { result ≡ closed_in self.now session }
     {
-        match self.closes.get(&session) {
-            Some(closed) => *closed,
-            None => false,
-        }
+        self.closes.has(session)
     }
 
     // Makes the place for a Close of the session.
     pub(crate) fn place_close(&mut self, session: u32) -> Result<(), Memory>
-        ensures made { OnOk result (IsSome (closed_place self.new session)) }
+        ensures made { OnOk result (HasClose self.new session) }
         ensures keeps { Keeps self.old self.new }
     {
-        self.closes.place(session, false)
+        self.closes.place(session)
     }
 
     // Makes the places for what an entry of this request changes.
@@ -86,7 +84,7 @@ impl Index {
     {
         match request {
             Request::Auth { phone, code: _ } => self.place_auth(session, phone),
-            Request::Close => self.closes.place(session, false),
+            Request::Close => self.closes.place(session),
             _ => Ok(()),
         }
     }
@@ -107,6 +105,7 @@ impl Index {
     {
         match (request, reply) {
             (Request::Auth { phone, code: _ }, Reply::Accepted) => self.let_in(session, phone),
+            (Request::Auth { phone, code: _ }, _) => self.forget_unused(session, phone),
             (Request::Deregister { phone }, Reply::Accepted) => self.let_out(session, phone),
             (Request::Close, _) => self.close(session),
             _ => {}
@@ -134,20 +133,46 @@ impl Index {
     fn let_out(&mut self, session: u32, phone: &Phone)
         ensures { LetsOut self.old self.new session (key_of phone.now) }
     {
-        if self.is_live(phone, session) {
-            let Ok(()) = self.lives.set((session, digits(phone)), false) else {
-                unreachable!();
-            };
+        self.lives.forget(&(session, digits(phone)));
+    }
+
+    // Lets the places go that were made for an authentication and that tell nothing.
+    fn forget_unused(&mut self, session: u32, phone: &Phone)
+        ensures { Keeps self.old self.new }
+    {
+        self.forget_live(session, phone);
+        self.forget_holder(phone);
+    }
+
+    fn forget_live(&mut self, session: u32, phone: &Phone)
+        ensures { Keeps self.old self.new }
+    {
+        if !self.is_live(phone, session) {
+            self.lives.forget(&(session, digits(phone)));
         }
     }
 
-    // The session is closed now.
+    fn forget_holder(&mut self, phone: &Phone)
+        ensures { Keeps self.old self.new }
+    {
+        if self.holder(phone).is_none() {
+            self.holders.forget(&digits(phone));
+        }
+    }
+
+    // The session is closed now. Of the phones that it was live for nothing is kept.
     fn close(&mut self, session: u32)
-        requires { IsSome (closed_place self.old session) }
+        requires { HasClose self.old session }
         ensures { Closes self.old self.new session }
     {
-        let Ok(()) = self.closes.set(session, true) else {
-            unreachable!();
-        };
+        self.mark(session);
+        self.lives.forget_number(session);
+    }
+
+    fn mark(&mut self, session: u32)
+        requires { HasClose self.old session }
+        ensures { Marks self.old self.new session }
+    {
+        self.closes.mark(session);
     }
 }

@@ -4,9 +4,11 @@
 mod code;
 mod copying;
 mod desk;
+mod flags;
 mod history;
 mod hub;
 mod index;
+mod journal;
 mod laws;
 mod log;
 mod lookup;
@@ -20,5 +22,6 @@ pub use code::code_of;
 pub use desk::HubOpening;
 pub use history::{holder, is_closed, is_live};
 pub use hub::Hub;
+pub use journal::{GhostJournal, Journal};
 pub use laws::{law_answers, law_histories, law_units};
 pub use request::{Entry, Fleet, Reply, Request};

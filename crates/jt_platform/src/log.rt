@@ -3,9 +3,10 @@
 ghost use Rattle.std.specs.Prelude.{◌≡◌, ◌≤◌, ◌<◌, ◌-◌, ◌++◌, ◌∷◌, [], ℕ, OnOk, OnErr, IsSome, true, false};
 ghost use Rattle.jt_value.specs.Sameness.{key_of};
 ghost use Rattle.jt_platform.specs.History.{newest, live, closed, holder as held_by};
-ghost use Rattle.jt_platform.specs.Index.{Logged, empty, IsReady, KeepsPlaces, HasPlaces, is_let_in, closed_place};
+ghost use Rattle.jt_platform.specs.Index.{Logged, empty, IsReady, KeepsPlaces, HasPlaces, is_let_in, HasClose};
 
 use crate::index::Index;
+use crate::journal::Journal;
 use crate::request::{Entry, Request};
 use jt_value::{Buffer, Memory, Phone, Seq};
 use std::alloc::Global;
@@ -13,36 +14,41 @@ use std::marker::Model;
 
 // The entries, oldest first, and tables that tell what they say of sessions and holders.
 #[derive(Drop)]
-pub(crate) struct Log {
-    entries: Buffer<Entry>,
+pub(crate) struct Log<J: Journal> {
+    entries: J,
     index: Index,
 }
 
-impl Model for Log {
+impl<J: Journal> Model for Log<J> {
     ghost use Rattle.jt_platform.specs.Index.{Logged, IsIndex};
     ghost use Rattle.jt_platform.specs.History.{newest};
 
     ghost Value = { Logged };
 
-    ghost view = { λ log. record { entries = log.entries.items; spare = log.entries.spare; index = log.index } };
+    ghost view = { λ log. record { entries = J.entries log.entries; spare = J.spare log.entries; index = log.index } };
 
-    ghost invariant = { λ log. IsIndex log.index (newest log.entries.items) };
+    ghost invariant = { λ log. IsIndex log.index (newest (J.entries log.entries)) };
 }
 
-impl Log {
-    pub(crate) fn new(alloc: Global) -> Log
+impl<J: Journal> Log<J> {
+    pub(crate) fn new(alloc: Global) -> Log<J>
         ensures { result ≡ record { entries = []; spare = 0; index = empty } }
     {
         Log {
-            entries: Buffer::new(alloc),
+            entries: J::new(alloc),
             index: Index::new(alloc),
         }
     }
 
-    pub(crate) fn entries(&self) -> &[Entry]
-        ensures { result.now ≡ self.now.entries }
+    // The log of a journal that has no entries yet.
+    pub(crate) fn over(alloc: Global, entries: J) -> Log<J>
+        requires { J.entries entries ≡ [] }
+        ensures { result ≡ record { entries = []; spare = J.spare entries; index = empty } }
     {
-        self.entries.as_slice()
+        Log {
+            entries,
+            index: Index::new(alloc),
+        }
     }
 
     pub(crate) fn is_closed(&self, session: u32) -> bool
@@ -103,7 +109,7 @@ impl Log {
     fn place_close(&mut self, session: u32) -> Result<(), Memory>
         ensures entries { self.new.entries ≡ self.old.entries }
         ensures spare { self.new.spare ≡ self.old.spare }
-        ensures made { OnOk result (IsSome (closed_place self.new.index session)) }
+        ensures made { OnOk result (HasClose self.new.index session) }
         ensures kept { KeepsPlaces self.old.index self.new.index }
     {
         self.index.place_close(session)
@@ -120,9 +126,15 @@ impl Log {
         ensures kept { KeepsPlaces self.old.index self.new.index }
     {
         self.index.note(entry.session, &entry.request, &entry.reply);
-        let Ok(()) = self.entries.push(entry) else {
-            unreachable!();
-        };
+        self.entries.push(entry);
+    }
+}
+
+impl Log<Buffer<Entry>> {
+    pub(crate) fn entries(&self) -> &[Entry]
+        ensures { result.now ≡ self.now.entries }
+    {
+        self.entries.as_slice()
     }
 
     pub(crate) fn into_seq(self) -> Seq<Entry>

@@ -1,10 +1,11 @@
-//! Maps whose keys stay.
+//! Maps whose keys stay until they are let go.
 
-ghost use Rattle.std.specs.Prelude.{◌≡◌, [], IfOk, OnOk, OnErr, IsOk, IsSome, Some, option_copied, if◌then◌else◌};
+ghost use Rattle.std.specs.Prelude.{◌≡◌, [], IfOk, OnOk, OnErr, IsOk, IsSome, Some, None, option_copied, if◌then◌else◌, filter, not, ◌==◌};
 ghost use Rattle.std.specs.BTreeMap.{is_at};
 ghost use Rattle.std.specs.Map.{lookup};
 ghost use Rattle.std.specs.Option.{unwrap_or};
 
+use jt_store::Digits;
 use jt_value::Memory;
 use std::alloc::Global;
 use std::collections::BTreeMap;
@@ -61,5 +62,22 @@ impl<K: Ord + Drop, V: Drop> Lookup<K, V> {
             return Ok(());
         }
         self.set(key, value)
+    }
+
+    // Lets the key go, with its value, where it has one.
+    pub(crate) fn forget(&mut self, key: &K)
+        ensures { (q : K) → lookup (is_at (K.cmp q)) self.new
+            ≡ (if is_at (K.cmp key.now) q then None else lookup (is_at (K.cmp q)) self.old) }
+    {
+        self.values.remove(key);
+    }
+}
+
+impl<V: Drop> Lookup<(u32, Digits), V> {
+    // Lets all keys of this number go.
+    pub(crate) fn forget_number(&mut self, number: u32)
+        ensures { self.new ≡ filter (λ e. not (number == e.0.0)) self.old }
+    {
+        self.values.retain(|key, _value| number != key.0);
     }
 }

@@ -14,11 +14,14 @@ use Rattle.atomic_table.specs.contracts.shared.Seat as seat
 use Rattle.atomic_table.specs.contracts.shared.Shared as shared
 use Rattle.atomic_table.specs.declared.shared.TableRule as rule
 use Rattle.jt_store.specs.declared.keeper.Keeper as keeper
+use Rattle.jt_value.specs.contracts.buffer.Buffer
 use Rattle.jt_turn.specs.contracts.pass.Pass
 use Rattle.jt_turn.specs.contracts.turn.Turn
 use Rattle.jt_platform.specs.contracts.desk.HubDesk.TheImpl.{ghosts, no_dict}
 use Rattle.jt_platform.specs.contracts.desk.HubOpening
 use Rattle.jt_platform.specs.contracts.hub.Hub
+use Rattle.jt_platform.specs.contracts.journal.BufferEntryJournal.TheImpl.{ghosts as kept}
+use Rattle.jt_platform.specs.contracts.request.Entry
 use Rattle.jt_platform.specs.contracts.request.Reply
 use Rattle.jt_platform.specs.contracts.request.Request
 use Rattle.jt_session.specs.contracts.report.Report
@@ -41,23 +44,27 @@ lease_sync T A g f = record { shared = λ d b o ν q. part_keyless (lease.the_ro
 option_send : (R : RattleType) → IsSend R → IsSend (Option.the_row R)
 option_send R s = search (sendable, crosses) depth 20
 
+-- the journal of a hub that keeps all entries
+abbrev Kept : RattleType
+Kept = Buffer.the_row Entry.the_row
+
 module _ (P : RattleType) (k : keeper.Ghosts P.Denot) (s : IsSend P) where
-  pub hub_send : IsSend (Hub.the_row P k)
+  pub hub_send : IsSend (Hub.the_row P Kept k kept)
   hub_send = search (sendable, crosses, maps) depth 40 fits 100000
 
-  may_send : IsSend (Option.the_row (Hub.the_row P k))
-  may_send = option_send (Hub.the_row P k) hub_send
+  may_send : IsSend (Option.the_row (Hub.the_row P Kept k kept))
+  may_send = option_send (Hub.the_row P Kept k kept) hub_send
 
-  its_seat_send : (V : RattleType) → IsSend (seat.the_row (Option.the_row (Hub.the_row P k)) V)
-  its_seat_send V = seat_send (Option.the_row (Hub.the_row P k)) V may_send
+  its_seat_send : (V : RattleType) → IsSend (seat.the_row (Option.the_row (Hub.the_row P Kept k kept)) V)
+  its_seat_send V = seat_send (Option.the_row (Hub.the_row P Kept k kept)) V may_send
 
-  pub pass_send : IsSend (Pass.the_field (Hub.the_row P k) Request.the_row Reply.the_row (Option.the_row (HubOpening.the_row P)) (ghosts P k no_dict)).row
+  pub pass_send : IsSend (Pass.the_field (Hub.the_row P Kept k kept) Request.the_row Reply.the_row (Option.the_row (HubOpening.the_row P)) (ghosts P Kept k no_dict kept no_dict no_dict)).row
   pass_send = search (its_seat_send, view_send, recorded_send, struct_send, sendable) depth 20 fits 10000
 
-  its_shared_sync : (V K T : RattleType) (g : rule.Ghosts T.Denot (Option.the_row (Hub.the_row P k)).Denot V.Denot K.Denot) → IsSync (shared.the_row (Option.the_row (Hub.the_row P k)) V K T g)
-  its_shared_sync V K T g = shared_sync (Option.the_row (Hub.the_row P k)) V K T g may_send
+  its_shared_sync : (V K T : RattleType) (g : rule.Ghosts T.Denot (Option.the_row (Hub.the_row P Kept k kept)).Denot V.Denot K.Denot) → IsSync (shared.the_row (Option.the_row (Hub.the_row P Kept k kept)) V K T g)
+  its_shared_sync V K T g = shared_sync (Option.the_row (Hub.the_row P Kept k kept)) V K T g may_send
 
-  pub turn_sync : IsSync (Turn.the_field (Hub.the_row P k) Request.the_row Reply.the_row (Option.the_row (HubOpening.the_row P)) (ghosts P k no_dict)).row
+  pub turn_sync : IsSync (Turn.the_field (Hub.the_row P Kept k kept) Request.the_row Reply.the_row (Option.the_row (HubOpening.the_row P)) (ghosts P Kept k no_dict kept no_dict no_dict)).row
   turn_sync = search (its_shared_sync, lease_sync, sendable, crosses) depth 20 fits 10000
 
 report_send : IsSend Report.the_field.row

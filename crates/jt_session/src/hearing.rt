@@ -9,7 +9,7 @@ ghost use Rattle.jt_session.specs.Hearing.{Hears, IsSamePass};
 use crate::end::{End, Fed};
 use crate::session::Session;
 use crate::step::Step;
-use jt_platform::{Hub, Request};
+use jt_platform::{Hub, Journal, Request};
 use jt_store::Keeper;
 use jt_stream::law_front;
 use jt_turn::{Pass, Turn};
@@ -17,11 +17,11 @@ use jt_value::Buffer;
 use std::sync::Wait;
 
 // Asks the hub what the frame that waits wants, and answers the frame.
-fn ask<R: Wait, P: Keeper>(
+fn ask<R: Wait, P: Keeper, J: Journal>(
     rt: &R,
     session: &mut Session,
-    turn: &Turn<Hub<P>>,
-    pass: &mut Pass<Hub<P>>,
+    turn: &Turn<Hub<P, J>>,
+    pass: &mut Pass<Hub<P, J>>,
     request: Request,
     out: &mut Buffer<u8>,
 ) -> Fed
@@ -46,11 +46,11 @@ fn ask<R: Wait, P: Keeper>(
 }
 
 // Takes octets up to the first frame that asks something, or all, and asks the hub.
-fn hear_some<R: Wait, P: Keeper>(
+fn hear_some<R: Wait, P: Keeper, J: Journal>(
     rt: &R,
     session: &mut Session,
-    turn: &Turn<Hub<P>>,
-    pass: &mut Pass<Hub<P>>,
+    turn: &Turn<Hub<P, J>>,
+    pass: &mut Pass<Hub<P, J>>,
     octets: &[u8],
     out: &mut Buffer<u8>,
 ) -> (usize, Fed)
@@ -83,11 +83,11 @@ fn hear_some<R: Wait, P: Keeper>(
 
 /// Takes the octets and asks the turn's hub what they want, one request after the other, and puts the answers behind `out`.
 /// `On` where all octets were taken, and `Stop` with what ended the session; octets behind that item have no effect.
-pub(crate) fn hear<R: Wait, P: Keeper>(
+pub(crate) fn hear<R: Wait, P: Keeper, J: Journal>(
     rt: &R,
     session: &mut Session,
-    turn: &Turn<Hub<P>>,
-    pass: &mut Pass<Hub<P>>,
+    turn: &Turn<Hub<P, J>>,
+    pass: &mut Pass<Hub<P, J>>,
     octets: &[u8],
     out: &mut Buffer<u8>,
 ) -> Fed

@@ -16,7 +16,7 @@ use crate::hearing::hear;
 use crate::report::Report;
 use crate::session::Session;
 use jt_outside::{Link, LinkGot, write_front};
-use jt_platform::{Hub, Request};
+use jt_platform::{Hub, Journal, Request};
 use jt_store::Keeper;
 use jt_stream::law_frames;
 use jt_turn::{Pass, Turn};
@@ -37,12 +37,12 @@ struct Course {
 }
 
 // Has the session hear the octets, and writes the answers. Answers how many octets were written, and why it ended, if it did.
-fn answer<R: Wait, K: Link, P: Keeper>(
+fn answer<R: Wait, K: Link, P: Keeper, J: Journal>(
     rt: &R,
     alloc: Global,
     link: &mut K,
-    turn: &Turn<Hub<P>>,
-    pass: &mut Pass<Hub<P>>,
+    turn: &Turn<Hub<P, J>>,
+    pass: &mut Pass<Hub<P, J>>,
     session: &mut Session,
     octets: &[u8],
 ) -> (usize, Option<End>)
@@ -79,12 +79,12 @@ fn answer<R: Wait, K: Link, P: Keeper>(
 }
 
 // Reads the link and answers what was read before it reads again, until something ends it.
-fn converse<R: Wait, K: Link, P: Keeper>(
+fn converse<R: Wait, K: Link, P: Keeper, J: Journal>(
     rt: &R,
     alloc: Global,
     link: &mut K,
-    turn: &Turn<Hub<P>>,
-    pass: &mut Pass<Hub<P>>,
+    turn: &Turn<Hub<P, J>>,
+    pass: &mut Pass<Hub<P, J>>,
     session: &mut Session,
     octets: u64,
 ) -> Course
@@ -143,12 +143,12 @@ fn converse<R: Wait, K: Link, P: Keeper>(
 }
 
 // Has a new session of the pass's number serve the link, up to its Close.
-fn serve_open<R: Wait, K: Link, P: Keeper>(
+fn serve_open<R: Wait, K: Link, P: Keeper, J: Journal>(
     rt: &R,
     alloc: Global,
     link: &mut K,
-    turn: &Turn<Hub<P>>,
-    pass: &mut Pass<Hub<P>>,
+    turn: &Turn<Hub<P, J>>,
+    pass: &mut Pass<Hub<P, J>>,
     octets: u64,
 ) -> Report
     requires turn { pass.old.turn ≡ turn.now }
@@ -196,14 +196,14 @@ fn serve_open<R: Wait, K: Link, P: Keeper>(
 /// Serves a link by a pass of a turn over a hub: it reads octets, asks the hub what they want, and writes the answers to the
 /// octets of a read before it reads again; in the end it closes the session, which takes no memory. At most `octets` octets are
 /// taken, from 1 to 2^40. The pass's number is from 1 to the hub's reserved one, and it made no entry yet.
-pub fn serve_link_within<R: Wait, K: Link, P: Keeper>(
+pub fn serve_link_within<R: Wait, K: Link, P: Keeper, J: Journal>(
     rt: &R,
     alloc: Global,
     link: &mut K,
-    turn: &Turn<Hub<P>>,
-    mut pass: Pass<Hub<P>>,
+    turn: &Turn<Hub<P, J>>,
+    mut pass: Pass<Hub<P, J>>,
     octets: u64,
-) -> (Report, Pass<Hub<P>>)
+) -> (Report, Pass<Hub<P, J>>)
     requires turn { pass.turn ≡ turn.now }
     requires number { (1 ≤ pass.number) × IsSomeAnd pass.opening (λ o. pass.number ≤ o.reserved) }
     requires new { pass.mine ≡ [] }
@@ -225,13 +225,13 @@ pub fn serve_link_within<R: Wait, K: Link, P: Keeper>(
 }
 
 /// Serves a link as `serve_link_within` does, up to 2^40 octets.
-pub fn serve_link<R: Wait, K: Link, P: Keeper>(
+pub fn serve_link<R: Wait, K: Link, P: Keeper, J: Journal>(
     rt: &R,
     alloc: Global,
     link: &mut K,
-    turn: &Turn<Hub<P>>,
-    pass: Pass<Hub<P>>,
-) -> (Report, Pass<Hub<P>>)
+    turn: &Turn<Hub<P, J>>,
+    pass: Pass<Hub<P, J>>,
+) -> (Report, Pass<Hub<P, J>>)
     requires turn { pass.turn ≡ turn.now }
     requires number { (1 ≤ pass.number) × IsSomeAnd pass.opening (λ o. pass.number ≤ o.reserved) }
     requires new { pass.mine ≡ [] }

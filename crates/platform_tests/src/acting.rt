@@ -2,7 +2,7 @@
 
 ghost use Rattle.std.specs.Prelude.{◌≡◌, ◌≤◌, [], IfOk};
 
-use jt_platform::{Fleet, Hub, Reply, Request, code_of, holder, is_closed, is_live};
+use jt_platform::{Fleet, GhostJournal, Hub, Reply, Request, code_of, holder, is_closed, is_live};
 use jt_register::Register;
 use jt_store::{Keeper, MemKeeper};
 use jt_value::{Edition, Memory, Octets, Phone, Seq};
@@ -54,8 +54,8 @@ pub enum Told {
 /// The session, who asks what, by which two numbers, and what is to be told.
 pub type Step = (u32, Who, Ask, u16, u8, Told, u64);
 
-// A code that is not the phone's own is told as 1.
-fn told_by(reply: &Reply, phone: &Phone) -> (Told, u64) {
+/// The reply in short. A code that is not the phone's own is told as 1.
+pub fn told_by(reply: &Reply, phone: &Phone) -> (Told, u64) {
     match reply {
         Reply::Registered(code) => {
             let is_own = code.as_slice() == code_of(SECRET, phone).as_slice();
@@ -137,7 +137,8 @@ fn unit(alloc: Global, phone: Phone, serial: u16, octet: u8) -> Result<Request, 
     })
 }
 
-fn request(
+/// The request in short.
+pub fn request(
     alloc: Global,
     phone: Phone,
     ask: Ask,
@@ -205,6 +206,32 @@ pub fn hub(alloc: Global, limit: u64, failing: &[u64]) -> Result<Hub<MemKeeper>,
     let secret = octets(alloc, SECRET)?;
     let keeper = keeper(alloc, limit, failing)?;
     hub_over(alloc, keeper, fleet, secret)
+}
+
+fn ghostly_over(
+    alloc: Global,
+    keeper: MemKeeper,
+    fleet: Fleet,
+    secret: Octets,
+) -> Result<Hub<MemKeeper, GhostJournal>, Memory> {
+    match Hub::begin(alloc, keeper, fleet, secret) {
+        Ok(hub) => Ok(hub),
+        Err((_keeper, memory)) => Err(memory),
+    }
+}
+
+/// A hub as `hub` makes it, but that it keeps no entries.
+pub fn ghostly(
+    alloc: Global,
+    limit: u64,
+    failing: &[u64],
+) -> Result<Hub<MemKeeper, GhostJournal>, Memory>
+    requires { limit ≤ 1000000000 }
+{
+    let fleet = fleet(alloc)?;
+    let secret = octets(alloc, SECRET)?;
+    let keeper = keeper(alloc, limit, failing)?;
+    ghostly_over(alloc, keeper, fleet, secret)
 }
 
 // What a scan of the history says of the session's right: NotLive, Fenced with the holder, or neither.

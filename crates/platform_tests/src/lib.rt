@@ -4,6 +4,10 @@
 #[cfg(test)]
 mod acting;
 #[cfg(test)]
+mod chance;
+#[cfg(test)]
+mod journaling;
+#[cfg(test)]
 mod tests;
 #[cfg(test)]
 mod turning;

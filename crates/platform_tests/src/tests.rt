@@ -1,4 +1,7 @@
 use crate::acting::*;
+use crate::journaling::{
+    ALL_BUT_MEMORY, FAILING, LIMIT, first_untold, held_by, last_of, marks_beside_ghost,
+};
 use crate::turning::by_turn;
 use jt_platform::code_of;
 use std::test::*;
@@ -208,4 +211,49 @@ fn a_hub_behind_a_turn(rt: HostRuntime) {
     assert!(rt; hub.history().len() == 5);
     let mut keeper = keeper_of(hub);
     assert!(rt; last_row(rt.alloc(), &mut keeper, Who::First) == Some(2));
+}
+
+#[test]
+fn a_hub_replies_the_same_whatever_its_journal_keeps(rt: HostRuntime) {
+    let mut keeps = hub(rt.alloc(), LIMIT, FAILING).expect(&rt, "memory");
+    let marks = marks_beside_ghost(&rt, rt.alloc(), &mut keeps);
+    drop(keeps);
+    assert!(rt; marks == Some(ALL_BUT_MEMORY));
+}
+
+// What a refused authentication and a Close let go is not that of another session, nor of another phone.
+#[test]
+fn closed_sessions_and_denied_phones_are_let_go_alone(rt: HostRuntime) {
+    let steps: &[Step] = &[
+        (1, Who::First, Ask::Register, A, b'1', Told::Registered, 0),
+        (1, Who::First, Ask::Auth, 0, 0, Told::Accepted, 0),
+        (1, Who::First, Ask::OtherAuth, 0, 0, Told::Denied, 1),
+        (1, Who::Second, Ask::Auth, 0, 0, Told::Denied, 1),
+        (2, Who::First, Ask::OtherAuth, 0, 0, Told::Denied, 1),
+        (2, Who::Second, Ask::Auth, 0, 0, Told::Denied, 1),
+        (1, Who::First, Ask::Unit, 2, b'x', Told::Stored, 2),
+        (2, Who::First, Ask::Close, 0, 0, Told::Accepted, 0),
+        (1, Who::First, Ask::Unit, 3, b'x', Told::Stored, 3),
+        (3, Who::First, Ask::Auth, 0, 0, Told::Accepted, 0),
+        (1, Who::First, Ask::Close, 0, 0, Told::Accepted, 0),
+        (3, Who::First, Ask::Unit, 4, b'x', Told::Stored, 4),
+        (1, Who::First, Ask::Auth, 0, 0, Told::NotLive, 0),
+        (2, Who::First, Ask::Unit, 5, b'x', Told::NotLive, 0),
+        (3, Who::First, Ask::Close, 0, 0, Told::Accepted, 0),
+        (3, Who::First, Ask::Other, 0, 0, Told::NotLive, 0),
+        (4, Who::Second, Ask::Register, B, b'2', Told::Registered, 0),
+        (4, Who::Second, Ask::Auth, 0, 0, Told::Accepted, 0),
+        (4, Who::First, Ask::Other, 0, 0, Told::NotLive, 0),
+        (4, Who::First, Ask::Auth, 0, 0, Told::Accepted, 0),
+        (4, Who::Second, Ask::Deregister, 0, 0, Told::Accepted, 0),
+        (4, Who::First, Ask::Other, 0, 0, Told::Accepted, 0),
+        (4, Who::Second, Ask::Other, 0, 0, Told::NotLive, 0),
+    ];
+    let mut hub = ghostly(rt.alloc(), 100, &[]).expect(&rt, "memory");
+    let untold = first_untold(rt.alloc(), &mut hub, steps);
+    let held = held_by(&hub, 4);
+    let row = last_of(rt.alloc(), hub, Who::First);
+    assert!(rt; untold == None);
+    assert!(rt; held == (true, false));
+    assert!(rt; row == Some(4));
 }

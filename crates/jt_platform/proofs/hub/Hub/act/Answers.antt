@@ -1,4 +1,4 @@
-use Rattle.std.proofs.Common.{sym, refl, ◌∙◌}
+use Rattle.std.proofs.Common.{sym, refl, ◌∙◌, rules}
 use Rattle.jt_platform.proofs.Acting.{legal_acted, room_close, room_entry, at_acted, owed_counts}
 use Rattle.jt_platform.proofs.Making.{ready_close}
 use Rattle.jt_platform.proofs.hub.Hub.act.Goals as goal
@@ -19,6 +19,19 @@ overflow_sub-self g c =
     let inside = c.self.inside in
     owed_counts c.is_owed_close-is_owed.result inside.log.entries inside.log.entries c.args.request.now c.args.session inside.reserved inside.owed inside.log.spare
     c.self.invariant.1 c.is_owed_close-is_owed.ensures refl c.if-is_owed.true
+
+pub invariant_of-self : goal.invariant_of-self
+invariant_of-self g c =
+    rw (c.make_room.ensures.entries, c.in_default-make_room.ensures.same)
+    (c.self.invariant.0, c.self.invariant.1, c.self.invariant.2, λ s above upto. c.make_room.ensures.kept s (c.self.invariant.3 s above upto))
+
+pub invariant_of-self-then-not-makes_entry : goal.invariant_of-self-then-not-makes_entry
+invariant_of-self-then-not-makes_entry g c = (
+  search rules,
+  search rules,
+  rw c.make_room.ensures.entries c.self.invariant.2,
+  λ s above upto. c.make_room.ensures.kept s (c.self.invariant.3 s above upto),
+)
 
 pub invariant_of-self-then-is_owed : goal.invariant_of-self-then-is_owed
 invariant_of-self-then-is_owed g c =

@@ -1,0 +1,3 @@
+pub mod Logfmt
+pub mod Time
+pub mod Rate

@@ -1,0 +1,37 @@
+//! The command `check`.
+
+use crate::folder::{Trouble, read_fleet_of, read_settings_of};
+use dewfelt_settings::{Choices, Settings};
+use jt_platform::Fleet;
+use std::alloc::{AllocError, Global};
+use std::rt::Files;
+
+fn text_of(
+    alloc: Global,
+    folder: &str,
+    settings: &Settings,
+    fleet: &Fleet,
+) -> Result<String, AllocError> {
+    let plates = fleet.plates.len();
+    let terminals = fleet.terminals.len();
+    let listen = settings.listen;
+    let links = settings.links.number;
+    format!(in alloc;
+        "{folder}: plates={plates} terminals={terminals} links={links} listen={listen}\n"
+    )
+}
+
+/// Reads the files of a folder. Says what a service would be, or what is wrong.
+pub fn check<R: Files + AllocGlobal>(
+    rt: &R,
+    folder: &str,
+    words: &Choices,
+) -> Result<String, Trouble> {
+    let file = read_settings_of(rt, folder)?;
+    let (_secret, fleet) = read_fleet_of(rt, folder)?;
+    let settings = Settings::of(words, &file);
+    match text_of(rt.alloc(), folder, &settings, &fleet) {
+        Ok(text) => Ok(text),
+        Err(_) => Err(Trouble::memory(rt.alloc())),
+    }
+}

@@ -1,0 +1,17 @@
+//! The commands of `dewfelt` over a folder: what is served, what is wrong with its files, and the lines of what happens.
+#![tactic(auto)]
+
+mod checking;
+mod folder;
+mod naming;
+mod seen;
+mod serving;
+mod status;
+mod told;
+mod writing;
+
+pub use checking::check;
+pub use folder::{Locked, Trouble, lock, path_in, read_fleet_of, read_settings_of};
+pub use serving::{Service, serve};
+pub use status::Status;
+pub use told::Told;

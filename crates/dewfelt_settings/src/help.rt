@@ -1,0 +1,23 @@
+//! What `--help` and `--version` say.
+
+/// The line of `--version`.
+pub const VERSION: &str = "dewfelt 0.1.0\n";
+
+/// The text of `--help`.
+pub const HELP: &str = "dewfelt: a platform for JT/T 808 terminals
+
+  dewfelt serve DIR [OPTIONS]   serve the fleet of the file DIR/fleet; rows go into DIR/platform.db
+  dewfelt check DIR [OPTIONS]   say what is wrong with DIR/fleet and DIR/dewfelt.toml, and start nothing
+  dewfelt --help                this text
+  dewfelt --version             the version
+
+Options. Each but the last may stand in DIR/dewfelt.toml too, as links = 1024; a word wins over the file.
+
+  --listen ADDRESS:PORT         where to listen; of IPv6 as [::]:8808 (default 0.0.0.0:8808)
+  --links N                     so many links at a time, 1 to 10000; the next one is closed at once (default 1024)
+  --quiet SECONDS               a link that is quiet for so long is ended, 1 to 86400 (default 180)
+  --strangers N                 so many of the links may be of terminals that were not let in (default half of the links)
+  --strangers-of-address N      so many of these may come from one address (default: no limit)
+  --http none                   the interface for other programs, which is not there yet (default none)
+  --until-input-ends            end when standard input ends
+";

@@ -1,0 +1,20 @@
+//! What `dewfelt` is told: by the words of its command line and by the text of dewfelt.toml.
+#![tactic(auto)]
+
+mod choices;
+mod command;
+mod file;
+mod help;
+mod key;
+mod number;
+mod settings;
+mod wrong;
+
+pub use choices::Choices;
+pub use command::{Command, read_command};
+pub use file::read_file;
+pub use help::{HELP, VERSION};
+pub use key::Key;
+pub use number::{Count, Seconds};
+pub use settings::Settings;
+pub use wrong::{Cause, Wrong};

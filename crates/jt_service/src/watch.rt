@@ -1,0 +1,153 @@
+//! What the threads of a service share, and what its caller may ask of it meanwhile.
+
+use crate::cut::{Away, Cut};
+use crate::limits::Limits;
+use crate::seats::{Counts, Seat, Seats};
+use crate::telling::Tell;
+use jt_platform::{Entry, Reply, Request};
+use jt_value::{Memory, Phone};
+use std::alloc::Global;
+use std::net::SocketAddr;
+use std::sync::atomic::{AtomicBool, Ordering};
+use std::sync::{Arc, Mutex, Wait};
+use std::time::Clock;
+
+const MILLISECONDS: u64 = 1_000;
+
+/// What a service and its caller share while it runs: who is told, which links are served, and whether it is to stop.
+#[derive(Drop)]
+pub struct Watch<T> {
+    stops: Arc<AtomicBool>,
+    seats: Mutex<Seats>,
+    told: Mutex<T>,
+}
+
+/// The present moment in milliseconds, from an arbitrary start on; 0 where the clock can't be read.
+pub(crate) fn moment<R: Clock>(rt: &R) -> u64 {
+    match rt.monotonic() {
+        Ok(since) => u64::try_from(since.as_millis()).unwrap_or(u64::MAX),
+        Err(_) => 0,
+    }
+}
+
+impl<T: Tell> Watch<T> {
+    /// Nothing is served yet. The service ends once the flag is set, by `stop` or by any other who has it; one that is set already
+    /// lets no link in.
+    pub fn new(alloc: Global, told: T, stops: Arc<AtomicBool>) -> Watch<T> {
+        Watch {
+            stops,
+            seats: Mutex::new(Seats::new(alloc)),
+            told: Mutex::new(told),
+        }
+    }
+
+    /// Who is told. While it is held, who has something to tell waits, also the hub.
+    pub fn told(&self) -> &Mutex<T> {
+        &self.told
+    }
+
+    /// Who was told.
+    pub fn into_told(self) -> T {
+        let Watch {
+            stops: _,
+            seats: _,
+            told,
+        } = self;
+        told.into_inner()
+    }
+
+    /// Has the service end: no link is accepted, and those that are served end at their next read or write. A read wakes within a
+    /// second, a write that nobody takes within a minute; a call of the hub is done first.
+    pub fn stop(&self) {
+        self.stops.store(true, Ordering::SeqCst);
+    }
+
+    /// Whether the service is to end.
+    pub fn is_stopped(&self) -> bool {
+        self.stops.load(Ordering::SeqCst)
+    }
+
+    /// Ends the links on which the phone was let in, at their next read or write.
+    pub fn dismiss<R: Wait>(&self, rt: &R, phone: &Phone) {
+        self.seats.lock(rt).dismiss(phone);
+    }
+
+    /// How many links are served now.
+    pub fn counts<R: Wait>(&self, rt: &R) -> Counts {
+        self.seats.lock(rt).counts()
+    }
+
+    // Makes places for so many links.
+    pub(crate) fn open<R: Wait>(&self, rt: &R, count: u32) -> Result<(), Memory> {
+        self.seats.lock(rt).open(count)
+    }
+
+    // A place for a link that comes now.
+    pub(crate) fn admit<R: Wait>(
+        &self,
+        rt: &R,
+        now: u64,
+        peer: Option<SocketAddr>,
+        limits: &Limits,
+    ) -> Result<usize, Away> {
+        self.seats.lock(rt).admit(now, peer, limits)
+    }
+
+    pub(crate) fn name<R: Wait>(&self, rt: &R, place: usize, session: u32) {
+        self.seats.lock(rt).name(place, session);
+    }
+
+    pub(crate) fn leave<R: Wait>(&self, rt: &R, place: usize) {
+        self.seats.lock(rt).leave(place);
+    }
+
+    // The phone that was let in on the link in this place.
+    pub(crate) fn phone<R: Wait>(&self, rt: &R, place: usize) -> Option<Phone> {
+        self.seat(rt, place)?.phone
+    }
+
+    fn seat<R: Wait>(&self, rt: &R, place: usize) -> Option<Seat> {
+        self.seats.lock(rt).get(place)
+    }
+
+    // Sees an entry as the hub makes it.
+    pub(crate) fn note<R: Wait>(&self, rt: &R, entry: &Entry) {
+        match (&entry.request, &entry.reply) {
+            (Request::Auth { phone, code: _ }, Reply::Accepted) => {
+                self.seats.lock(rt).let_in(entry.session, *phone);
+                let mut told = self.told.lock(rt);
+                told.noted(entry);
+                told.let_in(entry.session, phone);
+            }
+            _ => self.told.lock(rt).noted(entry),
+        }
+    }
+
+    // Why the link in this place is to end, which sent so many octets.
+    pub(crate) fn verdict<R: Wait + Clock>(
+        &self,
+        rt: &R,
+        place: usize,
+        octets: u64,
+        limits: &Limits,
+    ) -> Option<Cut> {
+        if self.is_stopped() {
+            return Some(Cut::Stopped);
+        }
+        let seat = self.seat(rt, place)?;
+        if seat.cut.is_some() {
+            return seat.cut;
+        }
+        if seat.phone.is_some() {
+            return None;
+        }
+        if octets >= limits.stranger_octets {
+            return Some(Cut::StrangerOctets);
+        }
+        let most = limits.stranger_seconds.saturating_mul(MILLISECONDS);
+        if moment(rt).saturating_sub(seat.since) >= most {
+            return Some(Cut::StrangerTime);
+        }
+        None
+    }
+}

@@ -1,0 +1,9 @@
+//! Tests of a platform that runs on.
+#![tactic(auto)]
+
+#[cfg(test)]
+mod counting;
+#[cfg(test)]
+mod links;
+#[cfg(test)]
+mod rows;

@@ -1,0 +1,201 @@
+//! Links and a door in memory.
+
+ghost use Rattle.std.specs.Prelude.{◌≡◌, ◌<◌, None, length};
+ghost use Rattle.jt_outside.specs.Sink.{TakesOctets, WriteHasCause};
+ghost use Rattle.jt_outside.specs.Link.{Reads, ReadHasCause};
+ghost use Rattle.jt_outside.specs.Adapters.{inbound_of};
+
+use crate::counting::Counting;
+use jt_outside::{Link, LinkGot, Put, Sink};
+use jt_service::{Arrived, Door, Watch};
+use jt_value::{Edition, Phone};
+use std::marker::Model;
+use std::net::{IpAddr, Ipv4Addr, SocketAddr};
+use std::sync::Wait;
+use std::thread;
+use std::time::{Clock, Duration};
+
+const PHONE: Phone = Phone {
+    edition: Edition::E2013,
+    digits: [0, 0, 0, 0, 0x33, 0x34, 0x35, 0x36, 0x37, 0x38],
+};
+
+fn peer() -> SocketAddr {
+    SocketAddr::new(IpAddr::V4(Ipv4Addr::new(127, 0, 0, 1)), 41_022)
+}
+
+/// A link that gives octets, and then ends, or is quiet for ever. It takes what is written.
+#[derive(Drop)]
+pub struct TestLink {
+    octets: &'static [u8],
+    stays: bool,
+    faults: u64,
+    quiets: u64,
+    run: u64,
+}
+
+impl Model for TestLink {
+    ghost use Rattle.std.specs.Prelude.{◌≤◌, ◌-◌, ◌^◌};
+    ghost use Rattle.jt_outside.specs.Adapters.{Counted};
+
+    ghost Value = { Counted };
+
+    ghost view = { λ l. record { faults = l.faults; quiets = l.quiets; run = l.run } };
+
+    ghost invariant = { λ l. (l.faults ≤ 2 ^ 64 - 1) × (l.quiets ≤ 2 ^ 64 - 1) };
+}
+
+impl TestLink {
+    pub fn new(octets: &'static [u8], stays: bool) -> TestLink {
+        TestLink {
+            octets,
+            stays,
+            faults: 0,
+            quiets: 0,
+            run: 0,
+        }
+    }
+}
+
+impl Sink for TestLink {
+    ghost written = { λ _. None };
+
+    ghost faults = { λ link. link.faults };
+
+    ghost inbound = { λ link. inbound_of link };
+
+    fn write(&mut self, buf: &[u8]) -> Put
+        requires { 0 < length buf.now }
+        ensures octets { TakesOctets None None result buf.now }
+        ensures cause { WriteHasCause self.old.faults self.new.faults result }
+        ensures inbound { inbound_of self.new ≡ inbound_of self.old }
+    {
+        let _faults = self.faults;
+        Put::Count(buf.len())
+    }
+}
+
+impl Link for TestLink {
+    fn read(&mut self, buf: &mut [u8]) -> LinkGot
+        requires { 0 < length buf.old }
+        ensures octets { Reads (inbound_of self.old) (inbound_of self.new) result buf.new }
+        ensures cause { ReadHasCause self.old.faults self.new.faults
+            (inbound_of self.old) (inbound_of self.new) result }
+    {
+        let octets = self.octets;
+        let count = octets.len().min(buf.len());
+        if count > 0 {
+            buf[..count].copy_from_slice(&octets[..count]);
+            self.octets = &octets[count..];
+            self.run = 0;
+            return LinkGot::Bytes(count);
+        }
+        if self.stays {
+            self.quiets = self.quiets.saturating_add(1);
+            self.run = self.run.saturating_add(1);
+            return LinkGot::Quiet;
+        }
+        LinkGot::End
+    }
+}
+
+/// What a door does next.
+#[derive(Clone, Copy)]
+pub enum Step {
+    /// So many links come that give these octets, and then end, or stay, each once fewer are served than these.
+    Links(u32, &'static [u8], bool, u32),
+    /// It waits until somebody was let in on so many links.
+    LetIn(u32),
+    /// It waits until so many links are served at most.
+    Open(u32),
+    /// It waits for so many seconds.
+    Seconds(u64),
+    /// The terminal of phone 333435363738 is dismissed.
+    Dismisses,
+    /// So many accepts fail.
+    Fails(u32),
+    /// The service is stopped.
+    Stops,
+}
+
+/// A door of these steps, which is over behind the last one.
+#[derive(Drop)]
+pub struct Steps<'w, R> {
+    pub rt: &'w R,
+    pub watch: &'w Watch<Counting>,
+    pub steps: &'static [Step],
+    pub done: u32,
+}
+
+impl<'w, R: Wait + Clock> Steps<'w, R> {
+    fn is_ready(&self, step: Step) -> bool {
+        let counts = self.watch.counts(self.rt);
+        match step {
+            Step::Links(_, _, _, fewer) => counts.open < fewer,
+            Step::LetIn(wanted) => counts.let_in >= wanted,
+            Step::Open(most) => counts.open <= most,
+            Step::Fails(_) | Step::Seconds(_) | Step::Dismisses | Step::Stops => true,
+        }
+    }
+
+    // The step was done once. Whether it is to be done again.
+    fn again(&mut self, wanted: u32) -> bool {
+        self.done = self.done.saturating_add(1);
+        self.done < wanted
+    }
+
+    fn pass_step(&mut self) {
+        if let Some((_, rest)) = self.steps.split_first() {
+            self.steps = rest;
+            self.done = 0;
+        }
+    }
+
+    fn give(&mut self, step: Step) -> Arrived<TestLink> {
+        match step {
+            Step::Links(wanted, octets, stays, _) => {
+                if !self.again(wanted) {
+                    self.pass_step();
+                }
+                Arrived::Link(TestLink::new(octets, stays), Some(peer()))
+            }
+            Step::Fails(wanted) => {
+                if !self.again(wanted) {
+                    self.pass_step();
+                }
+                Arrived::Failed
+            }
+            Step::Stops => {
+                self.watch.stop();
+                self.pass_step();
+                Arrived::Nobody
+            }
+            Step::Seconds(seconds) => {
+                thread::sleep(self.rt, Duration::from_secs(seconds));
+                self.pass_step();
+                Arrived::Nobody
+            }
+            Step::Dismisses => {
+                self.watch.dismiss(self.rt, &PHONE);
+                self.pass_step();
+                Arrived::Nobody
+            }
+            Step::LetIn(_) | Step::Open(_) => {
+                self.pass_step();
+                Arrived::Nobody
+            }
+        }
+    }
+}
+
+impl<'w, R: Wait + Clock> Door for Steps<'w, R> {
+    type Link = TestLink;
+
+    fn next(&mut self) -> Arrived<TestLink> {
+        match self.steps.first() {
+            Some(step) if self.is_ready(*step) => self.give(*step),
+            Some(_) => Arrived::Nobody,
+            None => Arrived::Over,
+        }
+    }
+}
