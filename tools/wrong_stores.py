@@ -17,8 +17,9 @@ import sys
 import tempfile
 
 ROOT = os.path.dirname(os.path.dirname(os.path.realpath(__file__)))
-CRATES = ("jt_value", "jt_layout", "jt_position", "jt_store", "jt_relay", "jt_store_answers", "jt_sql", "sql_tests")
-MODULES = ("connections", "files", "keeper_calls", "keeper_tests", "table_tests", "units", "vault_calls", "vault_tests")
+CRATES = ("jt_value", "jt_layout", "jt_position", "jt_store", "jt_relay", "jt_store_answers", "jt_sql", "store_tests", "sql_tests")
+MODULES = ("connections", "files")
+TESTS = ("keeper_tests", "table_tests", "vault_tests")
 # The file, what stands there once, and what is put in its place.
 WRONG = {
     "two rows in place of one": (
@@ -100,11 +101,12 @@ def copied(to):
     shutil.copyfile(f"{ROOT}/HANDLES", f"{to}/HANDLES")
     tests = f"{to}/crates/sql_tests/src"
     for it in os.listdir(tests):
-        if it.removesuffix(".rt") not in MODULES:
+        if it.removesuffix(".rt") not in MODULES + TESTS:
             os.remove(f"{tests}/{it}")
     with open(f"{tests}/lib.rt", "w") as file:
         file.write("//! Tests of what the tables hold.\n#![tactic(auto)]\n\n")
-        file.writelines(f"#[cfg(test)]\nmod {it};\n" for it in MODULES)
+        file.writelines(f"pub mod {it};\n" for it in MODULES)
+        file.writelines(f"#[cfg(test)]\nmod {it};\n" for it in TESTS)
 
 
 def tried(root):

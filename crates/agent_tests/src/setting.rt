@@ -2,17 +2,16 @@
 
 ghost use Rattle.std.specs.Prelude.{◌≡◌, IfOk, IfSome};
 ghost use Rattle.jt_outside.specs.ScriptLink.{IsUntouched};
-ghost use Rattle.jt_terminal_rule.specs.Messages.{AreSettings};
 ghost use Rattle.jt_terminal_steps.specs.Running.{IsDown};
 
 use jt_agent::{AttemptEnd, Attempted, Outcome};
 use jt_outside::ScriptLink;
 use jt_position::Fix;
-use jt_register::Register;
 use jt_store::MemVault;
-use jt_terminal::{Settings, Terminal};
-use jt_value::{Edition, Memory, Octets, Phone, Seq};
+use jt_terminal::Terminal;
+use jt_value::{Edition, Memory, Octets, Seq};
 use std::alloc::Global;
+use terminal_tests::settings;
 
 /// The terminal's registration, of serial 0.
 const REGISTRATION: &[u8] =
@@ -101,10 +100,6 @@ pub fn frames(alloc: Global, letters: &[u8]) -> Result<Vec<u8>, Memory> {
     Ok(whole)
 }
 
-fn octets(alloc: Global, octets: &[u8]) -> Result<Octets, Memory> {
-    Ok(Octets::from_vec(Vec::from_slice(alloc, octets)?))
-}
-
 /// A link that gives the frames of these letters, and whose call of this number fails.
 pub fn link(alloc: Global, letters: &[u8], failing: u64) -> Result<ScriptLink, Memory>
     ensures { IfOk result (λ link. IsUntouched link) }
@@ -115,47 +110,10 @@ pub fn link(alloc: Global, letters: &[u8], failing: u64) -> Result<ScriptLink, M
     ScriptLink::new(alloc, given, 65_536, calls)
 }
 
-fn register(alloc: Global) -> Result<Register, Memory> {
-    Ok(Register {
-        province: 0,
-        city: 0,
-        maker: octets(alloc, &[0; 5])?,
-        model: octets(alloc, &[0; 20])?,
-        terminal: octets(alloc, b"1234567")?,
-        colour: 1,
-        plate: octets(alloc, b"JT808")?,
-    })
-}
-
-// Good settings of phone 013912345678: heartbeats of 60 seconds, waits of 10 and three repeats.
-fn settings(alloc: Global) -> Option<Settings>
-    ensures { IfSome result AreSettings }
-{
-    let Ok(phone) = Phone::from_octets(Edition::E2013, b"\x01\x39\x12\x34\x56\x78") else {
-        return None;
-    };
-    let Ok(register) = register(alloc) else {
-        return None;
-    };
-    let settings = Settings {
-        phone,
-        register,
-        tail: None,
-        heartbeat: 60,
-        answer: 10,
-        repeats: 3,
-    };
-    if settings.fits() {
-        Some(settings)
-    } else {
-        None
-    }
-}
-
 fn started(alloc: Global, failing: u64) -> Option<Terminal<MemVault>>
     ensures { IfSome result (λ terminal. IsDown terminal.state × (terminal.state.time ≡ 0)) }
 {
-    let settings = settings(alloc)?;
+    let settings = settings(alloc, Edition::E2013)?;
     let mut calls = Seq::new(alloc);
     let Ok(()) = calls.push(failing) else {
         return None;

@@ -98,7 +98,7 @@ impl OrderWorld {
     /// A line of a script. After each answer the world is one to which steps lead. After Ok it is the one that the line defines.
     ///
     /// NoLine comes exactly where the line that is named was not opened. Where as many orders as the limit were issued and one is to
-    /// be, the answer is Full, which comes only there, or Memory. The world is as before at both refusals. Memory comes where memory ran
+    /// be, the answer is Full, which comes only there, or Memory. Where the answer is NoLine or Full the world is as before. Memory comes where memory ran
     /// out, where as many lines were opened as have a number, or where an octet would move yet behind 2^64 - 1 rounds; of the world it is
     /// then said alone that steps lead to it.
     pub fn step(&mut self, alloc: Global, event: OrderEvent) -> Result<(), OrderWorldError>

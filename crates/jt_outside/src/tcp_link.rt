@@ -12,6 +12,8 @@ use std::io;
 use std::io::ErrorKind;
 use std::marker::Model;
 use std::net::{Shutdown, SocketAddr, TcpStream};
+use std::sync::Arc;
+use std::sync::atomic::{AtomicBool, Ordering};
 
 /// A TCP stream as a link. A read that ran into the stream's timeout is quiet, every other error is a fault, and so is a write that
 /// takes nothing, or that runs into the stream's timeout as often as the link waits. What was interrupted is made again, up to 1,000
@@ -21,6 +23,8 @@ pub struct TcpLink {
     stream: Option<TcpStream>,
     // How often a write waits for the stream's timeout.
     waits: u32,
+    // Once it is set, a write waits at most once more.
+    stops: Option<Arc<AtomicBool>>,
     faults: u64,
     quiets: u64,
     run: u64,
@@ -45,6 +49,21 @@ impl TcpLink {
         TcpLink {
             stream: Some(stream),
             waits,
+            stops: None,
+            faults: 0,
+            quiets: 0,
+            run: 0,
+        }
+    }
+
+    /// A link as `new` makes it, whose writes wait for the stream's timeout at most once more after the flag is set.
+    pub fn until(stream: TcpStream, waits: u32, stops: Arc<AtomicBool>) -> TcpLink
+        ensures { result ≡ record { faults = 0; quiets = 0; run = 0 } }
+    {
+        TcpLink {
+            stream: Some(stream),
+            waits,
+            stops: Some(stops),
             faults: 0,
             quiets: 0,
             run: 0,
@@ -72,10 +91,18 @@ fn is_timeout(error: &io::Error) -> bool {
 
 // Writes, and where the other end took nothing in the stream's timeout writes again, so often in all. The system tells of a part
 // that it took only once it has waited for the rest, so one long timeout would be waited for twice.
-fn write_patiently(stream: &mut TcpStream, buf: &[u8], waits: u32) -> io::Result<usize>
+fn write_patiently(
+    stream: &mut TcpStream,
+    buf: &[u8],
+    waits: u32,
+    stops: &Option<Arc<AtomicBool>>,
+) -> io::Result<usize>
     ensures { WritesAtMost result buf.now }
 {
     for _ in 1..waits {
+        if is_set(stops) {
+            break;
+        }
         match write_again(stream, buf) {
             Err(error) if is_timeout(&error) => {}
             answer => return answer,
@@ -84,11 +111,23 @@ fn write_patiently(stream: &mut TcpStream, buf: &[u8], waits: u32) -> io::Result
     write_again(stream, buf)
 }
 
-fn write_stream(stream: &mut Option<TcpStream>, buf: &[u8], waits: u32) -> io::Result<usize>
+fn is_set(stops: &Option<Arc<AtomicBool>>) -> bool {
+    match stops {
+        Some(flag) => flag.load(Ordering::SeqCst),
+        None => false,
+    }
+}
+
+fn write_stream(
+    stream: &mut Option<TcpStream>,
+    buf: &[u8],
+    waits: u32,
+    stops: &Option<Arc<AtomicBool>>,
+) -> io::Result<usize>
     ensures { WritesAtMost result buf.now }
 {
     match stream {
-        Some(stream) => write_patiently(stream, buf, waits),
+        Some(stream) => write_patiently(stream, buf, waits, stops),
         None => Err(io::Error::from(ErrorKind::NotConnected)),
     }
 }
@@ -107,7 +146,7 @@ impl Sink for TcpLink {
         ensures inbound { inbound_of self.new ≡ inbound_of self.old }
         ensures exact { self.new ≡ after_write self.old result }
     {
-        match write_stream(&mut self.stream, buf, self.waits) {
+        match write_stream(&mut self.stream, buf, self.waits, &self.stops) {
             Ok(count) if count > 0 => Put::Count(count),
             _ => {
                 self.faults = self.faults.saturating_add(1);

@@ -1,7 +1,6 @@
 -- Places that are made in a hub's tables.
 use Rattle.std.proofs.Common.{◌≡◌, ◌↔◌, IsTrue, ℕ, List, Bool, true, false, refl, sym, subst}
 use native.Mathlib.Omega.{arith}
-use Rattle.std.specs.Prelude.{IsSome}
 use Rattle.std.specs.Bool.{nat_lt as ltb}
 use Rattle.std.proofs.lemmas.Bool.{ltb-true, ltb-false}
 use Rattle.jt_platform.specs.declared.request.Request.{Request}

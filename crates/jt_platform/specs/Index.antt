@@ -1,6 +1,6 @@
 -- The tables that a hub keeps of its history, and what they tell. A step definition for the proofs, but for `Logged`, which is to be
 -- believed: its entries are the history that a hub shows.
-use Rattle.std.specs.Prelude.{◌≡◌, ◌<◌, ◌≤◌, ℕ, List, [], length, slice_index_or, Bool, true, false, ◌==◌, ◌&&◌, ◌||◌, not, Option, None, Some, IsSome, if◌then◌else◌}
+use Rattle.std.specs.Prelude.{◌≡◌, ◌<◌, ◌≤◌, ℕ, List, [], Bool, true, false, ◌==◌, ◌&&◌, ◌||◌, not, Option, None, Some, IsSome, if◌then◌else◌}
 use Rattle.std.specs.BTreeMap.{is_at}
 use Rattle.std.specs.Cmp.Lexicographic.{slice_cmp}
 use Rattle.std.specs.Map.{lookup}
@@ -12,14 +12,15 @@ use Rattle.jt_platform.specs.declared.request.Request.TheVariants as ask
 use Rattle.jt_platform.specs.declared.request.Reply.{Reply}
 use Rattle.jt_platform.specs.declared.request.Reply.TheVariants as say
 use Rattle.jt_platform.specs.declared.request.Entry.{Entry}
+use Rattle.jt_platform.specs.Marked.{HasMark, is_marked}
 use Rattle.jt_platform.specs.History.{live, closed, holder, is_close, is_accepted_auth, or_else, says_live}
 
--- Who holds each phone, which sessions are live for which phones, and, by number, which are closed. A place that was made before its
--- entry stands there with None or false.
+-- Who holds each phone, which sessions are live for which phones, and the closed sessions, marked by number (Marked). A place that
+-- was made before its entry stands there with None or false.
 pub record Indexed : Type 0 where
   pub holders : List (List ℕ × Option ℕ)
   pub lives : List ((ℕ × List ℕ) × Bool)
-  pub closes : List Bool
+  pub closes : List ℕ
 
 abbrev pub empty : Indexed
 empty = record { holders = []; lives = []; closes = [] }
@@ -34,7 +35,7 @@ live_place x key session = lookup (is_at (λ (q : ℕ × List ℕ). ordering_the
 
 -- the place for a Close of the session
 abbrev pub HasClose : Indexed → ℕ → Type 0
-HasClose x session = session < length x.closes
+HasClose x session = HasMark x.closes session
 
 -- ---- what stands there
 
@@ -45,7 +46,7 @@ abbrev pub live_in : Indexed → List ℕ → ℕ → Bool
 live_in x key session = unwrap_or (live_place x key session) false
 
 abbrev pub closed_in : Indexed → ℕ → Bool
-closed_in x session = slice_index_or x.closes session false
+closed_in x session = is_marked x.closes session
 
 -- The tables tell what the history says. Of a closed session they may tell anything but that it is closed.
 pub record IsIndex (x : Indexed) (h : List Entry) : Type 0 where

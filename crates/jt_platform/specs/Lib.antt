@@ -7,3 +7,4 @@ pub mod Desks
 pub mod Answer
 pub mod Laws
 pub mod Index
+pub mod Marked

@@ -374,6 +374,7 @@ impl<P: Keeper, J: Journal> Hub<P, J> {
             &mut copy,
         );
         if !makes_entry(&reply) {
+            self.log.let_go(session, request);
             return reply;
         }
         let entry = Entry {

@@ -112,6 +112,15 @@ impl Index {
         }
     }
 
+    // Lets the places go that were made for an entry of this request, and that tell nothing.
+    pub(crate) fn let_go(&mut self, session: u32, request: &Request)
+        ensures { Keeps self.old self.new }
+    {
+        if let Request::Auth { phone, code: _ } = request {
+            self.forget_unused(session, phone);
+        }
+    }
+
     // The session is live for the phone now, and holds it, if it was not live before.
     fn let_in(&mut self, session: u32, phone: &Phone)
         requires holder { IsSome (holder_place self.old (key_of phone.now)) }

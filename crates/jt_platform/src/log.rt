@@ -31,6 +31,7 @@ impl<J: Journal> Model for Log<J> {
 }
 
 impl<J: Journal> Log<J> {
+    #[tactic(auto, using(crate::proofs::Marking::none_marked))]
     pub(crate) fn new(alloc: Global) -> Log<J>
         ensures { result ≡ record { entries = []; spare = 0; index = empty } }
     {
@@ -41,6 +42,7 @@ impl<J: Journal> Log<J> {
     }
 
     // The log of a journal that has no entries yet.
+    #[tactic(auto, using(crate::proofs::Marking::none_marked))]
     pub(crate) fn over(alloc: Global, entries: J) -> Log<J>
         requires { J.entries entries ≡ [] }
         ensures { result ≡ record { entries = []; spare = J.spare entries; index = empty } }
@@ -90,6 +92,16 @@ impl<J: Journal> Log<J> {
         ensures kept { KeepsPlaces self.old.index self.new.index }
     {
         self.index.place(session, request)
+    }
+
+    // Lets the places go that were made for an entry of this request, where none was made.
+    #[tactic(auto, using(crate::proofs::Indexing::index_kept))]
+    pub(crate) fn let_go(&mut self, session: u32, request: &Request)
+        ensures entries { self.new.entries ≡ self.old.entries }
+        ensures spare { self.new.spare ≡ self.old.spare }
+        ensures kept { KeepsPlaces self.old.index self.new.index }
+    {
+        self.index.let_go(session, request);
     }
 
     // Makes the places for a Close of each session above one and up to another.

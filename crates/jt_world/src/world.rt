@@ -74,7 +74,7 @@ impl World {
     ///
     /// NoLine comes exactly where the line that is named was not opened. Where as many fixes as the
     /// limit are not accepted and one is to be recorded, the answer is Full, which comes only there, or
-    /// Memory. The world is as before at both refusals. Memory comes where memory ran out, or where as
+    /// Memory. Where the answer is NoLine or Full the world is as before. Memory comes where memory ran out, or where as
     /// many lines were opened as have a number; the line was then done in part.
     pub fn step(&mut self, alloc: Global, event: WorldEvent) -> Result<Seq<Entry>, WorldError>
         ensures leads { Leads self.old.play.world self.new.play.world }

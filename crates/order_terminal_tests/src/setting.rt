@@ -5,72 +5,20 @@ ghost use Rattle.jt_terminal_rule.specs.Messages.{AreSettings};
 
 use jt_order::{MemLog, Performed};
 use jt_order_terminal::{OrderFault, OrderTerminal};
-use jt_register::{AuthTail, Register};
 use jt_store::MemVault;
 use jt_terminal::{Actions, Event, Settings, Terminal};
-use jt_value::{Edition, Memory, Octets, Phone, Seq};
+use jt_value::{Edition, Seq};
 use std::alloc::Global;
 use std::process::Abort;
 
 /// An order terminal over stores in memory.
 pub type Performer = OrderTerminal<MemVault, MemLog>;
 
-fn zeros(alloc: Global, front: &[u8], count: usize) -> Result<Octets, Memory> {
-    let mut octets = Vec::from_slice(alloc, front)?;
-    for _ in 0..count {
-        octets.push(0)?;
-    }
-    Ok(Octets::from_vec(octets))
-}
-
-// How many octets the maker, the model, and the terminal id behind its own seven have.
-fn lengths(edition: Edition) -> (usize, usize, usize) {
-    match edition {
-        Edition::E2013 => (5, 20, 0),
-        Edition::E2019 => (11, 30, 23),
-    }
-}
-
-fn register(alloc: Global, edition: Edition) -> Result<Register, Memory> {
-    let (maker, model, rest) = lengths(edition);
-    Ok(Register {
-        province: 0,
-        city: 0,
-        maker: zeros(alloc, b"", maker)?,
-        model: zeros(alloc, b"", model)?,
-        terminal: zeros(alloc, b"1234567", rest)?,
-        colour: 1,
-        plate: zeros(alloc, b"JT808", 0)?,
-    })
-}
-
-fn tail(edition: Edition) -> Option<AuthTail> {
-    match edition {
-        Edition::E2013 => None,
-        Edition::E2019 => Some(AuthTail {
-            imei: [0; 15],
-            software: [0; 20],
-        }),
-    }
-}
-
 // Heartbeats of 60 seconds, waits of 10 and three repeats.
 fn settings(rt: &impl Abort, alloc: Global, edition: Edition) -> Settings
     ensures { AreSettings result }
 {
-    let settings = Settings {
-        phone: Phone {
-            edition,
-            digits: [0, 0, 0, 0, 0x01, 0x39, 0x12, 0x34, 0x56, 0x78],
-        },
-        register: register(alloc, edition).expect(rt, "there is memory"),
-        tail: tail(edition),
-        heartbeat: 60,
-        answer: 10,
-        repeats: 3,
-    };
-    assert!(rt; settings.fits());
-    settings
+    terminal_tests::settings(alloc, edition).expect(rt, "there is memory")
 }
 
 /// A vault of which no call fails.

@@ -7,6 +7,7 @@ use jt_store::{Keeper, Registered, Row, StoreError};
 use jt_value::{Buffer, Edition, Memory, Octets, Phone, Seq};
 use std::alloc::{AllocError, Global};
 use std::fmt::Write;
+use terminal_tests::octets;
 
 /// The number of a session, and the letters of the frames that it is given and that it writes. A number that stands twice keeps
 /// its right with the hub, and its frames begin at serial 0 again.
@@ -32,10 +33,6 @@ const MOST: usize = 100_000;
 
 /// More rows than a phone has here.
 const MOST_ROWS: u32 = 10;
-
-fn octets(alloc: Global, octets: &[u8]) -> Result<Octets, Memory> {
-    Ok(Octets::from_vec(Vec::from_slice(alloc, octets)?))
-}
 
 fn alone(alloc: Global, name: &[u8]) -> Result<Seq<Octets>, Memory> {
     let name = octets(alloc, name)?;

@@ -1,17 +1,16 @@
 //! A terminal's life over any vault, moment by moment, and what the vault holds then.
 
 ghost use Rattle.std.specs.Prelude.{◌≡◌, IfSome};
-ghost use Rattle.jt_terminal_rule.specs.Messages.{AreSettings};
 
 use crate::frames::frames;
 use crate::platform::push_octets;
 use jt_position::Fix;
-use jt_register::{AuthTail, Register};
 use jt_store::{Loaded, StoreError, Unit, Vault};
-use jt_terminal::{Actions, Event, Settings, Terminal, TerminalError, TerminalLine};
-use jt_value::{Edition, Memory, Octets, Phone};
+use jt_terminal::{Actions, Event, Terminal, TerminalError, TerminalLine};
+use jt_value::{Edition, Memory, Octets};
 use std::alloc::{AllocError, Global};
 use std::fmt::Write;
+use terminal_tests::settings;
 
 /// What happens: a connection begins (O) or is lost (L), a fix at this latitude is recorded (F), the clock is looked at, which
 /// stands (T), or frames of these letters come from the platform (D). Then the letters of the frames that the terminal writes.
@@ -22,70 +21,6 @@ pub type Life = (Edition, &'static [Moment], &'static str);
 
 /// The most octets that come at once.
 const MOST: usize = 100_000;
-
-fn zeros(alloc: Global, front: &[u8], count: usize) -> Result<Octets, Memory> {
-    let mut octets = Vec::from_slice(alloc, front)?;
-    for _ in 0..count {
-        octets.push(0)?;
-    }
-    Ok(Octets::from_vec(octets))
-}
-
-// How many octets the maker, the model, and the terminal id behind its own seven have.
-fn lengths(edition: Edition) -> (usize, usize, usize) {
-    match edition {
-        Edition::E2013 => (5, 20, 0),
-        Edition::E2019 => (11, 30, 23),
-    }
-}
-
-fn register(alloc: Global, edition: Edition) -> Result<Register, Memory> {
-    let (maker, model, rest) = lengths(edition);
-    Ok(Register {
-        province: 0,
-        city: 0,
-        maker: zeros(alloc, b"", maker)?,
-        model: zeros(alloc, b"", model)?,
-        terminal: zeros(alloc, b"1234567", rest)?,
-        colour: 1,
-        plate: zeros(alloc, b"JT808", 0)?,
-    })
-}
-
-fn tail(edition: Edition) -> Option<AuthTail> {
-    match edition {
-        Edition::E2013 => None,
-        Edition::E2019 => Some(AuthTail {
-            imei: [0; 15],
-            software: [0; 20],
-        }),
-    }
-}
-
-// Good settings of phone 013912345678: heartbeats of 60 seconds, waits of 10 and three repeats.
-fn settings(alloc: Global, edition: Edition) -> Option<Settings>
-    ensures { IfSome result AreSettings }
-{
-    let Ok(register) = register(alloc, edition) else {
-        return None;
-    };
-    let settings = Settings {
-        phone: Phone {
-            edition,
-            digits: [0, 0, 0, 0, 0x01, 0x39, 0x12, 0x34, 0x56, 0x78],
-        },
-        register,
-        tail: tail(edition),
-        heartbeat: 60,
-        answer: 10,
-        repeats: 3,
-    };
-    if settings.fits() {
-        Some(settings)
-    } else {
-        None
-    }
-}
 
 // A terminal over what a vault has.
 fn started<V: Vault + Drop>(alloc: Global, edition: Edition, vault: V) -> Option<Terminal<V>>

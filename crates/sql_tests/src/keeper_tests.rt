@@ -1,11 +1,11 @@
 use crate::files::{make_folder, remove_folder};
-use crate::keeper_calls::{Call, Said, first_wrong};
 use jt_sql::SqlKeeper;
 use jt_store::{Keeper, MemKeeper, StoreError};
 use jt_value::{Edition, Memory, Phone, Seq};
 use sqlite::{Alter, Connection};
 use std::alloc::Global;
 use std::test::Fail;
+use store_tests::keeper_calls::{Call, Said, first_wrong};
 
 const EARLIER: Phone = Phone {
     edition: Edition::E2013,

@@ -1,11 +1,11 @@
 use crate::connections::ran;
-use crate::keeper_calls::{Call, Said, first_wrong};
 use jt_sql::SqlKeeper;
 use jt_store::StoreError;
 use jt_value::{Edition, Phone};
 use sqlite::{Alter, Connection};
 use std::alloc::Global;
 use std::test::Fail;
+use store_tests::keeper_calls::{Call, Said, first_wrong};
 
 const PHONE: Phone = Phone {
     edition: Edition::E2013,

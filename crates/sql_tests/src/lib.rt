@@ -1,12 +1,8 @@
-//! Tests of the stores in SQLite files against those in memory.
+//! Tests of the stores in SQLite files against those in memory, and what the tests of such stores have in common.
 #![tactic(auto)]
 
-#[cfg(test)]
-mod connections;
-#[cfg(test)]
-mod files;
-#[cfg(test)]
-mod keeper_calls;
+pub mod connections;
+pub mod files;
 #[cfg(test)]
 mod keeper_tests;
 #[cfg(test)]
@@ -14,17 +10,7 @@ mod left_tests;
 #[cfg(test)]
 mod limit_tests;
 #[cfg(test)]
-mod migration_tests;
-#[cfg(test)]
-mod stop_tests;
-#[cfg(test)]
-mod stopped_files;
-#[cfg(test)]
 mod table_tests;
-#[cfg(test)]
-mod units;
-#[cfg(test)]
-mod vault_calls;
 #[cfg(test)]
 mod vault_tests;
 #[cfg(test)]

@@ -1,11 +1,11 @@
 use crate::files::{make_folder, remove_folder};
-use crate::vault_calls::{Call, Said, first_wrong};
 use jt_sql::SqlVault;
 use jt_store::{MemVault, Vault};
 use jt_value::{Memory, Seq};
 use sqlite::{Alter, Connection};
 use std::alloc::Global;
 use std::test::Fail;
+use store_tests::vault_calls::{Call, Said, first_wrong};
 
 /// Calls of one life of a vault, which is opened anew for the next life, and their answers.
 type Life = &'static [(Call, Said)];

@@ -1,11 +1,11 @@
 use crate::connections::ran;
-use crate::vault_calls;
 use jt_sql::{SqlKeeper, SqlVault};
 use jt_store::{Keeper, StoreError};
 use jt_value::{Edition, Phone};
 use sqlite::{Alter, Connection};
 use std::alloc::Global;
 use std::test::Fail;
+use store_tests::vault_calls;
 
 const PHONE: Phone = Phone {
     edition: Edition::E2019,

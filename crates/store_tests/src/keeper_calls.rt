@@ -1,14 +1,47 @@
-//! Calls of a keeper that look first whether they may be made.
+//! Calls of any keeper, which look first whether they may be made, and what it answers.
 
-ghost use Rattle.std.specs.Prelude.{◌≡◌, ◌<◌, ◌^◌, Some, IfSome, IsTrue};
+ghost use Rattle.std.specs.Prelude.{◌≡◌, ◌<◌, ◌^◌, IfSome, IsTrue};
 ghost use Rattle.jt_value.specs.Sameness.{key_of};
-ghost use Rattle.jt_store.specs.Memory.{tables_of};
 ghost use Rattle.jt_store.specs.Tables.{IsTrimmed, MayAppend, Reads, plates, terminals};
 ghost use Rattle.store_tests.specs.Free.{IsFree};
 
-use jt_store::{Keeper, MemKeeper, Registered, Row, StoreError};
-use jt_value::{Octets, Phone};
+use jt_store::{Keeper, Registered, Row, StoreError};
+use jt_value::{Edition, Octets, Phone};
 use std::alloc::Global;
+
+/// A call of a keeper.
+#[derive(Clone, Copy)]
+pub enum Call {
+    Register(Phone, &'static [u8], &'static [u8]),
+    Unregister(Phone),
+    Registered(Phone),
+    PlateOwner(&'static [u8]),
+    TerminalOwner(&'static [u8]),
+    /// Appends a row of this number with a body of one octet.
+    Append(Phone, u64, u8),
+    Last(Phone),
+    At(Phone, u64),
+    From(Phone, u64),
+}
+
+/// What a keeper answers.
+#[derive(Clone, Copy, Debug, PartialEq, Eq)]
+pub enum Said {
+    Done,
+    /// Another phone has the plate or the terminal id.
+    Taken,
+    Nothing,
+    /// The first octets of a plate and of a terminal id.
+    Names(u8, u8),
+    /// The owner's last two digits, of a phone of 2019.
+    Owner(u8),
+    Number(u64),
+    /// A row of this number with the id 0x0200 and a body of this octet alone.
+    Row(u64, u8),
+    /// Something that no call of these tests may answer.
+    Other,
+    Refused(StoreError),
+}
 
 // Whether a row may follow the last one.
 fn may_follow(last: Option<u64>, number: u64) -> bool
@@ -31,9 +64,9 @@ fn is_trimmed(terminal: &[u8]) -> bool
 }
 
 /// Appends a row of one octet, where its number may follow.
-pub fn put(
+pub fn put<K: Keeper>(
     alloc: Global,
-    keeper: &mut MemKeeper,
+    keeper: &mut K,
     phone: &Phone,
     number: u64,
     octet: u8,
@@ -51,13 +84,13 @@ pub fn put(
 }
 
 // Whether no other phone has a plate.
-fn is_free_plate(
+fn is_free_plate<K: Keeper>(
     alloc: Global,
-    keeper: &mut MemKeeper,
+    keeper: &mut K,
     phone: &Phone,
     plate: &[u8],
 ) -> Result<bool, StoreError>
-    ensures { Reads (Some (tables_of keeper.old)) (Some (tables_of keeper.new))
+    ensures { Reads (K.Keeper.tables keeper.old) (K.Keeper.tables keeper.new)
         (λ t free. IsFree plates t.registered (key_of phone.now) plate.now free) result }
 {
     match keeper.plate_owner(alloc, plate) {
@@ -68,13 +101,13 @@ fn is_free_plate(
 }
 
 // Whether no other phone has a terminal id.
-fn is_free_terminal(
+fn is_free_terminal<K: Keeper>(
     alloc: Global,
-    keeper: &mut MemKeeper,
+    keeper: &mut K,
     phone: &Phone,
     terminal: &[u8],
 ) -> Result<bool, StoreError>
-    ensures { Reads (Some (tables_of keeper.old)) (Some (tables_of keeper.new))
+    ensures { Reads (K.Keeper.tables keeper.old) (K.Keeper.tables keeper.new)
         (λ t free. IsFree terminals t.registered (key_of phone.now) terminal.now free) result }
 {
     match keeper.terminal_owner(alloc, terminal) {
@@ -85,9 +118,9 @@ fn is_free_terminal(
 }
 
 /// Registers a phone, where no other has its names.
-pub fn enrol(
+pub fn enrol<K: Keeper>(
     alloc: Global,
-    keeper: &mut MemKeeper,
+    keeper: &mut K,
     phone: &Phone,
     plate: &[u8],
     terminal: &[u8],
@@ -109,4 +142,92 @@ pub fn enrol(
     }
     keeper.register(alloc, phone, &registered)?;
     Ok(true)
+}
+
+fn said_of(answer: Result<(), StoreError>) -> Said {
+    match answer {
+        Ok(()) => Said::Done,
+        Err(error) => Said::Refused(error),
+    }
+}
+
+fn said_of_names(answer: Result<Option<Registered>, StoreError>) -> Said {
+    match answer {
+        Ok(Some(registered)) => match (
+            registered.plate.as_slice().first(),
+            registered.terminal.as_slice().first(),
+        ) {
+            (Some(plate), Some(terminal)) => Said::Names(*plate, *terminal),
+            _ => Said::Other,
+        },
+        Ok(None) => Said::Nothing,
+        Err(error) => Said::Refused(error),
+    }
+}
+
+fn said_of_owner(answer: Result<Option<Phone>, StoreError>) -> Said {
+    match answer {
+        Ok(Some(phone)) if phone.edition == Edition::E2019 => Said::Owner(phone.digits[9]),
+        Ok(Some(_)) => Said::Other,
+        Ok(None) => Said::Nothing,
+        Err(error) => Said::Refused(error),
+    }
+}
+
+fn said_of_row(answer: Result<Option<Row>, StoreError>) -> Said {
+    match answer {
+        Ok(Some(row)) => match row.body.as_slice() {
+            [octet] if row.id == 0x0200 => Said::Row(row.number, *octet),
+            _ => Said::Other,
+        },
+        Ok(None) => Said::Nothing,
+        Err(error) => Said::Refused(error),
+    }
+}
+
+fn said_of_last(answer: Result<Option<u64>, StoreError>) -> Said {
+    match answer {
+        Ok(Some(number)) => Said::Number(number),
+        Ok(None) => Said::Nothing,
+        Err(error) => Said::Refused(error),
+    }
+}
+
+fn said_of_enrol(answer: Result<bool, StoreError>) -> Said {
+    match answer {
+        Ok(true) => Said::Done,
+        Ok(false) => Said::Taken,
+        Err(error) => Said::Refused(error),
+    }
+}
+
+/// What the keeper answers to a call.
+pub fn answer<K: Keeper>(alloc: Global, keeper: &mut K, call: Call) -> Said {
+    match call {
+        Call::Register(phone, plate, terminal) => said_of_enrol(enrol(
+            alloc, keeper, &phone, plate, terminal,
+        )),
+        Call::Unregister(phone) => said_of(keeper.unregister(alloc, &phone)),
+        Call::Registered(phone) => said_of_names(keeper.registered(alloc, &phone)),
+        Call::PlateOwner(plate) => said_of_owner(keeper.plate_owner(alloc, plate)),
+        Call::TerminalOwner(terminal) => said_of_owner(keeper.terminal_owner(alloc, terminal)),
+        Call::Append(phone, number, octet) => said_of(put(alloc, keeper, &phone, number, octet)),
+        Call::Last(phone) => said_of_last(keeper.last(alloc, &phone)),
+        Call::At(phone, number) => said_of_row(keeper.row_at(alloc, &phone, number)),
+        Call::From(phone, number) => said_of_row(keeper.row_from(alloc, &phone, number)),
+    }
+}
+
+/// The place of the first call that is not answered so.
+pub fn first_wrong<K: Keeper>(
+    alloc: Global,
+    keeper: &mut K,
+    calls: &[(Call, Said)],
+) -> Option<usize> {
+    for (place, (call, said)) in calls.iter().enumerate() {
+        if answer(alloc, keeper, *call) != *said {
+            return Some(place);
+        }
+    }
+    None
 }

@@ -1,4 +1,4 @@
-use crate::keeper_calls::{enrol, put};
+use crate::keeper_calls;
 use jt_store::{Keeper, MemKeeper, StoreError};
 use jt_value::{Edition, Phone, Seq};
 use std::alloc::Global;
@@ -9,6 +9,27 @@ fn phone(edition: Edition, last: u8) -> Phone {
         edition,
         digits: [0, 0, 0, 0, 0x01, 0x39, 0x12, 0x34, 0x56, last],
     }
+}
+
+// The calls of any keeper, each asked for at this keeper's type once.
+fn put(
+    alloc: Global,
+    keeper: &mut MemKeeper,
+    phone: &Phone,
+    number: u64,
+    octet: u8,
+) -> Result<(), StoreError> {
+    keeper_calls::put(alloc, keeper, phone, number, octet)
+}
+
+fn enrol(
+    alloc: Global,
+    keeper: &mut MemKeeper,
+    phone: &Phone,
+    plate: &[u8],
+    terminal: &[u8],
+) -> Result<bool, StoreError> {
+    keeper_calls::enrol(alloc, keeper, phone, plate, terminal)
 }
 
 fn number_at(

@@ -1,8 +1,8 @@
-//! Tests of the stores in memory and of the serial rule.
+//! Calls of any store for tests, which look first whether they may be made; and tests of the stores in memory and of the serial
+//! rule.
 #![tactic(auto)]
 
-#[cfg(test)]
-mod keeper_calls;
+pub mod keeper_calls;
 #[cfg(test)]
 mod keeper_tests;
 #[cfg(test)]
@@ -11,7 +11,7 @@ mod migrate_calls;
 mod migrate_tests;
 #[cfg(test)]
 mod serial_tests;
-#[cfg(test)]
-mod vault_calls;
+mod units;
+pub mod vault_calls;
 #[cfg(test)]
 mod vault_tests;

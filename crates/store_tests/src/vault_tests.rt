@@ -1,25 +1,32 @@
-use crate::vault_calls::{accept_next, form_next};
-use jt_position::Fix;
+use crate::vault_calls;
 use jt_store::{MemVault, StoreError, Vault};
 use jt_value::Seq;
 use std::alloc::Global;
 use std::test::Fail;
 
-fn note(alloc: Global, vault: &mut MemVault, lat: u32) -> Result<(), StoreError> {
-    let fix = Fix::at(alloc, lat)?;
-    vault.note_fix(alloc, &fix)
+// The calls of any vault, each asked for at this vault's type once.
+fn note(alloc: Global, vault: &mut MemVault, lat: u32) -> Result<bool, StoreError> {
+    vault_calls::note(alloc, vault, lat)
+}
+
+fn form(alloc: Global, vault: &mut MemVault, count: usize) -> Result<bool, StoreError> {
+    vault_calls::form(alloc, vault, count)
+}
+
+fn accept(alloc: Global, vault: &mut MemVault) -> Result<bool, StoreError> {
+    vault_calls::accept(alloc, vault)
 }
 
 #[test]
 fn a_full_vault_takes_a_fix_once_one_is_accepted(rt: HostRuntime) -> Result<(), Fail> {
     let alloc = rt.alloc();
     let mut vault = MemVault::new(alloc, 1, Seq::new(alloc));
-    assert!(rt; note(alloc, &mut vault, 1) == Ok(()));
+    assert!(rt; note(alloc, &mut vault, 1) == Ok(true));
     assert!(rt; note(alloc, &mut vault, 2) == Err(StoreError::Full(1)));
-    assert!(rt; form_next(alloc, &mut vault) == Ok(true));
+    assert!(rt; form(alloc, &mut vault, 1) == Ok(true));
     assert!(rt; note(alloc, &mut vault, 2) == Err(StoreError::Full(1)));
-    assert!(rt; accept_next(alloc, &mut vault) == Ok(true));
-    assert!(rt; note(alloc, &mut vault, 2) == Ok(()));
+    assert!(rt; accept(alloc, &mut vault) == Ok(true));
+    assert!(rt; note(alloc, &mut vault, 2) == Ok(true));
     Ok(())
 }
 
@@ -29,7 +36,7 @@ fn a_listed_call_fails_and_records_nothing(rt: HostRuntime) -> Result<(), Fail> 
     let mut failing = Seq::new(alloc);
     assert!(rt; failing.push(2) == Ok(()));
     let mut vault = MemVault::new(alloc, 9, failing);
-    assert!(rt; note(alloc, &mut vault, 1) == Ok(()));
+    assert!(rt; note(alloc, &mut vault, 1) == Ok(true));
     assert!(rt; note(alloc, &mut vault, 2) == Err(StoreError::Failed));
     match vault.load(alloc) {
         Ok(loaded) => assert!(rt; loaded.recorded == 1),
@@ -42,12 +49,12 @@ fn a_listed_call_fails_and_records_nothing(rt: HostRuntime) -> Result<(), Fail> 
 fn a_vault_loads_what_waits(rt: HostRuntime) -> Result<(), Fail> {
     let alloc = rt.alloc();
     let mut vault = MemVault::new(alloc, 9, Seq::new(alloc));
-    assert!(rt; note(alloc, &mut vault, 1) == Ok(()));
-    assert!(rt; note(alloc, &mut vault, 2) == Ok(()));
-    assert!(rt; note(alloc, &mut vault, 3) == Ok(()));
-    assert!(rt; form_next(alloc, &mut vault) == Ok(true));
-    assert!(rt; form_next(alloc, &mut vault) == Ok(true));
-    assert!(rt; accept_next(alloc, &mut vault) == Ok(true));
+    assert!(rt; note(alloc, &mut vault, 1) == Ok(true));
+    assert!(rt; note(alloc, &mut vault, 2) == Ok(true));
+    assert!(rt; note(alloc, &mut vault, 3) == Ok(true));
+    assert!(rt; form(alloc, &mut vault, 1) == Ok(true));
+    assert!(rt; form(alloc, &mut vault, 1) == Ok(true));
+    assert!(rt; accept(alloc, &mut vault) == Ok(true));
     assert!(rt; vault.set_code(alloc, Some(b"AB")) == Ok(()));
     match vault.load(alloc) {
         Ok(loaded) => {

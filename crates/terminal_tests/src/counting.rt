@@ -1,7 +1,8 @@
 ghost use Rattle.std.specs.Prelude.{◌≡◌};
 ghost use Rattle.jt_terminal_rule.specs.Messages.{AreSettings};
 
-use crate::scene::{settings, started};
+use crate::scene::started;
+use crate::starting::settings;
 use crate::talking::{beat, wrong_row};
 use jt_position::Fix;
 use jt_store::{MemVault, StoreError, Vault};

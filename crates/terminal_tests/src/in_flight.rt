@@ -2,7 +2,7 @@
 
 ghost use Rattle.std.specs.Prelude.{◌≡◌, IfSome};
 
-use crate::scene::settings;
+use crate::starting::settings;
 use crate::talking::{first_wrong, wrong_row};
 use jt_position::{Fix, law_fixes};
 use jt_store::{MemVault, StoreError, Unit, Vault};

@@ -1,6 +1,10 @@
 //! Tests of the terminal and of its line over a vault in memory: what it says at each event, and what it answers.
 #![tactic(auto)]
 
+mod starting;
+
+pub use starting::{octets, phone, settings};
+
 #[cfg(test)]
 mod answers;
 #[cfg(test)]

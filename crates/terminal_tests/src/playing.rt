@@ -2,7 +2,8 @@
 
 ghost use Rattle.std.specs.Prelude.{◌≡◌, ◌≤◌};
 
-use crate::scene::{note, note_at, octets, open, started, tick, transcript};
+use crate::scene::{note, note_at, open, started, tick, transcript};
+use crate::starting::octets;
 use jt_position::{Fix, FixError};
 use jt_store::MemVault;
 use jt_terminal::{Terminal, TerminalLine};

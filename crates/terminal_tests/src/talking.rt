@@ -2,7 +2,8 @@
 
 ghost use Rattle.std.specs.Prelude.{◌≡◌, ◌≤◌};
 
-use crate::scene::{note_at, octets, open, phone, started, tick, transcript};
+use crate::scene::{note_at, open, started, tick, transcript};
+use crate::starting::{octets, phone};
 use jt_codec::Message;
 use jt_header::Header;
 use jt_register::RegisterReply;

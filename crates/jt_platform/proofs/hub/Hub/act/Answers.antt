@@ -29,8 +29,8 @@ pub invariant_of-self-then-not-makes_entry : goal.invariant_of-self-then-not-mak
 invariant_of-self-then-not-makes_entry g c = (
   search rules,
   search rules,
-  rw c.make_room.ensures.entries c.self.invariant.2,
-  λ s above upto. c.make_room.ensures.kept s (c.self.invariant.3 s above upto),
+  rw (c.let_go.ensures.entries, c.make_room.ensures.entries) c.self.invariant.2,
+  λ s above upto. c.let_go.ensures.kept s (c.make_room.ensures.kept s (c.self.invariant.3 s above upto)),
 )
 
 pub invariant_of-self-then-is_owed : goal.invariant_of-self-then-is_owed

@@ -1,5 +1,5 @@
 use Rattle.std.proofs.Common.{length}
-use Rattle.sql_tests.proofs.units.+are_first.Given as goal
+use Rattle.store_tests.proofs.units.+are_first.Given as goal
 
 abbrev pub decreases-are_first : goal.decreases-are_first
 decreases-are_first l = length l.found.now

@@ -1,7 +1,6 @@
 use crate::stopped_files::{
     Stopping, Stops, files_of, limits, open_new, open_synced, open_written,
 };
-use crate::{keeper_calls, vault_calls};
 use jt_sql::{SqlKeeper, SqlVault};
 use jt_store::{Keeper, MemKeeper, MemVault, Vault};
 use jt_value::{Edition, Phone, Seq};
@@ -9,6 +8,8 @@ use sqlite::{Alter, Connection, FileStore, Files};
 use sqlite_disk::Disk;
 use std::alloc::Global;
 use std::test::Fail;
+use store_tests::keeper_calls::{self, Call as KeeperCall};
+use store_tests::vault_calls::{self, Call as VaultCall};
 
 const PHONE: Phone = Phone {
     edition: Edition::E2013,
@@ -17,46 +18,42 @@ const PHONE: Phone = Phone {
 
 // A registration, an authentication and a unit, and behind a restart an authentication and the unit again. A registration asks
 // who has the plate and the terminal id, and a row that is appended for the last one.
-const KEPT: [keeper_calls::Call; 10] = [
-    keeper_calls::Call::Registered(PHONE),
-    keeper_calls::Call::PlateOwner(b"PA"),
-    keeper_calls::Call::TerminalOwner(b"TA"),
-    keeper_calls::Call::Register(PHONE, b"PA", b"TA"),
-    keeper_calls::Call::Registered(PHONE),
-    keeper_calls::Call::Last(PHONE),
-    keeper_calls::Call::Append(PHONE, 2, 7),
-    keeper_calls::Call::Registered(PHONE),
-    keeper_calls::Call::Last(PHONE),
-    keeper_calls::Call::At(PHONE, 2),
+const KEPT: [KeeperCall; 10] = [
+    KeeperCall::Registered(PHONE),
+    KeeperCall::PlateOwner(b"PA"),
+    KeeperCall::TerminalOwner(b"TA"),
+    KeeperCall::Register(PHONE, b"PA", b"TA"),
+    KeeperCall::Registered(PHONE),
+    KeeperCall::Last(PHONE),
+    KeeperCall::Append(PHONE, 2, 7),
+    KeeperCall::Registered(PHONE),
+    KeeperCall::Last(PHONE),
+    KeeperCall::At(PHONE, 2),
 ];
 
-const KEPT_LOOKS: [keeper_calls::Call; 5] = [
-    keeper_calls::Call::Registered(PHONE),
-    keeper_calls::Call::PlateOwner(b"PA"),
-    keeper_calls::Call::TerminalOwner(b"TA"),
-    keeper_calls::Call::From(PHONE, 0),
-    keeper_calls::Call::From(PHONE, 3),
+const KEPT_LOOKS: [KeeperCall; 5] = [
+    KeeperCall::Registered(PHONE),
+    KeeperCall::PlateOwner(b"PA"),
+    KeeperCall::TerminalOwner(b"TA"),
+    KeeperCall::From(PHONE, 0),
+    KeeperCall::From(PHONE, 3),
 ];
 
 // What a terminal begins with, fixes, the code, a unit of three fixes and one of one fix, each with its acceptance.
-const HELD: [vault_calls::Call; 10] = [
-    vault_calls::Call::Load,
-    vault_calls::Call::Code(Some(b'C')),
-    vault_calls::Call::Note(1),
-    vault_calls::Call::Note(2),
-    vault_calls::Call::Note(3),
-    vault_calls::Call::Note(4),
-    vault_calls::Call::Form(3),
-    vault_calls::Call::Accept,
-    vault_calls::Call::Form(1),
-    vault_calls::Call::Accept,
+const HELD: [VaultCall; 10] = [
+    VaultCall::Load,
+    VaultCall::Code(Some(b'C')),
+    VaultCall::Note(1),
+    VaultCall::Note(2),
+    VaultCall::Note(3),
+    VaultCall::Note(4),
+    VaultCall::Form(3),
+    VaultCall::Accept,
+    VaultCall::Form(1),
+    VaultCall::Accept,
 ];
 
-const HELD_LOOKS: [vault_calls::Call; 3] = [
-    vault_calls::Call::Load,
-    vault_calls::Call::Oldest,
-    vault_calls::Call::Next,
-];
+const HELD_LOOKS: [VaultCall; 3] = [VaultCall::Load, VaultCall::Oldest, VaultCall::Next];
 
 // Makes the calls up to the first that is refused, and counts those before it.
 fn keep<K: Keeper>(alloc: Global, keeper: &mut K) -> usize {

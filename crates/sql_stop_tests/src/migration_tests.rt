@@ -1,15 +1,15 @@
-use crate::connections::{number, ran};
-use crate::keeper_calls::{Call, Said, first_wrong};
 use crate::stopped_files::{
     Stopping, Stops, files_of, limits, open_again, open_new, open_synced, open_written,
 };
 use jt_sql::SqlKeeper;
 use jt_store::StoreError;
 use jt_value::{Edition, Phone};
+use sql_tests::connections::{number, ran};
 use sqlite::{Alter, Connection, FileStore, Files};
 use sqlite_disk::Disk;
 use std::alloc::Global;
 use std::test::Fail;
+use store_tests::keeper_calls::{Call, Said, first_wrong};
 
 const PHONE: Phone = Phone {
     edition: Edition::E2019,
