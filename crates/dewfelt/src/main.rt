@@ -2,17 +2,17 @@
 #![tactic(auto)]
 
 use dewfelt_serve::{
-    Locked, Service, Status, Told, Trouble, check, lock, path_in, read_fleet_of, read_settings_of,
-    serve,
+    Flags, Ground, HasGround, Locked, Service, Status, Told, Trouble, check, lock, path_in,
+    read_fleet_of, read_settings_of, serve,
 };
 use dewfelt_settings::{Choices, Command, HELP, Settings, VERSION, read_command};
 use jt_outside::StdSink;
 use jt_platform::Fleet;
 use jt_service::{Door, ServiceListen};
 use jt_sql::SqlKeeper;
-use jt_store::Keeper;
-use jt_value::{Memory, Octets};
-use std::alloc::AllocError;
+use jt_store::{Keeper, StoreError};
+use jt_value::{Edition, Memory, Octets, Phone};
+use std::alloc::{AllocError, Global};
 use std::env::Env;
 use std::io::{ErrorKind, Read, Stdin, Stdout};
 use std::process::ExitCode;
@@ -92,56 +92,146 @@ fn prepare(rt: &HostRuntime, folder: &str, words: &Choices) -> Result<Prepared, 
     })
 }
 
-fn keeper_of(rt: &HostRuntime, folder: &str) -> Result<SqlKeeper<HostRuntime>, Memory> {
-    let path = path_in(rt.alloc(), folder, "platform.db")?;
-    SqlKeeper::at(rt.clone()?, path.as_str())
+// A phone that no terminal has.
+const NOBODY: Phone = Phone {
+    edition: Edition::E2019,
+    digits: [0; 10],
+};
+
+// What hubs are made of, over the folder's file.
+#[derive(Drop)]
+struct InFolder {
+    rt: HostRuntime,
+    path: String,
+    fleet: Fleet,
+    secret: Octets,
 }
 
-fn door_of(rt: &HostRuntime, settings: &Settings) -> Result<ServiceListen<HostRuntime>, Trouble> {
+impl InFolder {
+    fn keeper(&self, alloc: Global) -> Result<SqlKeeper<HostRuntime>, StoreError> {
+        let mut keeper = SqlKeeper::at(self.rt.clone()?, self.path.as_str())?;
+        let _nobody = keeper.registered(alloc, &NOBODY)?;
+        Ok(keeper)
+    }
+}
+
+impl HasGround for InFolder {
+    type Keeper = SqlKeeper<HostRuntime>;
+
+    fn next(&mut self, alloc: Global) -> Result<Ground<SqlKeeper<HostRuntime>>, StoreError> {
+        Ok(Ground {
+            keeper: self.keeper(alloc)?,
+            fleet: Fleet {
+                plates: self.fleet.plates.copy(alloc)?,
+                terminals: self.fleet.terminals.copy(alloc)?,
+            },
+            secret: self.secret.copy(alloc)?,
+        })
+    }
+
+    fn let_go(&mut self) {}
+}
+
+fn ground_of(
+    rt: &HostRuntime,
+    folder: &str,
+    fleet: Fleet,
+    secret: Octets,
+) -> Result<InFolder, AllocError> {
+    Ok(InFolder {
+        rt: rt.clone()?,
+        path: path_in(rt.alloc(), folder, "platform.db")?,
+        fleet,
+        secret,
+    })
+}
+
+fn door_of(
+    rt: &HostRuntime,
+    settings: &Settings,
+    flags: &Flags,
+) -> Result<ServiceListen<HostRuntime>, Trouble> {
     let Ok(own) = rt.clone() else {
         return Err(Trouble::memory(rt.alloc()));
     };
-    match ServiceListen::bind(own, settings.listen) {
+    let Ok(ends) = flags.ends.clone() else {
+        return Err(Trouble::memory(rt.alloc()));
+    };
+    match ServiceListen::bind(own, settings.listen, ends) {
         Ok(door) => Ok(door),
         Err(error) => Err(Trouble::of_listen(rt.alloc(), settings, &error)),
     }
 }
 
-// The flag that ends the service: it is set once standard input has ended, where that is to be looked at.
-fn input_flag<R: Threads>(
-    threads: &R,
-    rt: &HostRuntime,
-    settings: &Settings,
-) -> Result<Arc<AtomicBool>, Status> {
-    let Ok(flag) = Arc::new(rt.alloc(), AtomicBool::new(false)) else {
-        return Err(Status::Memory);
-    };
-    if settings.until_input_ends {
-        let input = rt.stdin();
-        let Ok(other) = flag.clone() else {
-            return Err(Status::Memory);
-        };
-        if thread::spawn(threads, move || wait_for_the_end(input, other)).is_err() {
-            return Err(Status::Threads);
-        }
-    }
-    Ok(flag)
+fn flags(alloc: Global) -> Result<Flags, AllocError> {
+    Ok(Flags {
+        stops: Arc::new(alloc, AtomicBool::new(false))?,
+        ends: Arc::new(alloc, AtomicBool::new(false))?,
+    })
 }
 
-// Serves over a keeper and a door of any types. (the types of both at once are too much for one proof)
-fn serve_over<R, D, P>(
+// Starts the thread that sets the first flag once standard input has ended.
+fn watch_input<R: Threads>(threads: &R, rt: &HostRuntime, flags: &Flags) -> Result<(), Status> {
+    let input = rt.stdin();
+    let Ok(stops) = flags.stops.clone() else {
+        return Err(Status::Memory);
+    };
+    match thread::spawn(threads, move || wait_for_the_end(input, stops)) {
+        Ok(_) => Ok(()),
+        Err(_) => Err(Status::Threads),
+    }
+}
+
+fn told_of(rt: &HostRuntime) -> Result<Told<HostRuntime>, AllocError> {
+    Told::new(rt.alloc(), rt.clone()?)
+}
+
+// Serves over a door and a ground of any types. (the types of both at once are too much for one proof)
+fn serve_over<R, D, G>(
     threads: &R,
     rt: &HostRuntime,
-    prepared: Prepared,
+    settings: Settings,
     door: D,
-    keeper: P,
-    told: Told<HostRuntime>,
+    ground: G,
+    flags: Flags,
 ) -> Status
 where
     R: Threads + Wait + Clock + Sync,
-    D: Door + Send + Drop,
+    D: Door + Drop,
     D::Link: Send,
-    P: Keeper + Send + Drop,
+    G: HasGround + Drop,
+    G::Keeper: Send,
+{
+    if settings.until_input_ends {
+        if let Err(status) = watch_input(threads, rt, &flags) {
+            return status;
+        }
+    }
+    let Ok(told) = told_of(rt) else {
+        return Status::Memory;
+    };
+    let service = Service {
+        door,
+        ground,
+        sink: StdSink::new(rt.stdout()),
+        told,
+    };
+    serve(threads, rt.alloc(), service, &settings, flags)
+}
+
+// Serves over the folder's file.
+fn serve_file<R, D>(
+    threads: &R,
+    rt: &HostRuntime,
+    folder: &str,
+    prepared: Prepared,
+    door: D,
+    flags: Flags,
+) -> Status
+where
+    R: Threads + Wait + Clock + Sync,
+    D: Door + Drop,
+    D::Link: Send,
 {
     let Prepared {
         settings,
@@ -149,47 +239,12 @@ where
         secret,
         locked,
     } = prepared;
-    let flag = match input_flag(threads, rt, &settings) {
-        Ok(flag) => flag,
-        Err(status) => return status,
-    };
-    let service = Service {
-        door,
-        keeper,
-        sink: StdSink::new(rt.stdout()),
-        told,
-        fleet,
-        secret,
-    };
-    let status = serve(threads, rt.alloc(), service, &settings, flag);
-    drop(locked);
-    status
-}
-
-fn told_of(rt: &HostRuntime) -> Result<Told<HostRuntime>, AllocError> {
-    Told::new(rt.alloc(), rt.clone()?)
-}
-
-// Serves over a keeper in the folder's file.
-fn serve_file<R, D>(
-    threads: &R,
-    rt: &HostRuntime,
-    folder: &str,
-    prepared: Prepared,
-    door: D,
-) -> Status
-where
-    R: Threads + Wait + Clock + Sync,
-    D: Door + Send + Drop,
-    D::Link: Send,
-{
-    let Ok(told) = told_of(rt) else {
+    let Ok(ground) = ground_of(rt, folder, fleet, secret) else {
         return Status::Memory;
     };
-    match keeper_of(rt, folder) {
-        Ok(keeper) => serve_over(threads, rt, prepared, door, keeper, told),
-        Err(Memory) => Status::Memory,
-    }
+    let status = serve_over(threads, rt, settings, door, ground, flags);
+    drop(locked);
+    status
 }
 
 fn serve_folder<R>(threads: &R, rt: &HostRuntime, folder: &str, words: &Choices) -> Status
@@ -200,8 +255,14 @@ where
         Ok(prepared) => prepared,
         Err(trouble) => return say(rt, &trouble),
     };
-    match door_of(rt, &prepared.settings) {
-        Ok(door) => say_status(rt, folder, serve_file(threads, rt, folder, prepared, door)),
+    let Ok(flags) = flags(rt.alloc()) else {
+        return say_text(rt, Status::Memory);
+    };
+    match door_of(rt, &prepared.settings, &flags) {
+        Ok(door) => {
+            let status = serve_file(threads, rt, folder, prepared, door, flags);
+            say_status(rt, folder, status)
+        }
         Err(trouble) => say(rt, &trouble),
     }
 }

@@ -3,7 +3,11 @@
 
 mod checking;
 mod folder;
+mod ground;
 mod naming;
+mod opening;
+mod running;
+mod saying;
 mod seen;
 mod serving;
 mod status;
@@ -12,6 +16,7 @@ mod writing;
 
 pub use checking::check;
 pub use folder::{Locked, Trouble, lock, path_in, read_fleet_of, read_settings_of};
-pub use serving::{Service, serve};
+pub use ground::{Ground, HasGround};
+pub use serving::{Flags, Service, serve};
 pub use status::Status;
 pub use told::Told;

@@ -27,8 +27,6 @@ pub enum Status {
     Folder,
     /// No thread can be made.
     Threads,
-    /// No number for a session is left: the service is to be started anew.
-    Numbers,
 }
 
 impl Status {
@@ -50,7 +48,6 @@ impl Status {
             Status::Memory => 8,
             Status::Folder => 9,
             Status::Threads => 10,
-            Status::Numbers => 11,
         }
     }
 
@@ -68,7 +65,6 @@ impl Status {
             Status::Busy => "another dewfelt serves this folder",
             Status::Memory => "no memory",
             Status::Threads => "no thread can be made",
-            Status::Numbers => "no number for a session is left: start it anew",
         }
     }
 }
