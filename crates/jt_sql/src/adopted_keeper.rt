@@ -5,7 +5,7 @@ ghost use Rattle.jt_value.specs.declared.limits.TheConstants.{ROW_LIMIT};
 
 use crate::keeping;
 use crate::opens::{Opens, is_shut};
-use jt_store::{Keeper, Registered, Row, StoreError};
+use jt_store::{Keeper, Registered, Registrations, Row, StoreError};
 use jt_store_answers::{added, answered, changed};
 use jt_value::Phone;
 use jt_value::limits::ROW_LIMIT;
@@ -183,5 +183,22 @@ impl<O: Opens> Keeper for AdoptedKeeper<O> {
             self.connection.let_go();
         }
         added(&mut self.faults, ROW_LIMIT, answer)
+    }
+}
+
+impl<O: Opens> Registrations for AdoptedKeeper<O> {
+    fn next_registered(
+        &mut self,
+        alloc: Global,
+        after: Option<&Phone>,
+    ) -> Result<Option<(Phone, Registered)>, StoreError> {
+        let answer = match self.connection.opened() {
+            Ok(connection) => keeping::next_registered(alloc, connection, after),
+            Err(refused) => Err(refused),
+        };
+        if is_shut(&answer) {
+            self.connection.let_go();
+        }
+        answered(&mut self.faults, answer)
     }
 }

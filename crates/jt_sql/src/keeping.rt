@@ -1,6 +1,9 @@
 //! The calls of a keeper, each one transaction over a connection.
 
+ghost use Rattle.std.specs.Option.{option_copied, option_map};
 ghost use Rattle.std.specs.Prelude.{◌<◌, ◌≤◌, ◌^◌, IfOk, IfSome};
+ghost use Rattle.jt_store.specs.Tables.{IsBehind};
+ghost use Rattle.jt_value.specs.Sameness.{key_of};
 
 use crate::asking::make;
 use crate::migration::migrate_all;
@@ -75,6 +78,20 @@ pub(crate) fn terminal_owner<S: Alter>(
     let mut work = begin(alloc, connection)?;
     let owner = registrations::terminal_owner(&mut work, terminal);
     settled(work, owner)
+}
+
+/// The phone with the least digits behind those of `after`, or with the least of all, and its registration.
+pub(crate) fn next_registered<S: Alter>(
+    alloc: Global,
+    connection: &mut Connection<S>,
+    after: Option<&Phone>,
+) -> Result<Option<(Phone, Registered)>, Refused>
+    ensures { IfOk result (λ found. IfSome found (λ one.
+        IsBehind (option_map key_of (option_copied after.entry)) (key_of one.0))) }
+{
+    let mut work = begin(alloc, connection)?;
+    let found = registrations::next(&mut work, after);
+    settled(work, found)
 }
 
 /// Registers the phone, or replaces its registration.

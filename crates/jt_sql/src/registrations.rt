@@ -1,5 +1,10 @@
 //! The table of registrations. Each call is a part of a transaction.
 
+ghost use Rattle.std.specs.Option.{option_copied, option_map};
+ghost use Rattle.std.specs.Prelude.{IfOk, IfSome, IsTrue};
+ghost use Rattle.jt_store.specs.Tables.{IsBehind};
+ghost use Rattle.jt_value.specs.Sameness.{key_of};
+
 use crate::asking::{change, one_row, value};
 use crate::phones::phone_of;
 use crate::refused::Refused;
@@ -12,6 +17,11 @@ const READ: &str = "SELECT plate, terminal FROM registered WHERE phone = ?1";
 const PLATE_OWNER: &str = "SELECT phone FROM registered WHERE plate = ?1";
 
 const TERMINAL_OWNER: &str = "SELECT phone FROM registered WHERE terminal = ?1";
+
+const FIRST: &str = "SELECT plate, terminal, phone FROM registered ORDER BY phone LIMIT 1";
+
+const BEHIND: &str =
+    "SELECT plate, terminal, phone FROM registered WHERE phone > ?1 ORDER BY phone LIMIT 1";
 
 const SET: &str = "INSERT INTO registered (phone, plate, terminal) VALUES (?1, ?2, ?3) \
      ON CONFLICT (phone) DO UPDATE SET plate = excluded.plate, terminal = excluded.terminal";
@@ -63,6 +73,56 @@ pub(crate) fn terminal_owner<S: Alter>(
     terminal: &[u8],
 ) -> Result<Option<Phone>, Refused> {
     owner(work, TERMINAL_OWNER, terminal)
+}
+
+// The first phone behind this one, or the first of all, as one of 2019, and what it is registered with.
+fn first_behind<S: Alter>(
+    work: &mut Transaction<'_, S>,
+    after: Option<&Phone>,
+) -> Result<Option<(Phone, Registered)>, Refused> {
+    let found = match after {
+        Some(phone) => one_row(work, BEHIND, params![phone.digits.as_slice()])?,
+        None => one_row(work, FIRST, &[])?,
+    };
+    let Some(row) = found else {
+        return Ok(None);
+    };
+    let registered = registered_in(&row)?;
+    let digits: Vec<u8> = value(&row, 2)?;
+    let phone = phone_of(Edition::E2019, digits.as_slice())?;
+    Ok(Some((phone, registered)))
+}
+
+fn is_behind(after: Option<&Phone>, phone: &Phone) -> bool
+    ensures { IsTrue result →
+        IsBehind (option_map key_of (option_copied after.entry)) (key_of phone.now) }
+{
+    match after {
+        Some(after) => after
+            .digits
+            .as_slice()
+            .cmp(&phone.digits.as_slice())
+            .is_lt(),
+        None => true,
+    }
+}
+
+/// The same. A phone that does not stand behind is refused.
+pub(crate) fn next<S: Alter>(
+    work: &mut Transaction<'_, S>,
+    after: Option<&Phone>,
+) -> Result<Option<(Phone, Registered)>, Refused>
+    ensures { IfOk result (λ found. IfSome found (λ one.
+        IsBehind (option_map key_of (option_copied after.entry)) (key_of one.0))) }
+{
+    let Some((phone, registered)) = first_behind(work, after)? else {
+        return Ok(None);
+    };
+    if is_behind(after, &phone) {
+        Ok(Some((phone, registered)))
+    } else {
+        Err(Refused::Failed)
+    }
 }
 
 /// Sets or replaces what is kept under a phone's octets.

@@ -1,6 +1,6 @@
 -- Registrations that are found by their names.
 use Rattle.std.proofs.Common.{◌≡◌, ℕ, List, Option, Some, None, refl, subst}
-use Rattle.std.specs.Prelude.{IsSomeAnd}
+use Rattle.std.specs.Prelude.{IfNone, IsSomeAnd}
 use Rattle.jt_store.specs.declared.row.Registered.{Registered}
 use Rattle.jt_store.specs.Memory.{owner_of}
 use Rattle.jt_store.specs.Registry.{Indexes, IsRegistry}
@@ -33,3 +33,8 @@ named_once registered of_plate of_terminal is = record {
 pub owner_is : (name_of : Registered → List ℕ) (registered : List ℕ → Option Registered) (name : List ℕ) (key : Option (List ℕ)) → IsHolder name_of registered name key → IsOwner name_of registered name (owner_of key)
 owner_is name_of registered name None h = h
 owner_is name_of registered name (Some key) h = (refl, h)
+
+-- what holds where nothing was found
+pub none_at : {X : Type 0} (o : Option X) (P Q : Type 0) → (P → Q) → IfNone o P → IfNone o Q
+none_at None P Q f h = f h
+none_at (Some x) P Q f h = tt

@@ -1,5 +1,8 @@
 -- What a keeper holds, and what its calls say of it (this project's own). To be believed.
-use Rattle.std.specs.Prelude.{ℕ, ◌≡◌, ◌≢◌, ◌+◌, ◌*◌, ◌-◌, ◌^◌, ◌<◌, ◌≤◌, ◌⊎◌, List, [], ◌∷◌, ◌++◌, length, Bool, false, Option, None, Some, Result, Ok, Err, if◌then◌else◌, IsErrOf, IfSome, IsSomeAnd}
+use Rattle.std.specs.Prelude.{ℕ, ◌≡◌, ◌≢◌, ◌+◌, ◌*◌, ◌-◌, ◌^◌, ◌<◌, ◌≤◌, ◌⊎◌, List, [], ◌∷◌, ◌++◌, length, Bool, false, Option, None, Some, Result, Ok, Err, if◌then◌else◌, IsErrOf, IfSome, IsSome, IsSomeAnd}
+use Rattle.std.specs.Cmp.Lexicographic.{slice_cmp}
+use Rattle.std.specs.Ordering.{is_gt, nat_cmp}
+use Rattle.std.specs.declared.cmp.Ordering.TheVariants.{Less}
 use Rattle.jt_value.specs.declared.phone.Phone.{Phone}
 use Rattle.jt_value.specs.declared.phone.Edition.TheVariants.{E2019}
 use Rattle.jt_value.specs.Sameness.{key_of, same_key}
@@ -90,6 +93,18 @@ IsHolder name_of registered name (Some holder) = HasName name_of registered hold
 abbrev pub IsOwner : (Registered → List ℕ) → (List ℕ → Option Registered) → List ℕ → Option Phone → Type 0
 IsOwner name_of registered name None = IsHolder name_of registered name None
 IsOwner name_of registered name (Some phone) = (phone.edition ≡ E2019) × IsHolder name_of registered name (Some (key_of phone))
+
+-- the digits stand behind these, in the order of their octets; behind none all stand
+abbrev pub IsBehind : Option (List ℕ) → List ℕ → Type 0
+IsBehind None key = Unit {0}
+IsBehind (Some after) key = slice_cmp nat_cmp after key ≡ Less
+
+-- the phone of 2019 with the least digits behind these that is registered, and its registration, or that none is
+abbrev pub FindsNext : (List ℕ → Option Registered) → Option (List ℕ) → Option (Phone × Registered) → Type 0
+FindsNext registered after None = (key : List ℕ) → IsBehind after key → registered key ≡ None
+FindsNext registered after (Some one) =
+    (one.0.edition ≡ E2019) × IsBehind after (key_of one.0) × (registered (key_of one.0) ≡ Some one.1)
+    × ((key : List ℕ) → IsBehind after key → IsSome (registered key) → is_gt (slice_cmp nat_cmp (key_of one.0) key) ≡ false)
 
 -- no other phone has the plate or the terminal id
 pub record MayRegister (registered : List ℕ → Option Registered) (key : List ℕ) (r : Registered) : Type 0 where

@@ -1,14 +1,19 @@
 //! Maps by the digits of phones.
 
-ghost use Rattle.std.specs.Prelude.{◌≡◌, ℕ, List, [], ◌∷◌, ◌++◌, IfOk, OnOk, OnErr, Some, None, option_copied, if◌then◌else◌};
-ghost use Rattle.jt_value.specs.Sameness.{same_key};
+ghost use Rattle.std.specs.Cmp.Lexicographic.{slice_cmp};
+ghost use Rattle.std.specs.Ordering.{is_gt, nat_cmp};
+ghost use Rattle.std.specs.Prelude.{◌≡◌, ℕ, List, [], ◌∷◌, ◌++◌, false, IfNone, IfOk, IfSome, IsSome, OnOk, OnErr, Some, None, option_copied, if◌then◌else◌};
+ghost use Rattle.std.specs.declared.cmp.Ordering.TheVariants.{Less};
+ghost use Rattle.jt_value.specs.Sameness.{key_of, same_key};
+ghost use Rattle.jt_value.specs.declared.phone.Edition.TheVariants.{E2019};
 ghost use Rattle.jt_store.specs.Memory.{list_under, under};
 
 use crate::digits::Digits;
-use jt_value::{Memory, Seq};
+use jt_value::{Memory, Phone, Seq};
 use std::alloc::Global;
 use std::collections::BTreeMap;
 use std::marker::Model;
+use std::ops::Bound;
 
 /// The twenty digits of a phone, two an octet.
 pub type Key = [u8; 10];
@@ -42,6 +47,38 @@ impl<T> ByPhone<T> {
         ensures { option_copied result ≡ under self.now key.now }
     {
         self.values.get(&Digits::of(key))
+    }
+
+    /// The least phone, as one of 2019, and its value.
+    pub fn first(&self) -> Option<(Phone, &T)>
+        ensures none { IfNone result ((q : List ℕ) → under self.now q ≡ None) }
+        ensures edition { IfSome result (λ one. one.0.edition ≡ E2019) }
+        ensures value { IfSome result (λ one. under self.now (key_of one.0) ≡ Some one.1.now) }
+        ensures least { IfSome result (λ one. (q : List ℕ) → IsSome (under self.now q) →
+            is_gt (slice_cmp nat_cmp (key_of one.0) q) ≡ false) }
+    {
+        match self.values.first_key_value() {
+            Some((digits, value)) => Some((digits.phone(), value)),
+            None => None,
+        }
+    }
+
+    /// The least phone behind these digits, as one of 2019, and its value.
+    pub fn behind(&self, after: &Key) -> Option<(Phone, &T)>
+        ensures none { IfNone result
+            ((q : List ℕ) → slice_cmp nat_cmp after.now q ≡ Less → under self.now q ≡ None) }
+        ensures edition { IfSome result (λ one. one.0.edition ≡ E2019) }
+        ensures behind { IfSome result (λ one. slice_cmp nat_cmp after.now (key_of one.0) ≡ Less) }
+        ensures value { IfSome result (λ one. under self.now (key_of one.0) ≡ Some one.1.now) }
+        ensures least { IfSome result (λ one.
+            (q : List ℕ) → slice_cmp nat_cmp after.now q ≡ Less → IsSome (under self.now q) →
+            is_gt (slice_cmp nat_cmp (key_of one.0) q) ≡ false) }
+    {
+        let from = Bound::Excluded(Digits::of(after));
+        match self.values.range((from, Bound::Unbounded)).next() {
+            Some((digits, value)) => Some((digits.phone(), value)),
+            None => None,
+        }
     }
 
     /// Sets the value of a phone, and answers the one that it had.

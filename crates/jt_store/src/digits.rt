@@ -1,7 +1,9 @@
 //! The digits of phones as keys of maps.
 
 ghost use Rattle.std.specs.Prelude.{◌≡◌};
+ghost use Rattle.jt_value.specs.declared.phone.Edition.TheVariants.{E2019};
 
+use jt_value::{Edition, Phone};
 use std::cmp::Ordering;
 use std::marker::Model;
 
@@ -32,6 +34,25 @@ impl Digits {
             front: u64::from_be_bytes([a, b, c, d, e, f, g, h]),
             back: u16::from_be_bytes([i, j]),
         }
+    }
+
+    /// The phone of 2019 with these digits.
+    pub fn phone(&self) -> Phone
+        ensures { result ≡ record { edition = E2019; digits = self.now } }
+    {
+        let digits = self.octets();
+        Phone {
+            edition: Edition::E2019,
+            digits,
+        }
+    }
+
+    fn octets(&self) -> [u8; 10]
+        ensures { result ≡ self.now }
+    {
+        let [a, b, c, d, e, f, g, h] = self.front.to_be_bytes();
+        let [i, j] = self.back.to_be_bytes();
+        [a, b, c, d, e, f, g, h, i, j]
     }
 }
 

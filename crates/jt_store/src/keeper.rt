@@ -1,9 +1,10 @@
 //! What keeps a platform's registrations and rows.
 
+ghost use Rattle.std.specs.Option.{option_copied, option_map};
 ghost use Rattle.std.specs.Prelude.{◌≡◌, ◌<◌, ◌≤◌, ◌^◌, ℕ, Bool, None, Some, Option, IfOk, IfSome, OnOk};
 ghost use Rattle.jt_value.specs.declared.limits.TheConstants.{ROW_LIMIT};
 ghost use Rattle.jt_value.specs.Sameness.{key_of};
-ghost use Rattle.jt_store.specs.Tables.{Tables, WhereKnown, IsTrimmed, MayRegister, MayAppend, AreRows, AreNamedOnce, last_of, Finds, FindsFrom, plates, terminals, IsOwner, row_added, registered_set, Reads, Writes, Appends, HasCause, IsSteady};
+ghost use Rattle.jt_store.specs.Tables.{Tables, WhereKnown, IsTrimmed, MayRegister, MayAppend, AreRows, AreNamedOnce, last_of, Finds, FindsFrom, FindsNext, IsBehind, plates, terminals, IsOwner, row_added, registered_set, Reads, Writes, Appends, HasCause, IsSteady};
 
 use crate::error::StoreError;
 use crate::row::{Registered, Row};
@@ -149,4 +150,26 @@ pub trait Keeper {
         ensures bound { limit self.old ≤ ROW_LIMIT }
         ensures cause { HasCause (faults self.old) (faults self.new) result }
         ensures steady { IsSteady (may_fail self.old) (may_fail self.new) result };
+}
+
+/// A keeper that also lists its registrations, one call each.
+pub trait Registrations: Keeper {
+    /// The phone with the least digits behind those of `after`, or with the least of all, as a phone of 2019, and what it is
+    /// registered with. None exactly where no phone behind is registered.
+    fn next_registered(
+        &mut self,
+        alloc: Global,
+        after: Option<&Phone>,
+    ) -> Result<Option<(Phone, Registered)>, StoreError>
+        ensures answer { Reads (Self.tables self.old) (Self.tables self.new)
+            (λ t found. FindsNext t.registered (option_map key_of (option_copied after.entry)) found)
+            result }
+        ensures behind { IfOk result (λ found. IfSome found (λ one.
+            IsBehind (option_map key_of (option_copied after.entry)) (key_of one.0))) }
+        ensures names { OnOk result
+            (WhereKnown (Self.tables self.old) (λ t. AreNamedOnce t.registered)) }
+        ensures limit { Self.limit self.new ≡ Self.limit self.old }
+        ensures bound { Self.limit self.old ≤ ROW_LIMIT }
+        ensures cause { HasCause (Self.faults self.old) (Self.faults self.new) result }
+        ensures steady { IsSteady (Self.may_fail self.old) (Self.may_fail self.new) result };
 }

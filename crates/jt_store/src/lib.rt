@@ -20,7 +20,7 @@ mod vault;
 pub use calls::Calls;
 pub use digits::Digits;
 pub use error::StoreError;
-pub use keeper::Keeper;
+pub use keeper::{Keeper, Registrations};
 pub use law::law_verdicts;
 pub use mem_keeper::MemKeeper;
 pub use mem_vault::MemVault;

@@ -1,15 +1,16 @@
 //! A keeper in memory, with a list of the calls that fail.
 
+ghost use Rattle.std.specs.Option.{option_map};
 ghost use Rattle.std.specs.Prelude.{◌≡◌, ◌<◌, ◌≤◌, ◌^◌, None, Some, [], IfOk, IfSome, OnOk, option_copied};
 ghost use Rattle.jt_value.specs.declared.limits.TheConstants.{ROW_LIMIT};
 ghost use Rattle.jt_value.specs.Sameness.{key_of};
 ghost use Rattle.jt_store.specs.Memory.{is_listed, list_under, owner_of, tables_of, InOrder};
-ghost use Rattle.jt_store.specs.Tables.{AreNamedOnce, AreRows, Appends, Finds, FindsFrom, HasCause, IsOwner, IsSteady, IsTrimmed, MayAppend, MayRegister, Reads, Writes, last_of, plates, registered_set, terminals};
+ghost use Rattle.jt_store.specs.Tables.{AreNamedOnce, AreRows, Appends, Finds, FindsFrom, FindsNext, HasCause, IsBehind, IsOwner, IsSteady, IsTrimmed, MayAppend, MayRegister, Reads, Writes, last_of, plates, registered_set, terminals};
 
 use crate::by_phone::{ByPhone, Key};
 use crate::calls::Calls;
 use crate::error::StoreError;
-use crate::keeper::Keeper;
+use crate::keeper::{Keeper, Registrations};
 use crate::registry::Registry;
 use crate::row::{Registered, Row, copy_registered, copy_row};
 use crate::rows::{find, find_from, last_number};
@@ -64,6 +65,22 @@ impl MemKeeper {
         ensures { result.now ≡ (tables_of self.now).rows (key_of phone.now) }
     {
         rows_of(&self.rows, phone)
+    }
+
+    // The least phone behind this one, or the least of all, and what it is registered with.
+    fn next_after(
+        &self,
+        alloc: Global,
+        after: Option<&Phone>,
+    ) -> Result<Option<(Phone, Registered)>, Memory>
+        ensures found { IfOk result (FindsNext (tables_of self.now).registered
+            (option_map key_of (option_copied after.entry))) }
+        ensures names { OnOk result (AreNamedOnce (tables_of self.now).registered) }
+    {
+        match self.registry.next(after) {
+            Some((phone, registered)) => Ok(Some((phone, copy_registered(alloc, registered)?))),
+            None => Ok(None),
+        }
     }
 }
 
@@ -310,5 +327,32 @@ impl Keeper for MemKeeper {
             Ok(()) => {}
         }
         Ok(())
+    }
+}
+
+impl Registrations for MemKeeper {
+    fn next_registered(
+        &mut self,
+        alloc: Global,
+        after: Option<&Phone>,
+    ) -> Result<Option<(Phone, Registered)>, StoreError>
+        ensures answer { Reads (Some (tables_of self.old)) (Some (tables_of self.new))
+            (λ t found. FindsNext t.registered (option_map key_of (option_copied after.entry)) found)
+            result }
+        ensures behind { IfOk result (λ found. IfSome found (λ one.
+            IsBehind (option_map key_of (option_copied after.entry)) (key_of one.0))) }
+        ensures names { OnOk result (AreNamedOnce (tables_of self.old).registered) }
+        ensures limit { self.new.limit ≡ self.old.limit }
+        ensures bound { self.old.limit ≤ ROW_LIMIT }
+        ensures cause { HasCause self.old.calls.faults self.new.calls.faults result }
+        ensures steady { IsSteady (is_listed self.old.calls.failing)
+            (is_listed self.new.calls.failing) result }
+        ensures in_order { InOrder self.old.calls self.new.calls result }
+    {
+        if !self.calls.goes() {
+            return Err(StoreError::Failed);
+        }
+        let found = self.next_after(alloc, after)?;
+        Ok(found)
     }
 }

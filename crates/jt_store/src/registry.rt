@@ -1,14 +1,18 @@
 //! Registrations in memory, found by the phone, by the plate and by the terminal id.
 
-ghost use Rattle.std.specs.Prelude.{◌≡◌, ℕ, List, [], Some, None, IfOk, OnOk, OnErr, option_copied, if◌then◌else◌};
-ghost use Rattle.jt_value.specs.Sameness.{same_key};
+ghost use Rattle.std.specs.Cmp.Lexicographic.{slice_cmp};
+ghost use Rattle.std.specs.Option.{option_map};
+ghost use Rattle.std.specs.Ordering.{is_gt, nat_cmp};
+ghost use Rattle.std.specs.Prelude.{◌≡◌, ℕ, List, [], Some, None, false, IfNone, IfOk, IfSome, IsSome, OnOk, OnErr, option_copied, if◌then◌else◌};
+ghost use Rattle.jt_value.specs.Sameness.{key_of, same_key};
+ghost use Rattle.jt_value.specs.declared.phone.Edition.TheVariants.{E2019};
 ghost use Rattle.jt_store.specs.Memory.{under};
-ghost use Rattle.jt_store.specs.Tables.{AreNamedOnce, IsHolder, IsTrimmed, MayRegister, plates, terminals};
+ghost use Rattle.jt_store.specs.Tables.{AreNamedOnce, IsBehind, IsHolder, IsTrimmed, MayRegister, plates, terminals};
 
 use crate::by_phone::{ByPhone, Key};
 use crate::names::Names;
 use crate::row::{Registered, copy_registered};
-use jt_value::Memory;
+use jt_value::{Memory, Phone};
 use std::alloc::Global;
 use std::marker::Model;
 
@@ -52,6 +56,26 @@ impl Registry {
         ensures names { AreNamedOnce (under self.now) }
     {
         self.registered.get(key)
+    }
+
+    /// The least phone behind this one, or the least of all, as one of 2019, and what it is registered with.
+    pub fn next(&self, after: Option<&Phone>) -> Option<(Phone, &Registered)>
+        ensures none { IfNone result ((q : List ℕ) →
+            IsBehind (option_map key_of (option_copied after.entry)) q → under self.now q ≡ None) }
+        ensures edition { IfSome result (λ one. one.0.edition ≡ E2019) }
+        ensures behind { IfSome result (λ one.
+            IsBehind (option_map key_of (option_copied after.entry)) (key_of one.0)) }
+        ensures value { IfSome result (λ one. under self.now (key_of one.0) ≡ Some one.1.now) }
+        ensures least { IfSome result (λ one. (q : List ℕ) →
+            IsBehind (option_map key_of (option_copied after.entry)) q →
+            IsSome (under self.now q) → is_gt (slice_cmp nat_cmp (key_of one.0) q) ≡ false) }
+        ensures names { AreNamedOnce (under self.now) }
+    {
+        let _ = &self.plates;
+        match after {
+            Some(phone) => self.registered.behind(&phone.digits),
+            None => self.registered.first(),
+        }
     }
 
     /// The phone that has a plate.

@@ -10,6 +10,8 @@ mod left_tests;
 #[cfg(test)]
 mod limit_tests;
 #[cfg(test)]
+mod listing_tests;
+#[cfg(test)]
 mod table_tests;
 #[cfg(test)]
 mod vault_tests;

@@ -1,4 +1,5 @@
 use crate::keeper_calls;
+use crate::listing::{Listed, first_unlike};
 use jt_store::{Keeper, MemKeeper, StoreError};
 use jt_value::{Edition, Phone, Seq};
 use std::alloc::Global;
@@ -155,5 +156,49 @@ fn listed_calls_fail(rt: HostRuntime) -> Result<(), Fail> {
     assert!(rt; keeper.last(alloc, &one) == Ok(None));
     assert!(rt; keeper.last(alloc, &one) == Err(StoreError::Failed));
     assert!(rt; keeper.last(alloc, &one) == Ok(None));
+    Ok(())
+}
+
+fn unlike(
+    alloc: Global,
+    keeper: &mut MemKeeper,
+    after: Option<Phone>,
+    wanted: &[Listed],
+) -> Result<Option<usize>, StoreError> {
+    first_unlike(alloc, keeper, after, wanted)
+}
+
+#[test]
+fn registrations_are_listed_by_their_digits(rt: HostRuntime) -> Result<(), Fail> {
+    let alloc = rt.alloc();
+    let low = phone(Edition::E2013, 0x10);
+    let middle = phone(Edition::E2019, 0x45);
+    let high = phone(Edition::E2013, 0x99);
+    let mut keeper = MemKeeper::new(alloc, 9, Seq::new(alloc));
+    assert!(rt; unlike(alloc, &mut keeper, None, &[]) == Ok(None));
+    assert!(rt; enrol(alloc, &mut keeper, &high, b"H1", b"h") == Ok(true));
+    assert!(rt; enrol(alloc, &mut keeper, &low, b"L1", b"l") == Ok(true));
+    assert!(rt; enrol(alloc, &mut keeper, &middle, b"M1", b"m") == Ok(true));
+    let all = &[
+        Listed(0x10, b'L', b'l'),
+        Listed(0x45, b'M', b'm'),
+        Listed(0x99, b'H', b'h'),
+    ];
+    assert!(rt; unlike(alloc, &mut keeper, None, all) == Ok(None));
+    assert!(rt; unlike(alloc, &mut keeper, Some(low), &all[1..]) == Ok(None));
+    assert!(rt; unlike(alloc, &mut keeper, Some(high), &[]) == Ok(None));
+    assert!(rt; keeper.unregister(alloc, &middle) == Ok(()));
+    assert!(rt; unlike(alloc, &mut keeper, Some(middle), &all[2..]) == Ok(None));
+    Ok(())
+}
+
+#[test]
+fn a_listing_fails_once_where_it_is_to(rt: HostRuntime) -> Result<(), Fail> {
+    let alloc = rt.alloc();
+    let mut failing = Seq::new(alloc);
+    assert!(rt; failing.push(1) == Ok(()));
+    let mut keeper = MemKeeper::new(alloc, 9, failing);
+    assert!(rt; unlike(alloc, &mut keeper, None, &[]) == Err(StoreError::Failed));
+    assert!(rt; unlike(alloc, &mut keeper, None, &[]) == Ok(None));
     Ok(())
 }

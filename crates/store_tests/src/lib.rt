@@ -5,6 +5,7 @@
 pub mod keeper_calls;
 #[cfg(test)]
 mod keeper_tests;
+pub mod listing;
 #[cfg(test)]
 mod migrate_calls;
 #[cfg(test)]
