@@ -10,10 +10,14 @@ use std::alloc::Global;
 pub struct Ground<P> {
     /// Where rows and registrations are kept.
     pub keeper: P,
-    /// The plates and terminals that may register.
+    /// The plates and terminals that may register, beside vehicles that are bound.
     pub fleet: Fleet,
     /// What codes are made of.
     pub secret: Octets,
+    /// How many vehicles are bound.
+    pub vehicles: usize,
+    /// How many registrations went when the store was opened for it, since the fleet does not allow them.
+    pub forgotten: usize,
 }
 
 /// Who has what the hubs of a service are made of, one after another.

@@ -2,6 +2,7 @@
 #![tactic(auto)]
 
 mod checking;
+mod chores;
 mod folder;
 mod ground;
 mod naming;
@@ -15,6 +16,7 @@ mod told;
 mod writing;
 
 pub use checking::check;
+pub use chores::Chores;
 pub use folder::{Locked, Trouble, lock, path_in, read_fleet_of, read_settings_of};
 pub use ground::{Ground, HasGround};
 pub use serving::{Flags, Service, serve};

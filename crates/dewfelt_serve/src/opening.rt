@@ -81,7 +81,7 @@ impl<G: HasGround> Opener<G> {
         match answer {
             Ok(ground) => {
                 if !self.is_open {
-                    say_opened(&mut watch.told().lock(rt), took);
+                    say_opened(&mut watch.told().lock(rt), &ground, took);
                     self.tried = Some(began);
                 }
                 self.is_open = true;

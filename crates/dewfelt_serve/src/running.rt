@@ -54,6 +54,8 @@ where
             keeper,
             fleet,
             secret,
+            vehicles: _,
+            forgotten: _,
         } = ground;
         let journal = Witnessed::of(self.rt, self.watch);
         let Ok(hub) = Hub::begin_with(self.alloc, keeper, fleet, secret, journal) else {
@@ -93,11 +95,7 @@ where
             let Some(ground) = opener.next(self.rt, self.alloc, self.watch) else {
                 return ServiceEnd::Stopped;
             };
-            say_listening(
-                &mut self.watch.told().lock(self.rt),
-                self.settings,
-                &ground.fleet,
-            );
+            say_listening(&mut self.watch.told().lock(self.rt), self.settings);
             let end = self.serve_hub(door, ground);
             if let Some(end) = self.after(end, &mut opener) {
                 return end;

@@ -2,6 +2,7 @@
 
 ghost use Rattle.std.specs.Thread.{IsSync};
 
+use crate::chores::{Chores, do_chores};
 use crate::ground::HasGround;
 use crate::running::Run;
 use crate::saying::say_start;
@@ -20,11 +21,13 @@ use std::time::Clock;
 
 /// All that a service is made of.
 #[derive(Drop)]
-pub struct Service<D, G, K, T> {
+pub struct Service<D, G, C, K, T> {
     /// Where links come in.
     pub door: D,
     /// What hubs are made of.
     pub ground: G,
+    /// What is done each second.
+    pub chores: C,
     /// Where lines go.
     pub sink: K,
     /// Who is told.
@@ -49,15 +52,21 @@ fn status_of(end: ServiceEnd) -> Status {
     }
 }
 
-// The service ended so: the lines of that are the last ones.
-fn finish<R: Wait, T: Clock + Drop>(
-    rt: &R,
-    watch: &Watch<Told<T>>,
-    end: ServiceEnd,
-    is_done: &AtomicBool,
-) {
-    watch.told().lock(rt).end_with(end);
-    is_done.store(true, Ordering::SeqCst);
+// What a service is made of, but for its lines.
+#[derive(Drop)]
+struct Parts<D, G, C> {
+    door: D,
+    ground: G,
+    chores: C,
+}
+
+// What the threads of a service look at to end.
+#[derive(Drop)]
+struct Ends {
+    // No link is served any more.
+    is_over: AtomicBool,
+    // All is done, and no line comes any more but the last ones.
+    is_done: AtomicBool,
 }
 
 // Starts the thread that writes lines. Tells whether it could be made.
@@ -79,14 +88,31 @@ where
         .is_ok()
 }
 
-// Serves while a thread writes lines.
-fn serve_and_write<R, D, G, T, K>(
+// Starts the thread that does the chores. Tells whether it could be made.
+fn start_chores<'t, E, R, T, C>(
+    scope: &'t Scope<'t, E>,
+    rt: &'t R,
+    watch: &'t Watch<Told<T>>,
+    chores: C,
+    is_over: &'t AtomicBool,
+) -> bool
+where
+    R: Threads + Wait + Clock + Sync + 't,
+    T: Clock + Send + Drop + 't,
+    C: Chores<T> + Send + Drop + 't,
+{
+    scope
+        .spawn(move || do_chores(rt, watch, chores, is_over))
+        .is_ok()
+}
+
+// Serves while a thread does the chores.
+fn serve_and_do<R, D, G, C, T>(
     run: Run<R, T>,
     mut door: D,
     ground: G,
-    sink: K,
-    room: Vec<u8>,
-    is_done: &AtomicBool,
+    chores: C,
+    is_over: &AtomicBool,
 ) -> ServiceEnd
 where
     R: Threads + Wait + Clock + Sync,
@@ -94,6 +120,42 @@ where
     D::Link: Send,
     G: HasGround + Drop,
     G::Keeper: Send,
+    C: Chores<T> + Send + Drop,
+    T: Clock + Send + Drop,
+{
+    let rt = run.rt;
+    let watch = run.watch;
+    thread::scope(
+        thread::scope_env(),
+        rt,
+        move |scope| -> ServiceEnd
+            requires sync { IsSync R.row }
+        {
+            if !start_chores(scope, rt, watch, chores, is_over) {
+                return ServiceEnd::NoThread;
+            }
+            let end = run.serve(&mut door, ground);
+            is_over.store(true, Ordering::SeqCst);
+            end
+        },
+    )
+}
+
+// Serves while a thread writes lines.
+fn serve_and_write<R, D, G, C, T, K>(
+    run: Run<R, T>,
+    service: Parts<D, G, C>,
+    sink: K,
+    room: Vec<u8>,
+    ends: &Ends,
+) -> ServiceEnd
+where
+    R: Threads + Wait + Clock + Sync,
+    D: Door + Drop,
+    D::Link: Send,
+    G: HasGround + Drop,
+    G::Keeper: Send,
+    C: Chores<T> + Send + Drop,
     T: Clock + Send + Drop,
     K: Sink + Send + Drop,
 {
@@ -105,22 +167,29 @@ where
         move |scope| -> ServiceEnd
             requires sync { IsSync R.row }
         {
-            if !start_writer(scope, rt, watch, sink, room, is_done) {
+            if !start_writer(scope, rt, watch, sink, room, &ends.is_done) {
                 return ServiceEnd::NoThread;
             }
-            let end = run.serve(&mut door, ground);
-            finish(rt, watch, end, is_done);
+            let Parts {
+                door,
+                ground,
+                chores,
+            } = service;
+            let end = serve_and_do(run, door, ground, chores, &ends.is_over);
+            watch.told().lock(rt).end_with(end);
+            ends.is_done.store(true, Ordering::SeqCst);
             end
         },
     )
 }
 
-/// Serves the links that come in at the door, and writes lines to the sink, until the first flag is set, or no more links can be
-/// served. A store that does not open, or fails, is tried again. Answers how it ended, once the sink has taken the last lines.
-pub fn serve<R, D, G, K, T>(
+/// Serves the links that come in at the door, does the chores, and writes lines to the sink, until the first flag is set, or no more
+/// links can be served. A store that does not open, or fails, is tried again. Answers how it ended, once the sink has taken the last
+/// lines.
+pub fn serve<R, D, G, C, K, T>(
     rt: &R,
     alloc: Global,
-    service: Service<D, G, K, T>,
+    service: Service<D, G, C, K, T>,
     settings: &Settings,
     flags: Flags,
 ) -> Status
@@ -130,6 +199,7 @@ where
     D::Link: Send,
     G: HasGround + Drop,
     G::Keeper: Send,
+    C: Chores<T> + Send + Drop,
     K: Sink + Send + Drop,
     T: Clock + Send + Drop,
 {
@@ -139,11 +209,15 @@ where
     let Service {
         door,
         ground,
+        chores,
         sink,
         mut told,
     } = service;
     say_start(&mut told, settings);
-    let is_done = AtomicBool::new(false);
+    let ends = Ends {
+        is_over: AtomicBool::new(false),
+        is_done: AtomicBool::new(false),
+    };
     let watch = Watch::new(alloc, told, flags.stops, flags.ends);
     let run = Run {
         rt,
@@ -151,5 +225,10 @@ where
         watch: &watch,
         settings,
     };
-    status_of(serve_and_write(run, door, ground, sink, room, &is_done))
+    let parts = Parts {
+        door,
+        ground,
+        chores,
+    };
+    status_of(serve_and_write(run, parts, sink, room, &ends))
 }

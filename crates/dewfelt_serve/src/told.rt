@@ -9,6 +9,7 @@ use jt_service::{Away, Counts, Ended, ServiceEnd, Tell};
 use jt_session::Report;
 use jt_value::Phone;
 use std::alloc::{AllocError, Global};
+use std::io;
 use std::net::SocketAddr;
 use std::time::Clock;
 
@@ -148,6 +149,20 @@ impl<R: Clock + Drop> Told<R> {
         let mut line = self.line(event);
         line.text(key, value);
         self.put(line);
+    }
+
+    /// Puts a line of a phone that is registered no more, since a command asked for that.
+    pub(crate) fn say_forgot(&mut self, phone: &Phone) {
+        let mut line = self.line("forgot");
+        put_phone(&mut line, phone);
+        self.put(line);
+    }
+
+    /// Puts a line of a fault, with what the system says of it.
+    pub(crate) fn say_error(&mut self, what: &str, error: &io::Error) {
+        if let Ok(text) = format!(in self.alloc; "{error}") {
+            self.say("fault", what, text.as_str());
+        }
     }
 
     /// Takes the lines that wait, for an empty room.

@@ -7,3 +7,5 @@ mod counting;
 mod links;
 #[cfg(test)]
 mod rows;
+#[cfg(test)]
+mod serving;

@@ -16,12 +16,20 @@ use std::sync::{Arc, Wait};
 use std::thread;
 use std::time::{Clock, Duration};
 
+/// The heartbeat of phone 013912345678, which takes 20 octets of an answer.
+pub const HEARTBEAT: &[u8] = b"\x7e\0\x02\0\0\x019\x124Vx\0\02\x7e";
+
+/// The registration of phone 333435363738, and its authentication, with a unit behind them: 53, 31 and 43 octets. The answers have
+/// 34, 20 and 20.
+pub const TERMINAL: &[u8] =
+    b"\x7e\x01\0\0\x26345678\0\0\0\0\0\0\0\0\0\0\0\0\0\0\0\0\0\0\0\0\0\0\0\0\0\0\0\0\0\0\01\0\0\0\0\0\0\x01A\x5d\x7e\x7e\x01\x02\0\x10345678\0\x01ef797c8118f02dfbD\x7e\x7e\x02\0\0\x1c345678\0\x02\0\0\0\0\0\0\0\0\0\0\0\0\0\0\0\0\0\0\0\0\0\0\0\0\0\0\0\0\x17\x7e";
+
 const PHONE: Phone = Phone {
     edition: Edition::E2013,
     digits: [0, 0, 0, 0, 0x33, 0x34, 0x35, 0x36, 0x37, 0x38],
 };
 
-fn peer() -> SocketAddr {
+pub(crate) fn peer() -> SocketAddr {
     SocketAddr::new(IpAddr::V4(Ipv4Addr::new(127, 0, 0, 1)), 41_022)
 }
 

@@ -1,7 +1,7 @@
 ghost use Rattle.std.specs.Prelude.{◌≡◌, []};
 
 use crate::counting::{Counting, NOTHING};
-use crate::links::{Step, Steps};
+use crate::links::{HEARTBEAT, Step, Steps, TERMINAL};
 use jt_platform::{Fleet, Hub};
 use jt_service::{Limits, ServiceEnd, Watch, Witnessed, serve_on};
 use jt_store::MemKeeper;
@@ -13,15 +13,7 @@ use std::sync::{Arc, Wait};
 use std::thread::Threads;
 use std::time::Clock;
 
-/// The heartbeat of phone 013912345678, which takes 20 octets of an answer.
-const HEARTBEAT: &[u8] = b"\x7e\0\x02\0\0\x019\x124Vx\0\02\x7e";
-
-/// The registration of phone 333435363738, and its authentication, with a unit behind them: 53, 31 and 43 octets. The answers have
-/// 34, 20 and 20.
-const TERMINAL: &[u8] =
-    b"\x7e\x01\0\0\x26345678\0\0\0\0\0\0\0\0\0\0\0\0\0\0\0\0\0\0\0\0\0\0\0\0\0\0\0\0\0\0\01\0\0\0\0\0\0\x01A\x5d\x7e\x7e\x01\x02\0\x10345678\0\x01ef797c8118f02dfbD\x7e\x7e\x02\0\0\x1c345678\0\x02\0\0\0\0\0\0\0\0\0\0\0\0\0\0\0\0\0\0\0\0\0\0\0\0\0\0\0\0\x17\x7e";
-
-fn one(rt: &impl Abort, alloc: Global, octets: &[u8]) -> Seq<Octets> {
+pub(crate) fn one(rt: &impl Abort, alloc: Global, octets: &[u8]) -> Seq<Octets> {
     let octets = Vec::from_slice(alloc, octets).expect(rt, "there is memory");
     let mut list = Seq::new(alloc);
     list.push(Octets::from_vec(octets))
@@ -29,7 +21,7 @@ fn one(rt: &impl Abort, alloc: Global, octets: &[u8]) -> Seq<Octets> {
     list
 }
 
-fn secret(rt: &impl Abort, alloc: Global) -> Octets {
+pub(crate) fn secret(rt: &impl Abort, alloc: Global) -> Octets {
     let octets = Vec::from_slice(alloc, b"12").expect(rt, "there is memory");
     Octets::from_vec(octets)
 }
