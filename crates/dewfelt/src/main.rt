@@ -1,17 +1,17 @@
 //! The program `dewfelt`: it makes the real objects, and leaves all else to `dewfelt_serve`.
 #![tactic(auto)]
 
+use dewfelt_commands::{Clerk, Failed, Locked, Stores, copy, forget, registrations, stop};
+use dewfelt_fleet::Fleet;
 use dewfelt_serve::{
-    Flags, Ground, HasGround, Locked, Service, Status, Told, Trouble, check, lock, path_in,
-    read_fleet_of, read_settings_of, serve,
+    Flags, OverFolder, Status, Told, Trouble, check, clerk_of, lock, read_fleet_of,
+    read_settings_of, serve_over,
 };
 use dewfelt_settings::{Choices, Command, HELP, Settings, VERSION, read_command};
 use jt_outside::StdSink;
-use jt_platform::Fleet;
 use jt_service::{Door, ServiceListen};
 use jt_sql::SqlKeeper;
-use jt_store::{Keeper, StoreError};
-use jt_value::{Edition, Memory, Octets, Phone};
+use jt_value::Memory;
 use std::alloc::{AllocError, Global};
 use std::env::Env;
 use std::io::{ErrorKind, Read, Stdin, Stdout};
@@ -71,78 +71,40 @@ fn wait_for_the_end(mut input: Stdin, ended: Arc<AtomicBool>) {
     ended.store(true, Ordering::SeqCst);
 }
 
+// The files of rows and registrations.
+#[derive(Drop)]
+struct SqlFiles {
+    rt: HostRuntime,
+}
+
+impl Stores for SqlFiles {
+    type Keeper = SqlKeeper<HostRuntime>;
+
+    fn at(&self, path: &str) -> Result<SqlKeeper<HostRuntime>, Memory> {
+        SqlKeeper::at(self.rt.clone()?, path)
+    }
+}
+
 // What is read before a service is made, and the lock of the folder.
 #[derive(Drop)]
 struct Prepared {
     settings: Settings,
-    fleet: Fleet,
-    secret: Octets,
     locked: Locked,
+    text: Vec<u8>,
+    fleet: Fleet,
+    clerk: Clerk,
 }
 
 fn prepare(rt: &HostRuntime, folder: &str, words: &Choices) -> Result<Prepared, Trouble> {
     let file = read_settings_of(rt, folder)?;
     let locked = lock(rt, folder)?;
-    let (secret, fleet) = read_fleet_of(rt, folder)?;
+    let (text, fleet) = read_fleet_of(rt, folder)?;
     Ok(Prepared {
         settings: Settings::of(words, &file),
-        fleet,
-        secret,
         locked,
-    })
-}
-
-// A phone that no terminal has.
-const NOBODY: Phone = Phone {
-    edition: Edition::E2019,
-    digits: [0; 10],
-};
-
-// What hubs are made of, over the folder's file.
-#[derive(Drop)]
-struct InFolder {
-    rt: HostRuntime,
-    path: String,
-    fleet: Fleet,
-    secret: Octets,
-}
-
-impl InFolder {
-    fn keeper(&self, alloc: Global) -> Result<SqlKeeper<HostRuntime>, StoreError> {
-        let mut keeper = SqlKeeper::at(self.rt.clone()?, self.path.as_str())?;
-        let _nobody = keeper.registered(alloc, &NOBODY)?;
-        Ok(keeper)
-    }
-}
-
-impl HasGround for InFolder {
-    type Keeper = SqlKeeper<HostRuntime>;
-
-    fn next(&mut self, alloc: Global) -> Result<Ground<SqlKeeper<HostRuntime>>, StoreError> {
-        Ok(Ground {
-            keeper: self.keeper(alloc)?,
-            fleet: Fleet {
-                plates: self.fleet.plates.copy(alloc)?,
-                terminals: self.fleet.terminals.copy(alloc)?,
-            },
-            secret: self.secret.copy(alloc)?,
-        })
-    }
-
-    fn let_go(&mut self) {}
-}
-
-fn ground_of(
-    rt: &HostRuntime,
-    folder: &str,
-    fleet: Fleet,
-    secret: Octets,
-) -> Result<InFolder, AllocError> {
-    Ok(InFolder {
-        rt: rt.clone()?,
-        path: path_in(rt.alloc(), folder, "platform.db")?,
+        text,
         fleet,
-        secret,
+        clerk: clerk_of(rt, folder)?,
     })
 }
 
@@ -186,41 +148,8 @@ fn told_of(rt: &HostRuntime) -> Result<Told<HostRuntime>, AllocError> {
     Told::new(rt.alloc(), rt.clone()?)
 }
 
-// Serves over a door and a ground of any types. (the types of both at once are too much for one proof)
-fn serve_over<R, D, G>(
-    threads: &R,
-    rt: &HostRuntime,
-    settings: Settings,
-    door: D,
-    ground: G,
-    flags: Flags,
-) -> Status
-where
-    R: Threads + Wait + Clock + Sync,
-    D: Door + Drop,
-    D::Link: Send,
-    G: HasGround + Drop,
-    G::Keeper: Send,
-{
-    if settings.until_input_ends {
-        if let Err(status) = watch_input(threads, rt, &flags) {
-            return status;
-        }
-    }
-    let Ok(told) = told_of(rt) else {
-        return Status::Memory;
-    };
-    let service = Service {
-        door,
-        ground,
-        sink: StdSink::new(rt.stdout()),
-        told,
-    };
-    serve(threads, rt.alloc(), service, &settings, flags)
-}
-
-// Serves over the folder's file.
-fn serve_file<R, D>(
+// Serves over a door of any type. (the types of door and store at once are too much for one proof)
+fn serve_door<R, D>(
     threads: &R,
     rt: &HostRuntime,
     folder: &str,
@@ -229,27 +158,44 @@ fn serve_file<R, D>(
     flags: Flags,
 ) -> Status
 where
-    R: Threads + Wait + Clock + Sync,
+    R: Threads + Wait + Clock + Sync + Send + Clone + Drop,
     D: Door + Drop,
     D::Link: Send,
 {
     let Prepared {
         settings,
-        fleet,
-        secret,
         locked,
+        text,
+        fleet,
+        clerk,
     } = prepared;
-    let Ok(ground) = ground_of(rt, folder, fleet, secret) else {
+    if settings.until_input_ends {
+        if let Err(status) = watch_input(threads, rt, &flags) {
+            return status;
+        }
+    }
+    let (Ok(told), Ok(files), Ok(own)) = (told_of(rt), rt.clone(), rt.clone()) else {
         return Status::Memory;
     };
-    let status = serve_over(threads, rt, settings, door, ground, flags);
+    let over = OverFolder {
+        folder,
+        files,
+        stores: SqlFiles { rt: own },
+        text,
+        fleet,
+        clerk,
+        door,
+        sink: StdSink::new(rt.stdout()),
+        told,
+    };
+    let status = serve_over(threads, rt.alloc(), over, &settings, flags);
     drop(locked);
     status
 }
 
 fn serve_folder<R>(threads: &R, rt: &HostRuntime, folder: &str, words: &Choices) -> Status
 where
-    R: Threads + Wait + Clock + Sync,
+    R: Threads + Wait + Clock + Sync + Send + Clone + Drop,
 {
     let prepared = match prepare(rt, folder, words) {
         Ok(prepared) => prepared,
@@ -260,7 +206,7 @@ where
     };
     match door_of(rt, &prepared.settings, &flags) {
         Ok(door) => {
-            let status = serve_file(threads, rt, folder, prepared, door, flags);
+            let status = serve_door(threads, rt, folder, prepared, door, flags);
             say_status(rt, folder, status)
         }
         Err(trouble) => say(rt, &trouble),
@@ -284,18 +230,69 @@ fn check_folder(rt: &HostRuntime, folder: &str, words: &Choices) -> Status {
     }
 }
 
-fn over_words<R>(threads: &R, rt: &HostRuntime, words: &[String]) -> Status
+// How the program ends where a command beside a service ended so, and what it prints.
+fn end_of(rt: &HostRuntime, answer: Result<String, Failed>) -> u8 {
+    match answer {
+        Ok(text) => print_text(rt, text.as_str()).number(),
+        Err(failed) => {
+            let why = failed.text.as_str();
+            let why = if why.is_empty() {
+                failed.outcome.text()
+            } else {
+                why
+            };
+            let _ = eprintln!(rt; "dewfelt: {why}");
+            failed.outcome.number()
+        }
+    }
+}
+
+fn text_of(rt: &HostRuntime, said: Result<&'static str, Failed>) -> Result<String, Failed> {
+    match String::from_str(rt.alloc(), said?) {
+        Ok(text) => Ok(text),
+        Err(_) => Err(Failed::memory(rt.alloc())),
+    }
+}
+
+// What a command beside a service prints.
+fn beside(rt: &HostRuntime, stores: &SqlFiles, command: Command) -> Result<String, Failed> {
+    let mut err = StdSink::new(rt.stderr());
+    match command {
+        Command::Registrations(folder) => registrations(rt, stores, folder, &mut err),
+        Command::Forget(folder, phone) => {
+            text_of(
+                rt,
+                forget(rt, stores, folder, &phone, &mut err).map(|()| ""),
+            )
+        }
+        Command::Copy(folder, file) => copy(rt, stores, folder, file, &mut err),
+        Command::Stop(folder) => text_of(rt, stop(rt, folder, &mut err)),
+        _ => text_of(rt, Ok("")),
+    }
+}
+
+fn run_beside(rt: &HostRuntime, command: Command) -> u8 {
+    match rt.clone() {
+        Ok(own) => end_of(rt, beside(rt, &SqlFiles { rt: own }, command)),
+        Err(_) => say_text(rt, Status::Memory).number(),
+    }
+}
+
+fn over_words<R>(threads: &R, rt: &HostRuntime, words: &[String]) -> u8
 where
-    R: Threads + Wait + Clock + Sync,
+    R: Threads + Wait + Clock + Sync + Send + Clone + Drop,
 {
     match read_command(rt.alloc(), words) {
-        Ok(Command::Serve(folder, choices)) => serve_folder(threads, rt, folder, &choices),
-        Ok(Command::Check(folder, choices)) => check_folder(rt, folder, &choices),
-        Ok(Command::Help) => print_text(rt, HELP),
-        Ok(Command::Version) => print_text(rt, VERSION),
+        Ok(Command::Serve(folder, choices)) => {
+            serve_folder(threads, rt, folder, &choices).number()
+        }
+        Ok(Command::Check(folder, choices)) => check_folder(rt, folder, &choices).number(),
+        Ok(Command::Help) => print_text(rt, HELP).number(),
+        Ok(Command::Version) => print_text(rt, VERSION).number(),
+        Ok(command) => run_beside(rt, command),
         Err(wrong) => {
             let _ = eprintln!(rt; "dewfelt: {wrong}");
-            Status::Usage
+            Status::Usage.number()
         }
     }
 }
@@ -311,7 +308,7 @@ fn status_of_words(error: &io::Error) -> Status {
 fn main(rt: HostRuntime) -> ExitCode {
     let status = match words(&rt) {
         Ok(words) => over_words(&rt, &rt, words.as_slice()),
-        Err(error) => say_text(&rt, status_of_words(&error)),
+        Err(error) => say_text(&rt, status_of_words(&error)).number(),
     };
-    ExitCode::from(status.number())
+    ExitCode::from(status)
 }

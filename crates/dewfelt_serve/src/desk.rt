@@ -14,6 +14,7 @@ use std::sync::{Mutex, Wait};
 use std::time::Clock;
 
 /// What a service does for commands.
+#[derive(Drop)]
 pub(crate) struct Desk<'w, R, F, T, K> {
     pub(crate) rt: &'w R,
     pub(crate) files: &'w F,
@@ -90,7 +91,10 @@ where
         };
         drop(present);
         if copied.is_ok() {
-            self.watch.told().lock(self.rt).say("copied", "by", "command");
+            self.watch
+                .told()
+                .lock(self.rt)
+                .say("copied", "by", "command");
         }
         copied
     }

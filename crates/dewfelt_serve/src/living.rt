@@ -1,5 +1,6 @@
 //! What hubs are made of over a folder, whose fleet may change.
 
+use crate::folder::path_in;
 use crate::ground::{Ground, HasGround};
 use crate::present::Present;
 use dewfelt_commands::Stores;
@@ -9,17 +10,41 @@ use jt_platform::Fleet as Names;
 use jt_store::{Registrations, StoreError};
 use jt_value::limits::ROW_LIMIT;
 use jt_value::{Memory, Octets};
-use std::alloc::Global;
+use std::alloc::{AllocError, Global};
 use std::sync::{Arc, Mutex, Wait};
 
 /// What hubs are made of over a folder, whose fleet may change: they share the registry, and have the secret of the start.
 #[derive(Drop)]
 pub struct Living<W, S: Stores> {
-    pub(crate) rt: W,
-    pub(crate) stores: S,
-    pub(crate) path: String,
-    pub(crate) secret: Octets,
-    pub(crate) present: Arc<Mutex<Present<S::Keeper>>>,
+    rt: W,
+    stores: S,
+    path: String,
+    secret: Octets,
+    present: Arc<Mutex<Present<S::Keeper>>>,
+}
+
+impl<W, S: Stores> Living<W, S> {
+    /// What hubs are made of over this folder, with this secret.
+    pub fn of(
+        rt: W,
+        stores: S,
+        alloc: Global,
+        folder: &str,
+        secret: &[u8],
+        present: Arc<Mutex<Present<S::Keeper>>>,
+    ) -> Result<Living<W, S>, AllocError>
+    where
+        W: Drop,
+        S: Drop,
+    {
+        Ok(Living {
+            path: path_in(alloc, folder, "platform.db")?,
+            secret: Octets::from_vec(Vec::from_slice(alloc, secret)?),
+            rt,
+            stores,
+            present,
+        })
+    }
 }
 
 // The names that any phone may register that is not bound.

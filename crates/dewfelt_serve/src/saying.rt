@@ -84,6 +84,9 @@ pub(crate) fn say_bad_fleet<T: Clock + Drop>(told: &mut Told<T>, bad: &BadLine) 
     line.text("result", "bad");
     line.number("line", bad.number);
     line.text("text", bad.text.as_str());
-    line.text("expected", bad.expected);
+    let expected = bad.expected;
+    if let Ok(text) = format!(in told.alloc(); "{expected}") {
+        line.text("expected", text.as_str());
+    }
     told.put(line);
 }

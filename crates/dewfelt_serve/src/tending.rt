@@ -4,14 +4,15 @@ use crate::Told;
 use crate::chores::Chores;
 use crate::desk::Desk;
 use crate::fleet_file::FleetFile;
+use crate::folder::path_in;
 use crate::present::Present;
 use crate::saying::{FleetTaken, say_bad_fleet, say_fleet};
 use dewfelt_commands::Clerk;
-use dewfelt_fleet::{Fleet, FleetError, read_fleet};
+use dewfelt_fleet::{Fleet, NoFleet, read_fleet};
 use jt_service::Watch;
 use jt_store::{Registrations, StoreError};
 use jt_value::{Phone, Seq};
-use std::io;
+use std::alloc::AllocError;
 use std::rt::Files;
 use std::sync::{Arc, Mutex, Wait};
 use std::time::Clock;
@@ -19,18 +20,18 @@ use std::time::Clock;
 /// Tends a folder while a service runs over it.
 #[derive(Drop)]
 pub struct Tending<F, K> {
-    pub(crate) files: F,
-    pub(crate) store: String,
-    pub(crate) fleet: FleetFile,
-    pub(crate) clerk: Clerk,
-    pub(crate) present: Arc<Mutex<Present<K>>>,
+    files: F,
+    store: String,
+    fleet: FleetFile,
+    clerk: Clerk,
+    present: Arc<Mutex<Present<K>>>,
     // The phones that were forgotten at the last look. One of them may have been let in just then, so that their links end once more.
-    pub(crate) forgotten: Seq<Phone>,
+    forgotten: Seq<Phone>,
     // Whether the file of the fleet was read.
-    pub(crate) has_read: bool,
+    has_read: bool,
     // Whether it was said that a fleet can't be taken, or that commands can't be answered.
-    pub(crate) is_fault_said: bool,
-    pub(crate) is_folder_said: bool,
+    is_fault_said: bool,
+    is_folder_said: bool,
 }
 
 impl<F, K> Tending<F, K>
@@ -38,6 +39,27 @@ where
     F: Files + AllocGlobal + Clone + Drop,
     K: Registrations + Drop,
 {
+    /// Tends the folder, by this clerk.
+    pub fn of(
+        files: F,
+        folder: &str,
+        clerk: Clerk,
+        present: Arc<Mutex<Present<K>>>,
+    ) -> Result<Tending<F, K>, AllocError> {
+        let alloc = files.alloc();
+        Ok(Tending {
+            store: path_in(alloc, folder, "platform.db")?,
+            fleet: FleetFile::new(path_in(alloc, folder, "fleet")?),
+            files,
+            clerk,
+            present,
+            forgotten: Seq::new(alloc),
+            has_read: false,
+            is_fault_said: false,
+            is_folder_said: false,
+        })
+    }
+
     // Ends the links of those that were forgotten.
     fn dismiss<R: Wait, T: Clock + Drop>(&self, rt: &R, watch: &Watch<Told<T>>) {
         for phone in self.forgotten.as_slice() {
@@ -113,8 +135,8 @@ where
         }
         match read_fleet(self.files.alloc(), text.as_slice()) {
             Ok(fleet) => self.take_fleet(rt, watch, fleet, text),
-            Err(FleetError::Bad(bad)) => say_bad_fleet(&mut watch.told().lock(rt), &bad),
-            Err(FleetError::Memory) => self.fleet_failed(rt, watch),
+            Err(NoFleet::Bad(bad)) => say_bad_fleet(&mut watch.told().lock(rt), &bad),
+            Err(NoFleet::Memory) => self.fleet_failed(rt, watch),
         }
     }
 

@@ -126,6 +126,10 @@ impl<R: Clock + Drop> Told<R> {
         })
     }
 
+    pub(crate) fn alloc(&self) -> Global {
+        self.alloc
+    }
+
     // Seconds since 1970; 0 where the clock can't be read.
     fn seconds(&self) -> u64 {
         match self.rt.since_1970() {

@@ -38,6 +38,9 @@ const LOOK: u64 = 10;
 
 const LOOKS: u32 = 1_000;
 
+// So long a slow link waits, in milliseconds.
+const QUIET: u64 = 100;
+
 /// A link that gives octets, and then ends, or is quiet for ever. It takes what is written; or, where it is deaf, nothing: a write
 /// waits until its flag is set, for ten seconds at most, and fails.
 #[derive(Drop)]
@@ -45,6 +48,7 @@ pub struct TestLink<'w, R> {
     octets: &'static [u8],
     stays: bool,
     deaf: Option<(&'w R, Arc<AtomicBool>)>,
+    slow: Option<&'w R>,
     faults: u64,
     quiets: u64,
     run: u64,
@@ -67,6 +71,7 @@ impl<'w, R: Clock> TestLink<'w, R> {
             octets,
             stays,
             deaf: None,
+            slow: None,
             faults: 0,
             quiets: 0,
             run: 0,
@@ -76,6 +81,13 @@ impl<'w, R: Clock> TestLink<'w, R> {
     fn deaf(octets: &'static [u8], rt: &'w R, ends: Arc<AtomicBool>) -> TestLink<'w, R> {
         let mut link = TestLink::new(octets, true);
         link.deaf = Some((rt, ends));
+        link
+    }
+
+    /// A link that gives octets, and is then quiet each tenth of a second.
+    pub fn slow(octets: &'static [u8], rt: &'w R) -> TestLink<'w, R> {
+        let mut link = TestLink::new(octets, true);
+        link.slow = Some(rt);
         link
     }
 
@@ -129,6 +141,9 @@ impl<'w, R: Clock> Link for TestLink<'w, R> {
             self.octets = &octets[count..];
             self.run = 0;
             return LinkGot::Bytes(count);
+        }
+        if let Some(rt) = self.slow {
+            thread::sleep(rt, Duration::from_millis(QUIET));
         }
         if self.stays {
             self.quiets = self.quiets.saturating_add(1);

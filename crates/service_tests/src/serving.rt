@@ -99,7 +99,7 @@ struct Acts<'w, R> {
 impl<'w, R: Wait + Clock> Acts<'w, R> {
     fn act(&mut self, act: Act) -> Arrived<TestLink<'w, R>> {
         match act {
-            Act::Terminal => Arrived::Link(TestLink::new(TERMINAL, true), Some(peer())),
+            Act::Terminal => Arrived::Link(TestLink::slow(TERMINAL, self.rt), Some(peer())),
             Act::Said(_, _) => Arrived::Nobody,
             Act::Stops => {
                 self.stops.store(true, Ordering::SeqCst);
@@ -157,6 +157,8 @@ impl Openings {
                 terminals: self.fleet.terminals.copy(alloc)?,
             },
             secret: self.secret.copy(alloc)?,
+            vehicles: 0,
+            forgotten: 0,
         })
     }
 }
