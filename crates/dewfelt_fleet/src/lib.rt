@@ -2,9 +2,15 @@
 //! them.
 #![tactic(auto)]
 
+mod bad;
 mod change;
 mod fleet;
+mod line;
 mod names;
+mod reader;
+mod words;
 
+pub use bad::{BadLine, Expected, NoFleet};
 pub use change::Change;
 pub use fleet::Fleet;
+pub use reader::read_fleet;

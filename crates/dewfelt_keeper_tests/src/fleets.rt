@@ -24,10 +24,14 @@ pub fn keeper(alloc: Global) -> MemKeeper {
     MemKeeper::new(alloc, 100, Seq::new(alloc))
 }
 
-pub fn registered(alloc: Global, plate: &[u8], terminal: &[u8]) -> Result<Registered, Memory> {
+pub fn octets(alloc: Global, octets: &[u8]) -> Result<Octets, Memory> {
+    Ok(Octets::from_vec(Vec::from_slice(alloc, octets)?))
+}
+
+fn registered(alloc: Global, plate: &[u8], terminal: &[u8]) -> Result<Registered, Memory> {
     Ok(Registered {
-        plate: Octets::from_vec(Vec::from_slice(alloc, plate)?),
-        terminal: Octets::from_vec(Vec::from_slice(alloc, terminal)?),
+        plate: octets(alloc, plate)?,
+        terminal: octets(alloc, terminal)?,
     })
 }
 

@@ -1,8 +1,8 @@
-use crate::fleets::{fleet, keeper, phone, registered};
+use crate::fleets::{fleet, keeper, phone};
 use dewfelt_fleet::Fleet;
-use dewfelt_keeper::{Forgetting, NOBODY, Registry};
-use jt_store::{Keeper, MemKeeper, Registrations, StoreError};
-use jt_value::{Phone, Seq};
+use dewfelt_keeper::{Forgetting, Registry};
+use jt_store::{MemKeeper, Registrations, StoreError};
+use jt_value::Seq;
 use std::alloc::Global;
 use std::test::Fail;
 use store_tests::keeper_calls::enrol;
@@ -33,6 +33,19 @@ fn enrolled(alloc: Global, keeper: &mut MemKeeper, rows: &[(u8, &[u8], &[u8])]) 
         }
     }
     true
+}
+
+// How many registrations a page has, and the last two digits of the last phone of it, or 0.
+fn page<K: Registrations>(
+    alloc: Global,
+    registry: &mut Registry<K>,
+    after: Option<u8>,
+    most: usize,
+) -> Result<(usize, u8), StoreError> {
+    let after = after.map(|last| phone(last));
+    let page = registry.page(alloc, after.as_ref(), most)?;
+    let last = page.as_slice().last().map_or(0, |one| one.0.digits[9]);
+    Ok((page.len(), last))
 }
 
 #[test]
@@ -69,5 +82,32 @@ fn a_fleet_is_applied_to_registrations(rt: HostRuntime) -> Result<(), Fail> {
         Listed(0x13, b'B', b'b'),
     ];
     assert!(rt; first_unlike(alloc, registry.keeper(), None, after) == Ok(None));
+    // What the operator forgets: a bound phone, one that is not there, one that is, and what is left.
+    assert!(rt; registry.forget(alloc, &phone(0x13)) == Ok(Forgetting::Bound));
+    assert!(rt; registry.forget(alloc, &phone(0x12)) == Ok(Forgetting::NotRegistered));
+    assert!(rt; registry.forget(alloc, &phone(0x10)) == Ok(Forgetting::Done));
+    assert!(rt; first_unlike(alloc, registry.keeper(), Some(phone(0x09)), &after[2..]) == Ok(None));
+    Ok(())
+}
+
+#[test]
+fn registrations_come_in_pages(rt: HostRuntime) -> Result<(), Fail> {
+    let alloc = rt.alloc();
+    let mut kept = keeper(alloc);
+    assert!(rt;
+        enrolled(
+            alloc,
+            &mut kept,
+            &[
+                (0x12, b"F3", b"f3"),
+                (0x10, b"F1", b"f1"),
+                (0x11, b"F2", b"f2"),
+            ]
+        )
+    );
+    let mut registry = Registry::new(kept, fleet(alloc, &[], &[], &[]).expect(&rt, "fleet"));
+    assert!(rt; page(alloc, &mut registry, None, 2) == Ok((2, 0x11)));
+    assert!(rt; page(alloc, &mut registry, Some(0x11), 2) == Ok((1, 0x12)));
+    assert!(rt; page(alloc, &mut registry, Some(0x12), 2) == Ok((0, 0)));
     Ok(())
 }
