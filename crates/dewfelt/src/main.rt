@@ -144,8 +144,10 @@ fn watch_input<R: Threads>(threads: &R, rt: &HostRuntime, flags: &Flags) -> Resu
     }
 }
 
-fn told_of(rt: &HostRuntime) -> Result<Told<HostRuntime>, AllocError> {
-    Told::new(rt.alloc(), rt.clone()?)
+// What is made of the runtime: who is told, what reads the folder's files, and its stores.
+fn made_of(rt: &HostRuntime) -> Result<(Told<HostRuntime>, HostRuntime, SqlFiles), AllocError> {
+    let told = Told::new(rt.alloc(), rt.clone()?)?;
+    Ok((told, rt.clone()?, SqlFiles { rt: rt.clone()? }))
 }
 
 // Serves over a door of any type. (the types of door and store at once are too much for one proof)
@@ -174,13 +176,13 @@ where
             return status;
         }
     }
-    let (Ok(told), Ok(files), Ok(own)) = (told_of(rt), rt.clone(), rt.clone()) else {
+    let Ok((told, files, stores)) = made_of(rt) else {
         return Status::Memory;
     };
     let over = OverFolder {
         folder,
         files,
-        stores: SqlFiles { rt: own },
+        stores,
         text,
         fleet,
         clerk,

@@ -15,8 +15,6 @@ pub enum Status {
     Fleet,
     /// Standard output could not be written.
     Output,
-    /// DIR/platform.db can't be opened.
-    Store,
     /// The address can't be listened at, or the listener failed for good.
     Listen,
     /// Another service runs over DIR.
@@ -42,7 +40,6 @@ impl Status {
             Status::Usage => 2,
             Status::Fleet => 3,
             Status::Output => 4,
-            Status::Store => 5,
             Status::Listen => 6,
             Status::Busy => 7,
             Status::Memory => 8,
@@ -60,7 +57,6 @@ impl Status {
             Status::Fleet => "fleet can't be read",
             Status::Folder => "no folder",
             Status::Output => "standard output can't be written",
-            Status::Store => "platform.db can't be opened",
             Status::Listen => "the listener failed 60 times in a row",
             Status::Busy => "another dewfelt serves this folder",
             Status::Memory => "no memory",
