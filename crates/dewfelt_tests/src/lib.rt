@@ -8,6 +8,8 @@ mod clerk_tests;
 #[cfg(test)]
 mod command_tests;
 #[cfg(test)]
+mod copy_tests;
+#[cfg(test)]
 mod desk;
 #[cfg(test)]
 mod log_tests;
