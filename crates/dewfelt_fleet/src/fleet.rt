@@ -5,7 +5,7 @@ ghost use Rattle.std.specs.Option.{option_map};
 ghost use Rattle.std.specs.Ordering.{is_gt, nat_cmp};
 ghost use Rattle.std.specs.Prelude.{◌≡◌, ◌||◌, ℕ, List, [], Some, None, true, false, IfNone, IfOk, IfSome, IsSome, OnErr, OnOk, option_copied, if◌then◌else◌};
 ghost use Rattle.std.specs.Str.{bytes_eq};
-ghost use Rattle.dewfelt_fleet.specs.Fleets.{is_allowed};
+ghost use Rattle.dewfelt_fleet.specs.Fleets.{IsApart, is_allowed};
 ghost use Rattle.dewfelt_fleet.specs.Names.{is_among};
 ghost use Rattle.jt_store.specs.Memory.{under};
 ghost use Rattle.jt_store.specs.Tables.{AreNamedOnce, IsBehind, IsTrimmed};
@@ -68,7 +68,22 @@ impl Fleet {
 
     /// The bound phone with the least digits behind those of `after`, or with the least of all, as one of 2019, and what it is bound
     /// to.
-    pub fn next_bound(&self, after: Option<&Phone>) -> Option<(Phone, &Registered)> {
+    pub fn next_bound(&self, after: Option<&Phone>) -> Option<(Phone, &Registered)>
+        ensures none { IfNone result ((q : List ℕ) →
+            IsBehind (option_map key_of (option_copied after.entry)) q →
+            under self.now.bound q ≡ None) }
+        ensures edition { IfSome result (λ one. one.0.edition ≡ E2019) }
+        ensures behind { IfSome result (λ one.
+            IsBehind (option_map key_of (option_copied after.entry)) (key_of one.0)) }
+        ensures bound { IfSome result (λ one.
+            under self.now.bound (key_of one.0) ≡ Some one.1.now) }
+        ensures least { IfSome result (λ one. (q : List ℕ) →
+            IsBehind (option_map key_of (option_copied after.entry)) q →
+            IsSome (under self.now.bound q) → is_gt (slice_cmp nat_cmp (key_of one.0) q) ≡ false) }
+        ensures names { AreNamedOnce (under self.now.bound) }
+        ensures apart { IsApart (under self.now.bound) self.now.plates self.now.terminals }
+    {
+        let _ = &self.plates;
         self.bound.next(after)
     }
 

@@ -1,12 +1,19 @@
 //! A keeper under the rules of a fleet.
 
-ghost use Rattle.std.specs.Prelude.{IsTrue};
-ghost use Rattle.jt_store.specs.Tables.{IsTrimmed, MayAppend};
+ghost use Rattle.std.specs.Option.{option_copied, option_map};
+ghost use Rattle.std.specs.Prelude.{◌≡◌, Ok, Some, false, true, IfOk, IsTrue, OnErr, OnOk};
+ghost use Rattle.jt_store.specs.Memory.{under};
+ghost use Rattle.jt_store.specs.Tables.{IsOwner, IsTrimmed, MayAppend, MayRegister, Reads, WhereKnown, Writes, plates, row_added, terminals};
+ghost use Rattle.jt_value.specs.Sameness.{key_of};
+ghost use Rattle.dewfelt_keeper.specs.Registries.{Forgets, IsRegisteredOr, left_by};
+ghost use Rattle.dewfelt_keeper.specs.Rules.{AreNamed, Becomes, IsApplied, IsOnTheWay, is_barred, own_of};
 
+use crate::applying::settle;
 use dewfelt_fleet::Fleet;
 use jt_store::{Keeper, Registered, Registrations, Row, StoreError};
 use jt_value::{Edition, Phone, Seq};
 use std::alloc::Global;
+use std::marker::Model;
 
 /// A phone that no terminal has: its octets are no digits.
 pub const NOBODY: Phone = Phone {
@@ -38,18 +45,30 @@ fn may_follow(last: Option<u64>, number: u64) -> bool
 /// A keeper, and the fleet that says which registrations it may have.
 #[derive(Drop)]
 pub struct Registry<K> {
-    keeper: K,
+    pub(crate) keeper: K,
     fleet: Fleet,
+}
+
+impl<K> Model for Registry<K> {
+    ghost use Rattle.dewfelt_keeper.specs.Registries.{RegistryValue};
+
+    ghost Value = { RegistryValue K };
+
+    ghost view = { λ r. record { keeper = r.keeper; fleet = r.fleet } };
 }
 
 impl<K: Keeper> Registry<K> {
     /// A keeper under the rules of a fleet. What it has registered already stays until `apply`.
-    pub fn new(keeper: K, fleet: Fleet) -> Registry<K> {
+    pub fn new(keeper: K, fleet: Fleet) -> Registry<K>
+        ensures { result ≡ record { keeper = keeper; fleet = fleet } }
+    {
         Registry { keeper, fleet }
     }
 
     /// The fleet.
-    pub fn fleet(&self) -> &Fleet {
+    pub fn fleet(&self) -> &Fleet
+        ensures { result.now ≡ self.now.fleet }
+    {
         &self.fleet
     }
 
@@ -63,28 +82,41 @@ impl<K: Keeper> Registry<K> {
         &mut self,
         alloc: Global,
         phone: &Phone,
-    ) -> Result<Option<Registered>, StoreError> {
+    ) -> Result<Option<Registered>, StoreError>
+        ensures answer { Reads (K.tables self.old.keeper) (K.tables self.new.keeper)
+            (λ t found. found ≡ t.registered (key_of phone.now)) result }
+        ensures fleet { self.new.fleet ≡ self.old.fleet }
+    {
         self.keeper.registered(alloc, phone)
     }
 
     // Whether the phone that asks may not have this plate, whoever has it.
-    fn bars_plate(&self, asks: Option<&Phone>, plate: &[u8]) -> bool {
-        match self.own_of(asks) {
+    fn bars_plate(&self, asks: Option<&Phone>, plate: &[u8]) -> bool
+        ensures { result ≡ is_barred plates self.now.fleet.plates
+            (own_of self.now.fleet (option_map key_of (option_copied asks.entry))) plate.now }
+    {
+        match self.bound_to(asks) {
             Some(own) => own.plate.as_slice() != plate,
             None => !self.fleet.has_plate(plate),
         }
     }
 
     // Whether the phone that asks may not have this terminal id, whoever has it.
-    fn bars_terminal(&self, asks: Option<&Phone>, terminal: &[u8]) -> bool {
-        match self.own_of(asks) {
+    fn bars_terminal(&self, asks: Option<&Phone>, terminal: &[u8]) -> bool
+        ensures { result ≡ is_barred terminals self.now.fleet.terminals
+            (own_of self.now.fleet (option_map key_of (option_copied asks.entry))) terminal.now }
+    {
+        match self.bound_to(asks) {
             Some(own) => own.terminal.as_slice() != terminal,
             None => !self.fleet.has_terminal(terminal),
         }
     }
 
     // What the phone that asks is bound to.
-    fn own_of(&self, asks: Option<&Phone>) -> Option<&Registered> {
+    fn bound_to(&self, asks: Option<&Phone>) -> Option<&Registered>
+        ensures { option_copied result
+            ≡ own_of self.now.fleet (option_map key_of (option_copied asks.entry)) }
+    {
         match asks {
             Some(phone) => self.fleet.bound(phone),
             None => None,
@@ -98,7 +130,16 @@ impl<K: Keeper> Registry<K> {
         alloc: Global,
         asks: Option<&Phone>,
         plate: &[u8],
-    ) -> Result<Option<Phone>, StoreError> {
+    ) -> Result<Option<Phone>, StoreError>
+        ensures barred { is_barred plates self.old.fleet.plates
+            (own_of self.old.fleet (option_map key_of (option_copied asks.entry))) plate.now ≡ true →
+            (result ≡ Ok (Some NOBODY)) × (self.new ≡ self.old) }
+        ensures answer { is_barred plates self.old.fleet.plates
+            (own_of self.old.fleet (option_map key_of (option_copied asks.entry))) plate.now ≡ false →
+            Reads (K.tables self.old.keeper) (K.tables self.new.keeper)
+            (λ t found. IsOwner plates t.registered plate.now found) result }
+        ensures fleet { self.new.fleet ≡ self.old.fleet }
+    {
         if self.bars_plate(asks, plate) {
             return Ok(Some(NOBODY));
         }
@@ -111,7 +152,16 @@ impl<K: Keeper> Registry<K> {
         alloc: Global,
         asks: Option<&Phone>,
         terminal: &[u8],
-    ) -> Result<Option<Phone>, StoreError> {
+    ) -> Result<Option<Phone>, StoreError>
+        ensures barred { is_barred terminals self.old.fleet.terminals
+            (own_of self.old.fleet (option_map key_of (option_copied asks.entry))) terminal.now ≡ true →
+            (result ≡ Ok (Some NOBODY)) × (self.new ≡ self.old) }
+        ensures answer { is_barred terminals self.old.fleet.terminals
+            (own_of self.old.fleet (option_map key_of (option_copied asks.entry))) terminal.now ≡ false →
+            Reads (K.tables self.old.keeper) (K.tables self.new.keeper)
+            (λ t found. IsOwner terminals t.registered terminal.now found) result }
+        ensures fleet { self.new.fleet ≡ self.old.fleet }
+    {
         if self.bars_terminal(asks, terminal) {
             return Ok(Some(NOBODY));
         }
@@ -124,7 +174,12 @@ impl<K: Keeper> Registry<K> {
         alloc: Global,
         phone: &Phone,
         registered: &Registered,
-    ) -> Result<bool, StoreError> {
+    ) -> Result<bool, StoreError>
+        ensures same { K.tables self.new.keeper ≡ K.tables self.old.keeper }
+        ensures fleet { self.new.fleet ≡ self.old.fleet }
+        ensures free { IfOk result (λ taken. taken ≡ false → WhereKnown (K.tables self.old.keeper)
+            (λ t. MayRegister t.registered (key_of phone.now) registered.now)) }
+    {
         if let Some(owner) = self.keeper.plate_owner(alloc, registered.plate.as_slice())? {
             if !owner.same(phone) {
                 return Ok(true);
@@ -149,6 +204,10 @@ impl<K: Keeper> Registry<K> {
         registered: &Registered,
     ) -> Result<(), StoreError>
         requires trimmed { IsTrimmed registered.now.terminal }
+        ensures ok { OnOk result (Becomes (K.tables self.old.keeper) (K.tables self.new.keeper)
+            (IsRegisteredOr self.old.fleet (key_of phone.now) registered.now)) }
+        ensures err { OnErr result (K.tables self.new.keeper ≡ K.tables self.old.keeper) }
+        ensures fleet { self.new.fleet ≡ self.old.fleet }
     {
         if !self.fleet.allows(phone, registered) || self.is_taken(alloc, phone, registered)? {
             return self.unregister(alloc, phone);
@@ -157,7 +216,12 @@ impl<K: Keeper> Registry<K> {
     }
 
     /// Removes the phone's registration, if there is one. That of a bound phone stays.
-    pub fn unregister(&mut self, alloc: Global, phone: &Phone) -> Result<(), StoreError> {
+    pub fn unregister(&mut self, alloc: Global, phone: &Phone) -> Result<(), StoreError>
+        ensures answer { Writes (K.tables self.old.keeper)
+            (left_by self.old.fleet (key_of phone.now) (K.tables self.old.keeper))
+            (K.tables self.new.keeper) result }
+        ensures fleet { self.new.fleet ≡ self.old.fleet }
+    {
         if self.fleet.bound(phone).is_some() {
             return Ok(());
         }
@@ -165,7 +229,12 @@ impl<K: Keeper> Registry<K> {
     }
 
     /// Puts a row at the end of the phone's. A number that may not follow the last one is Failed, and no row stands.
-    pub fn append(&mut self, alloc: Global, phone: &Phone, row: &Row) -> Result<(), StoreError> {
+    pub fn append(&mut self, alloc: Global, phone: &Phone, row: &Row) -> Result<(), StoreError>
+        ensures ok { OnOk result (K.tables self.new.keeper
+            ≡ row_added (key_of phone.now) row.now (K.tables self.old.keeper)) }
+        ensures err { OnErr result (K.tables self.new.keeper ≡ K.tables self.old.keeper) }
+        ensures fleet { self.new.fleet ≡ self.old.fleet }
+    {
         let last = self.keeper.last(alloc, phone)?;
         if !may_follow(last, row.number) {
             return Err(StoreError::Failed);
@@ -174,7 +243,12 @@ impl<K: Keeper> Registry<K> {
     }
 
     /// Removes the phone's registration, for an operator. That of a bound phone stays.
-    pub fn forget(&mut self, alloc: Global, phone: &Phone) -> Result<Forgetting, StoreError> {
+    pub fn forget(&mut self, alloc: Global, phone: &Phone) -> Result<Forgetting, StoreError>
+        ensures ok { IfOk result (λ done. Forgets (under self.old.fleet.bound (key_of phone.now))
+            (key_of phone.now) (K.tables self.old.keeper) (K.tables self.new.keeper) done) }
+        ensures err { OnErr result (K.tables self.new.keeper ≡ K.tables self.old.keeper) }
+        ensures fleet { self.new.fleet ≡ self.old.fleet }
+    {
         if self.fleet.bound(phone).is_some() {
             return Ok(Forgetting::Bound);
         }
@@ -216,45 +290,16 @@ impl<K: Registrations> Registry<K> {
         alloc: Global,
         fleet: Fleet,
         forgotten: &mut Seq<Phone>,
-    ) -> Result<(), StoreError> {
+    ) -> Result<(), StoreError>
+        ensures ok { OnOk result (Becomes (K.tables self.old.keeper) (K.tables self.new.keeper)
+            (IsApplied fleet)) }
+        ensures err { OnErr result (Becomes (K.tables self.old.keeper) (K.tables self.new.keeper)
+            (IsOnTheWay fleet)) }
+        ensures named { Becomes (K.tables self.old.keeper) (K.tables self.new.keeper)
+            (AreNamed forgotten.new) }
+        ensures fleet { self.new.fleet ≡ fleet }
+    {
         self.fleet = fleet;
-        self.forget_others(alloc, forgotten)?;
-        self.register_bound(alloc)
-    }
-
-    // Removes the registrations that the fleet does not allow.
-    fn forget_others(
-        &mut self,
-        alloc: Global,
-        forgotten: &mut Seq<Phone>,
-    ) -> Result<(), StoreError> {
-        let mut after = None;
-        for _ in 0..u64::MAX {
-            let Some((phone, registered)) = self.keeper.next_registered(alloc, after.as_ref())?
-            else {
-                return Ok(());
-            };
-            if !self.fleet.allows(&phone, &registered) {
-                forgotten.push(phone)?;
-                self.keeper.unregister(alloc, &phone)?;
-            }
-            after = Some(phone);
-        }
-        Err(StoreError::Full(u64::MAX))
-    }
-
-    // Registers each bound phone that is not registered.
-    fn register_bound(&mut self, alloc: Global) -> Result<(), StoreError> {
-        let mut after = None;
-        for _ in 0..u64::MAX {
-            let Some((phone, own)) = self.fleet.next_bound(after.as_ref()) else {
-                return Ok(());
-            };
-            if self.keeper.registered(alloc, &phone)?.is_none() {
-                self.keeper.register(alloc, &phone, own)?;
-            }
-            after = Some(phone);
-        }
-        Err(StoreError::Full(u64::MAX))
+        settle(alloc, &mut self.keeper, &self.fleet, forgotten)
     }
 }

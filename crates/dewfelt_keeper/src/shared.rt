@@ -1,10 +1,12 @@
 //! A registry behind a lock, as a hub's keeper.
 
-ghost use Rattle.std.specs.Prelude.{◌≡◌, ◌≤◌, ◌-◌, ◌^◌, None, true};
+ghost use Rattle.std.specs.Prelude.{◌≡◌, ◌≤◌, None, Ok, true, IfOk};
+ghost use Rattle.jt_store.specs.declared.error.StoreError.TheVariants.{Memory as NoMemory};
 ghost use Rattle.jt_value.specs.declared.limits.TheConstants.{ROW_LIMIT};
 
 use crate::registry::Registry;
 use jt_store::{Keeper, Registered, Row, StoreError};
+use jt_store_answers::{Adding, Refusal, added, answered, changed};
 use jt_value::Phone;
 use std::alloc::Global;
 use std::marker::Model;
@@ -49,24 +51,35 @@ impl<R: Wait, K: Keeper> SharedKeeper<R, K> {
             faults: 0,
         }
     }
+}
 
-    // Why the call is refused. Every refusal but want of memory is a fault, and is counted.
-    fn refused(&mut self, error: StoreError) -> StoreError {
-        match error {
-            StoreError::Memory => StoreError::Memory,
-            StoreError::Failed | StoreError::Full(_) => {
-                self.faults = self.faults.saturating_add(1);
-                StoreError::Failed
-            }
-        }
+// Why a call of the registry gave up.
+#[derive(Drop)]
+struct Refused(StoreError);
+
+impl Refusal for Refused {
+    ghost wants_memory = { λ refused. refused.0 ≡ NoMemory };
+
+    fn is_memory(&self) -> bool {
+        self.0 == StoreError::Memory
     }
+}
 
-    // What the call answers.
-    fn answered<T: Drop>(&mut self, answer: Result<T, StoreError>) -> Result<T, StoreError> {
-        match answer {
-            Ok(found) => Ok(found),
-            Err(error) => Err(self.refused(error)),
-        }
+fn refusable<T: Drop>(answer: Result<T, StoreError>) -> Result<T, Refused>
+    ensures { IfOk result (λ found. answer ≡ Ok found) }
+{
+    match answer {
+        Ok(found) => Ok(found),
+        Err(error) => Err(Refused(error)),
+    }
+}
+
+// The same of a call that appends.
+fn adding(answer: Result<(), StoreError>) -> Result<Adding, Refused> {
+    match answer {
+        Ok(()) => Ok(Adding::Done),
+        Err(StoreError::Full(_)) => Ok(Adding::Full),
+        Err(error) => Err(Refused(error)),
     }
 }
 
@@ -86,7 +99,7 @@ impl<R: Wait, K: Keeper> Keeper for SharedKeeper<R, K> {
     ) -> Result<Option<Registered>, StoreError> {
         self.asks = Some(*phone);
         let answer = self.registry.lock(&self.rt).registered(alloc, phone);
-        self.answered(answer)
+        answered(&mut self.faults, refusable(answer))
     }
 
     fn plate_owner(&mut self, alloc: Global, plate: &[u8]) -> Result<Option<Phone>, StoreError> {
@@ -95,7 +108,7 @@ impl<R: Wait, K: Keeper> Keeper for SharedKeeper<R, K> {
             .registry
             .lock(&self.rt)
             .plate_owner(alloc, asks.as_ref(), plate);
-        self.answered(answer)
+        answered(&mut self.faults, refusable(answer))
     }
 
     fn terminal_owner(
@@ -108,7 +121,7 @@ impl<R: Wait, K: Keeper> Keeper for SharedKeeper<R, K> {
             .registry
             .lock(&self.rt)
             .terminal_owner(alloc, asks.as_ref(), terminal);
-        self.answered(answer)
+        answered(&mut self.faults, refusable(answer))
     }
 
     fn register(
@@ -121,17 +134,17 @@ impl<R: Wait, K: Keeper> Keeper for SharedKeeper<R, K> {
             .registry
             .lock(&self.rt)
             .register(alloc, phone, registered);
-        self.answered(answer)
+        changed(&mut self.faults, refusable(answer))
     }
 
     fn unregister(&mut self, alloc: Global, phone: &Phone) -> Result<(), StoreError> {
         let answer = self.registry.lock(&self.rt).unregister(alloc, phone);
-        self.answered(answer)
+        changed(&mut self.faults, refusable(answer))
     }
 
     fn last(&mut self, alloc: Global, phone: &Phone) -> Result<Option<u64>, StoreError> {
-        let answer = self.registry.lock(&self.rt).keeper().last(alloc, phone);
-        self.answered(answer)
+        let answer = self.registry.lock(&self.rt).keeper.last(alloc, phone);
+        answered(&mut self.faults, refusable(answer))
     }
 
     fn row_at(
@@ -143,9 +156,9 @@ impl<R: Wait, K: Keeper> Keeper for SharedKeeper<R, K> {
         let answer = self
             .registry
             .lock(&self.rt)
-            .keeper()
+            .keeper
             .row_at(alloc, phone, number);
-        self.answered(answer)
+        answered(&mut self.faults, refusable(answer))
     }
 
     fn row_from(
@@ -157,16 +170,13 @@ impl<R: Wait, K: Keeper> Keeper for SharedKeeper<R, K> {
         let answer = self
             .registry
             .lock(&self.rt)
-            .keeper()
+            .keeper
             .row_from(alloc, phone, number);
-        self.answered(answer)
+        answered(&mut self.faults, refusable(answer))
     }
 
     fn append(&mut self, alloc: Global, phone: &Phone, row: &Row) -> Result<(), StoreError> {
         let answer = self.registry.lock(&self.rt).append(alloc, phone, row);
-        match answer {
-            Err(StoreError::Full(_)) => Err(StoreError::Full(self.limit)),
-            answer => self.answered(answer),
-        }
+        added(&mut self.faults, self.limit, adding(answer))
     }
 }
