@@ -9,3 +9,5 @@ mod links;
 mod rows;
 #[cfg(test)]
 mod serving;
+#[cfg(test)]
+mod sockets;
