@@ -60,6 +60,43 @@ fn text_of(alloc: Global, octets: &[u8]) -> Result<Option<String>, AllocError> {
     Ok(Some(text))
 }
 
+// The octets that a character has: one, or two.
+fn octets_of(character: char) -> Option<(u8, Option<u8>)> {
+    let number = u16::try_from(u32::from(character)).ok()?;
+    if 0x20 <= number && number < 0x7f {
+        return Some((number as u8, None));
+    }
+    let place = characters().iter().position(|one| *one == number)?;
+    let first = u8::try_from(0x81 + place / ROW).ok()?;
+    Some((first, Some(second_of(place % ROW))))
+}
+
+// The second octet of a place in its row.
+fn second_of(column: usize) -> u8
+    requires { column < ROW }
+{
+    if column < 0x3f {
+        column as u8 + 0x40
+    } else {
+        column as u8 + 0x41
+    }
+}
+
+/// The octets of a text in GBK. None where it has a character that is not in GBK, or a control character.
+pub fn gbk_octets(alloc: Global, text: &str) -> Result<Option<Vec<u8>>, AllocError> {
+    let mut octets = Vec::new(alloc);
+    for character in text.chars() {
+        let Some((first, second)) = octets_of(character) else {
+            return Ok(None);
+        };
+        octets.push(first)?;
+        if let Some(second) = second {
+            octets.push(second)?;
+        }
+    }
+    Ok(Some(octets))
+}
+
 fn hex_digit(number: u8) -> char
     requires { number < 16 }
     ensures { result ≡ digit number }

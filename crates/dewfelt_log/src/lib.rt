@@ -9,7 +9,7 @@ mod rate;
 mod time;
 mod value;
 
-pub use gbk::in_gbk;
+pub use gbk::{gbk_octets, in_gbk};
 pub use line::Line;
 pub use outbox::{Outbox, ROOM, empty_room};
 pub use rate::Rate;

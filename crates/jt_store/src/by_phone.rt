@@ -2,7 +2,7 @@
 
 ghost use Rattle.std.specs.Cmp.Lexicographic.{slice_cmp};
 ghost use Rattle.std.specs.Ordering.{is_gt, nat_cmp};
-ghost use Rattle.std.specs.Prelude.{◌≡◌, ℕ, List, [], ◌∷◌, ◌++◌, false, IfNone, IfOk, IfSome, IsSome, OnOk, OnErr, Some, None, option_copied, if◌then◌else◌};
+ghost use Rattle.std.specs.Prelude.{◌≡◌, ℕ, List, [], ◌∷◌, ◌++◌, false, IfNone, IfOk, IfSome, IsSome, OnOk, OnErr, Some, None, length, option_copied, if◌then◌else◌};
 ghost use Rattle.std.specs.declared.cmp.Ordering.TheVariants.{Less};
 ghost use Rattle.jt_value.specs.Sameness.{key_of, same_key};
 ghost use Rattle.jt_value.specs.declared.phone.Edition.TheVariants.{E2019};
@@ -47,6 +47,13 @@ impl<T> ByPhone<T> {
         ensures { option_copied result ≡ under self.now key.now }
     {
         self.values.get(&Digits::of(key))
+    }
+
+    /// How many phones have a value.
+    pub fn len(&self) -> usize
+        ensures { result ≡ length self.now }
+    {
+        self.values.len()
     }
 
     /// The least phone, as one of 2019, and its value.

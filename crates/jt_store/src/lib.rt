@@ -25,6 +25,7 @@ pub use law::law_verdicts;
 pub use mem_keeper::MemKeeper;
 pub use mem_vault::MemVault;
 pub use migrating::{NewPhone, OldPhone, migrate};
+pub use registry::Registry as RegistrationTable;
 pub use row::{Registered, Row};
 pub use unit::{Loaded, Unit};
 pub use vault::Vault;

@@ -3,7 +3,7 @@
 ghost use Rattle.std.specs.Cmp.Lexicographic.{slice_cmp};
 ghost use Rattle.std.specs.Option.{option_map};
 ghost use Rattle.std.specs.Ordering.{is_gt, nat_cmp};
-ghost use Rattle.std.specs.Prelude.{◌≡◌, ℕ, List, [], Some, None, false, IfNone, IfOk, IfSome, IsSome, OnOk, OnErr, option_copied, if◌then◌else◌};
+ghost use Rattle.std.specs.Prelude.{◌≡◌, ℕ, List, [], Some, None, false, IfNone, IfOk, IfSome, IsSome, OnOk, OnErr, length, option_copied, if◌then◌else◌};
 ghost use Rattle.jt_value.specs.Sameness.{key_of, same_key};
 ghost use Rattle.jt_value.specs.declared.phone.Edition.TheVariants.{E2019};
 ghost use Rattle.jt_store.specs.Memory.{under};
@@ -48,6 +48,13 @@ impl Registry {
             plates: Names::new(alloc),
             terminals: Names::new(alloc),
         }
+    }
+
+    /// How many phones are registered.
+    pub fn len(&self) -> usize
+        ensures { result ≡ length self.now }
+    {
+        self.registered.len()
     }
 
     /// What a phone is registered with.

@@ -1,0 +1,30 @@
+-- What a fleet allows (this project's own). To be believed.
+use Rattle.std.specs.Prelude.{◌≡◌, ℕ, Bool, false, ◌&&◌, List, Option, Some, None, IfSome}
+use Rattle.std.specs.Str.{bytes_eq}
+use Rattle.jt_store.specs.declared.row.Registered.{Registered}
+use Rattle.jt_store.specs.Memory.{under}
+use Rattle.dewfelt_fleet.specs.Names.{is_among}
+
+-- the secret, what each phone of a vehicle is bound to, and the other plates and terminal ids
+pub record FleetValue : Type 0 where
+  pub secret : List ℕ
+  pub bound : List (List ℕ × Registered)
+  pub plates : List (List ℕ)
+  pub terminals : List (List ℕ)
+
+-- no bound plate and no bound terminal id is among the others
+pub record IsApart (bound : List ℕ → Option Registered) (plates terminals : List (List ℕ)) : Type 0 where
+  pub plate : (key : List ℕ) → IfSome (bound key) (λ r. is_among plates r.plate ≡ false)
+  pub terminal : (key : List ℕ) → IfSome (bound key) (λ r. is_among terminals r.terminal ≡ false)
+
+abbrev pub is_same : Registered → Registered → Bool
+is_same a b = bytes_eq a.plate b.plate && bytes_eq a.terminal b.terminal
+
+-- a phone that is bound may be registered so; another one with two names of those that are not bound
+abbrev pub is_allowed_by : List (List ℕ) → List (List ℕ) → Option Registered → Registered → Bool
+is_allowed_by plates terminals (Some own) r = is_same own r
+is_allowed_by plates terminals None r = is_among plates r.plate && is_among terminals r.terminal
+
+-- whether the phone with these digits may be registered so
+abbrev pub is_allowed : FleetValue → List ℕ → Registered → Bool
+is_allowed fleet key r = is_allowed_by fleet.plates fleet.terminals (under fleet.bound key) r

@@ -1,0 +1,203 @@
+-- The pass in which vehicles are registered.
+use Rattle.std.proofs.Common.{◌≡◌, ℕ, Bool, true, false, cond, List, [], ◌∷◌, Option, Some, None, refl, sym, ap, subst, ◌∙◌, inl, inr}
+use Rattle.std.specs.Prelude.{◌⊎◌, ◌&&◌, IfSome, IsSome, IsSomeAnd}
+use Rattle.std.specs.Str.{bytes_eq}
+use Rattle.std.proofs.lemmas.Slice.Eq.{bytes_eq-Decides}
+use Rattle.jt_value.specs.declared.phone.Phone.{Phone}
+use Rattle.jt_value.specs.Sameness.{key_of, same_key}
+use Rattle.jt_store.specs.declared.row.Registered.{Registered}
+use Rattle.jt_store.specs.Memory.{under}
+use Rattle.jt_store.specs.Tables.{Tables, HasName, AreNamedOnce, MayRegister, plates, terminals}
+use Rattle.dewfelt_fleet.specs.Fleets.{FleetValue, IsApart, is_allowed, is_allowed_by, is_same}
+use Rattle.dewfelt_fleet.specs.Names.{is_among}
+use Rattle.dewfelt_keeper.specs.Rules.{Becomes, IsApplied, IsOnTheWay, IsNamed, AreNamed, bound_or, kept_by, settled_by}
+use Rattle.dewfelt_keeper.specs.Sweeps.{AreAllowed, BindsAll, BindsNext, BindsSome, BindsUpTo, ForgetsAll, ForgetsSome, is_done, or_own}
+use Rattle.dewfelt_keeper.proofs.Sweeping.{Place, Here, Apart, Passed, behind_is, not_done, place_of, same_is, same_itself}
+
+-- ---- what the fleet allows
+
+both : (a b : Bool) → (a && b) ≡ true → (a ≡ true) × (b ≡ true)
+both true true e = (refl, refl)
+both true false e = absurd cc
+both false b e = absurd cc
+
+octets_are : (a b : List ℕ) → bytes_eq a b ≡ true → a ≡ b
+octets_are a b e = (bytes_eq-Decides a b).0 e
+
+pub same_registered : (a b : Registered) → is_same a b ≡ true → a ≡ b
+same_registered a b e =
+    let parts = both (bytes_eq a.plate b.plate) (bytes_eq a.terminal b.terminal) e in
+    let plate = octets_are a.plate b.plate parts.0 in
+    let terminal = octets_are a.terminal b.terminal parts.1 in
+    λ i. record { plate = plate i; terminal = terminal i }
+
+pub same_with_itself : (a : Registered) → is_same a a ≡ true
+same_with_itself a = ap (λ b. b && bytes_eq a.terminal a.terminal) ((bytes_eq-Decides a.plate a.plate).1 refl) ∙ (bytes_eq-Decides a.terminal a.terminal).1 refl
+
+module _ (fleet : FleetValue) where
+  abbrev bound : List ℕ → Option Registered
+  bound key = under fleet.bound key
+
+  own_allowed : (key : List ℕ) (own : Registered) → bound key ≡ Some own → is_allowed fleet key own ≡ true
+  own_allowed key own is = ap (λ o. is_allowed_by fleet.plates fleet.terminals o own) is ∙ same_with_itself own
+
+  -- of a bound phone no other registration than its own is allowed
+  pub own_is : (key : List ℕ) (own r : Registered) → bound key ≡ Some own → is_allowed fleet key r ≡ true → r ≡ own
+  own_is key own r is allowed = sym (same_registered own r (sym (ap (λ o. is_allowed_by fleet.plates fleet.terminals o r) is) ∙ allowed))
+
+  kept_allowed : (key : List ℕ) (was : Option Registered) → IfSome (kept_by fleet key was) (λ r. is_allowed fleet key r ≡ true)
+  kept_allowed key None = tt
+  kept_allowed key (Some r) = by_case (is_allowed fleet key r) refl
+    where
+      by_case : (b : Bool) → is_allowed fleet key r ≡ b → IfSome (cond b (Some r) None) (λ x. is_allowed fleet key x ≡ true)
+      by_case true e = e
+      by_case false e = tt
+
+  pub all_allowed : (old now : Tables) → ForgetsAll fleet old now → AreAllowed fleet now
+  all_allowed old now all = λ key. subst (λ o. IfSome o (λ r. is_allowed fleet key r ≡ true)) (sym (all.registered key)) (kept_allowed key (old.registered key))
+
+  module _ (once : AreNamedOnce bound) (apart : IsApart bound fleet.plates fleet.terminals) (t : Tables) (allowed : AreAllowed fleet t) (key : List ℕ) (own : Registered) (is : bound key ≡ Some own) where
+    apart_here : (names : List (List ℕ)) (name_of : Registered → List ℕ) → IfSome (bound key) (λ r. is_among names (name_of r) ≡ false) → is_among names (name_of own) ≡ false
+    apart_here names name_of h = subst (λ o. IfSome o (λ r. is_among names (name_of r) ≡ false)) is h
+
+    plate_there : (other : List ℕ) (r : Registered) (its : Option Registered) → bound other ≡ its → is_allowed_by fleet.plates fleet.terminals its r ≡ true → r.plate ≡ own.plate → other ≡ key
+    plate_there other r (Some its) e allows same =
+        once.plate key other own.plate (subst (λ o. IsSomeAnd o (λ x. x.plate ≡ own.plate)) (sym is) refl)
+        (subst (λ o. IsSomeAnd o (λ x. x.plate ≡ own.plate)) (sym e) (ap (λ (x : Registered). x.plate) (same_registered its r allows) ∙ same))
+    plate_there other r None e allows same =
+        let free = (both (is_among fleet.plates r.plate) (is_among fleet.terminals r.terminal) allows).0 in
+        let bound_one = apart_here fleet.plates plates (apart.plate key) in
+        let free_one = ap (is_among fleet.plates) (sym same) ∙ free in absurd cc
+
+    terminal_there : (other : List ℕ) (r : Registered) (its : Option Registered) → bound other ≡ its → is_allowed_by fleet.plates fleet.terminals its r ≡ true → r.terminal ≡ own.terminal → other ≡ key
+    terminal_there other r (Some its) e allows same =
+        once.terminal key other own.terminal (subst (λ o. IsSomeAnd o (λ x. x.terminal ≡ own.terminal)) (sym is) refl)
+        (subst (λ o. IsSomeAnd o (λ x. x.terminal ≡ own.terminal)) (sym e) (ap (λ (x : Registered). x.terminal) (same_registered its r allows) ∙ same))
+    terminal_there other r None e allows same =
+        let free = (both (is_among fleet.plates r.plate) (is_among fleet.terminals r.terminal) allows).1 in
+        let bound_one = apart_here fleet.terminals terminals (apart.terminal key) in
+        let free_one = ap (is_among fleet.terminals) (sym same) ∙ free in absurd cc
+
+    by_name : (name_of : Registered → List ℕ) → ((other : List ℕ) (r : Registered) → is_allowed fleet other r ≡ true → name_of r ≡ name_of own → other ≡ key)
+        → (other : List ℕ) (found : Option Registered) → IfSome found (λ r. is_allowed fleet other r ≡ true) → IsSomeAnd found (λ r. name_of r ≡ name_of own) → other ≡ key
+    by_name name_of there other None allows has = absurd has
+    by_name name_of there other (Some r) allows has = there other r allows has
+
+    -- no other phone has what a vehicle is bound to
+    pub may_register : MayRegister t.registered key own
+    may_register = record {
+      plate = λ other has. by_name plates (λ o r allows same. plate_there o r (bound o) refl allows same) other (t.registered other) (allowed other) has;
+      terminal = λ other has. by_name terminals (λ o r allows same. terminal_there o r (bound o) refl allows same) other (t.registered other) (allowed other) has;
+    }
+
+  -- ---- one vehicle
+
+  pub binds_none : (t : Tables) → BindsUpTo fleet None t t
+  binds_none t = record { registered = λ key. refl; rows = refl }
+
+  own_or : (key : List ℕ) (own : Registered) (was : Option Registered) → bound key ≡ Some own → IfSome was (λ r. is_allowed fleet key r ≡ true) → or_own was own ≡ Some own
+  own_or key own None is allows = refl
+  own_or key own (Some r) is allows = ap Some (own_is key own r is allows)
+
+  module _ (after : Option (List ℕ)) (phone : Phone) (old now next : Tables) (allowed : AreAllowed fleet old) (upto : BindsUpTo fleet after old now) (one : BindsNext fleet after (Some phone) now next) where
+    was_here : now.registered (key_of phone) ≡ old.registered (key_of phone)
+    was_here = upto.registered (key_of phone) ∙ ap (λ b. cond b (bound_or (bound (key_of phone)) (old.registered (key_of phone))) (old.registered (key_of phone))) (not_done after (key_of phone) one.1)
+
+    at : (q : List ℕ) → Place bound after (key_of phone) q → next.registered q ≡ cond (is_done (Some (key_of phone)) q) (bound_or (bound q) (old.registered q)) (old.registered q)
+    at q (Here same done) =
+        let mine : next.registered q ≡ or_own (now.registered q) one.0 = one.4 q ∙ ap (λ b. cond b (or_own (now.registered q) one.0) (now.registered q)) (subst (λ k. same_key (key_of phone) k ≡ true) same (same_itself (key_of phone))) in
+        let is : bound q ≡ Some one.0 = subst (λ k. bound k ≡ Some one.0) same one.2 in
+        let stood : now.registered q ≡ old.registered q = subst (λ k. now.registered k ≡ old.registered k) same was_here in
+        mine ∙ ap (λ o. or_own o one.0) stood ∙ own_or q one.0 (old.registered q) is (allowed q) ∙ sym (ap (λ o. bound_or o (old.registered q)) is)
+        ∙ sym (ap (λ b. cond b (bound_or (bound q) (old.registered q)) (old.registered q)) done)
+    at q (Apart apart done) =
+        one.4 q ∙ ap (λ b. cond b (or_own (now.registered q) one.0) (now.registered q)) apart ∙ upto.registered q
+        ∙ ap (λ b. cond b (bound_or (bound q) (old.registered q)) (old.registered q)) (sym done)
+    at q (Passed apart before done none) =
+        one.4 q ∙ ap (λ b. cond b (or_own (now.registered q) one.0) (now.registered q)) apart ∙ upto.registered q
+        ∙ ap (λ b. cond b (bound_or (bound q) (old.registered q)) (old.registered q)) before
+        ∙ sym (ap (λ o. bound_or o (old.registered q)) none)
+        ∙ sym (ap (λ b. cond b (bound_or (bound q) (old.registered q)) (old.registered q)) done)
+
+    pub binds_more : BindsUpTo fleet (Some (key_of phone)) old next
+    binds_more = record {
+      registered = λ q. at q (place_of bound after (key_of phone) one.1 one.3 q);
+      rows = one.5 ∙ upto.rows;
+    }
+
+  bound_nothing : (after : Option (List ℕ)) (key : List ℕ) (was now : Option Registered) (done : Bool) → is_done after key ≡ done
+      → now ≡ cond (is_done after key) (bound_or (bound key) was) was → (is_done after key ≡ false → bound key ≡ None) → now ≡ bound_or (bound key) was
+  bound_nothing after key was now true e is none = is ∙ ap (λ b. cond b (bound_or (bound key) was) was) e
+  bound_nothing after key was now false e is none = is ∙ ap (λ b. cond b (bound_or (bound key) was) was) e ∙ sym (ap (λ o. bound_or o was) (none e))
+
+  pub binds_all : (after : Option (List ℕ)) (old now next : Tables) → BindsUpTo fleet after old now → BindsNext fleet after None now next → BindsAll fleet old next
+  binds_all after old now next upto end = record {
+    registered = λ key. ap (λ (t : Tables). t.registered key) end.1
+        ∙ bound_nothing after key (old.registered key) (now.registered key) (is_done after key) refl (upto.registered key) (λ e. end.0 key (behind_is after key e));
+    rows = ap (λ (t : Tables). t.rows) end.1 ∙ upto.rows;
+  }
+
+  one_of : (own was : Option Registered) → IfSome (bound_or own was) (λ r. (was ≡ Some r) ⊎ (own ≡ Some r))
+  one_of (Some own) was = inr refl
+  one_of None None = tt
+  one_of None (Some r) = inl refl
+
+  itself : (own was : Option Registered) → IfSome was (λ r. (was ≡ Some r) ⊎ (own ≡ Some r))
+  itself own None = tt
+  itself own (Some r) = inl refl
+
+  one_or : (own was : Option Registered) (b : Bool) → IfSome (cond b (bound_or own was) was) (λ r. (was ≡ Some r) ⊎ (own ≡ Some r))
+  one_or own was true = one_of own was
+  one_or own was false = itself own was
+
+  pub binds_some : (after : Option (List ℕ)) (old now : Tables) → BindsUpTo fleet after old now → BindsSome fleet old now
+  binds_some after old now upto = record {
+    registered = λ key. subst (λ o. IfSome o (λ r. (old.registered key ≡ Some r) ⊎ (bound key ≡ Some r))) (sym (upto.registered key)) (one_or (bound key) (old.registered key) (is_done after key));
+    rows = upto.rows;
+  }
+
+  -- whatever is done of it, each registration is allowed
+  pub still_allowed : (after : Option (List ℕ)) (old now : Tables) → AreAllowed fleet old → BindsUpTo fleet after old now → AreAllowed fleet now
+  still_allowed after old now allowed upto = λ key. subst (λ o. IfSome o (λ r. is_allowed fleet key r ≡ true)) (sym (upto.registered key)) (by_case key (is_done after key) (bound key) refl)
+    where
+      by_case : (key : List ℕ) (b : Bool) (own : Option Registered) → bound key ≡ own → IfSome (cond b (bound_or own (old.registered key)) (old.registered key)) (λ r. is_allowed fleet key r ≡ true)
+      by_case key true (Some own) is = own_allowed key own is
+      by_case key true None is = allowed key
+      by_case key false own is = allowed key
+
+  -- ---- both passes
+
+  pub applied : (a b c : Tables) → ForgetsAll fleet a b → BindsAll fleet b c → IsApplied fleet a c
+  applied a b c gone there = record {
+    registered = λ key. there.registered key ∙ ap (bound_or (bound key)) (gone.registered key);
+    rows = there.rows ∙ gone.rows;
+  }
+
+  first_some : (key : List ℕ) (was now : Option Registered) → IfSome now (λ r. was ≡ Some r) → IfSome now (λ r. (was ≡ Some r) ⊎ (settled_by fleet key was ≡ Some r))
+  first_some key was None h = tt
+  first_some key was (Some r) h = inl h
+
+  pub on_the_way_first : (a b : Tables) → ForgetsSome a b → IsOnTheWay fleet a b
+  on_the_way_first a b some = record {
+    registered = λ key. first_some key (a.registered key) (b.registered key) (some.registered key);
+    rows = some.rows;
+  }
+
+  kept_was : (key : List ℕ) (was : Option Registered) (r : Registered) → kept_by fleet key was ≡ Some r → was ≡ Some r
+  kept_was key None r e = absurd cc
+  kept_was key (Some x) r e = by_case (is_allowed fleet key x) e
+    where
+      by_case : (b : Bool) → cond b (Some x) None ≡ Some r → Some x ≡ Some r
+      by_case true e = e
+      by_case false e = absurd cc
+
+  second_some : (key : List ℕ) (was kept now : Option Registered) → kept ≡ kept_by fleet key was → IfSome now (λ r. (kept ≡ Some r) ⊎ (bound key ≡ Some r)) → IfSome now (λ r. (was ≡ Some r) ⊎ (settled_by fleet key was ≡ Some r))
+  second_some key was kept None e h = tt
+  second_some key was kept (Some r) e (inl h) = inl (kept_was key was r (sym e ∙ h))
+  second_some key was kept (Some r) e (inr h) = inr (ap (λ o. bound_or o (kept_by fleet key was)) h)
+
+  pub on_the_way_second : (a b c : Tables) → ForgetsAll fleet a b → BindsSome fleet b c → IsOnTheWay fleet a c
+  on_the_way_second a b c gone some = record {
+    registered = λ key. second_some key (a.registered key) (b.registered key) (c.registered key) (gone.registered key) (some.registered key);
+    rows = some.rows ∙ gone.rows;
+  }

@@ -1,0 +1,8 @@
+use Rattle.std.proofs.Common.{◌≡◌}
+use Rattle.jt_value.specs.Sameness.{key_of}
+use Rattle.jt_store.specs.Tables.{Tables}
+use Rattle.jt_store_answers.proofs.Untelling.{reads}
+use Rattle.dewfelt_keeper.proofs.shared.SharedKeeperKeeper.registered.Goals as goal
+
+pub returns-clause-answer : goal.returns-clause-answer
+returns-clause-answer g c = reads c.answered.result c.answered.ensures.untold (λ (t : Tables) found. found ≡ t.registered (key_of c.args.phone.now))

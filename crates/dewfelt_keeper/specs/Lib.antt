@@ -1,0 +1,4 @@
+pub mod Registries
+pub mod Rules
+pub mod Shared
+pub mod Sweeps

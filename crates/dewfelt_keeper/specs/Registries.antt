@@ -1,0 +1,36 @@
+-- What the calls of a registry do to its keeper's tables (this project's own). To be believed.
+use Rattle.std.specs.Prelude.{◌≡◌, ◌⊎◌, ℕ, true, List, Option, Some, None}
+use Rattle.jt_store.specs.declared.row.Registered.{Registered}
+use Rattle.jt_store.specs.Memory.{under}
+use Rattle.jt_store.specs.Tables.{Tables, MayRegister, WhereKnown, registered_set}
+use Rattle.dewfelt_fleet.specs.Fleets.{FleetValue, is_allowed}
+use Rattle.dewfelt_keeper.specs.declared.registry.Forgetting.{Forgetting}
+use Rattle.dewfelt_keeper.specs.declared.registry.Forgetting.TheVariants as forgetting
+
+-- the keeper, and the fleet that says what it may have registered
+pub record RegistryValue (K : Type 0) : Type 0 where
+  pub keeper : K
+  pub fleet : FleetValue
+
+-- the tables without a phone's registration, unless it is bound
+abbrev pub left_if : Option Registered → List ℕ → Option Tables → Option Tables
+left_if (Some own) key t = t
+left_if None key t = registered_set key None t
+
+abbrev pub left_by : FleetValue → List ℕ → Option Tables → Option Tables
+left_by fleet key t = left_if (under fleet.bound key) key t
+
+-- the phone is registered so, which the fleet allows and no other phone's names forbid; or it is left without a registration
+abbrev pub IsRegisteredOr : FleetValue → List ℕ → Registered → Tables → Tables → Type 0
+IsRegisteredOr fleet key r old now =
+    ((is_allowed fleet key r ≡ true) × MayRegister old.registered key r × (Some now ≡ registered_set key (Some r) (Some old)))
+    ⊎ (Some now ≡ left_by fleet key (Some old))
+
+-- what an operator's wish to forget a phone did, where the fleet binds it to this or to nothing
+abbrev pub Forgets : Option Registered → List ℕ → Option Tables → Option Tables → Forgetting → Type 0
+Forgets None key old now forgetting.Done = now ≡ registered_set key None old
+Forgets (Some own) key old now forgetting.Done = ⊥
+Forgets None key old now forgetting.NotRegistered = (now ≡ old) × WhereKnown old (λ t. t.registered key ≡ None)
+Forgets (Some own) key old now forgetting.NotRegistered = ⊥
+Forgets (Some own) key old now forgetting.Bound = now ≡ old
+Forgets None key old now forgetting.Bound = ⊥

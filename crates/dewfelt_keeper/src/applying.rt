@@ -1,0 +1,119 @@
+//! A fleet that is applied to the registrations of a keeper.
+
+ghost use Rattle.std.specs.Option.{option_copied, option_map};
+ghost use Rattle.std.specs.Prelude.{◌≡◌, ◌≤◌, IfOk, OnErr, OnOk, IsErrOf};
+ghost use Rattle.jt_store.specs.Tables.{HasCause, WhereKnown};
+ghost use Rattle.jt_value.specs.Sameness.{key_of};
+ghost use Rattle.dewfelt_keeper.specs.Rules.{AreNamed, Becomes, IsApplied, IsOnTheWay};
+ghost use Rattle.dewfelt_keeper.specs.Sweeps.{AreAllowed, BindsAll, BindsNext, BindsSome, ForgetsAll, ForgetsNext, ForgetsSome, Names};
+
+use dewfelt_fleet::Fleet;
+use jt_store::{Keeper, Registrations, StoreError};
+use jt_value::{Phone, Seq};
+use std::alloc::Global;
+
+// Looks at the first registration behind this phone's, and removes it where the fleet does not allow it. The phone that was looked
+// at, if there is one; it is put behind those that are forgotten first.
+fn forget_next<K: Registrations>(
+    alloc: Global,
+    keeper: &mut K,
+    fleet: &Fleet,
+    after: Option<&Phone>,
+    forgotten: &mut Seq<Phone>,
+) -> Result<Option<Phone>, StoreError>
+    ensures ok { IfOk result (λ found. Becomes (K.tables keeper.old) (K.tables keeper.new)
+        (ForgetsNext fleet.now (option_map key_of (option_copied after.entry)) found)) }
+    ensures err { OnErr result (K.tables keeper.new ≡ K.tables keeper.old) }
+    ensures names { Becomes (K.tables keeper.old) (K.tables keeper.new)
+        (Names forgotten.old forgotten.new) }
+{
+    let Some((phone, registered)) = keeper.next_registered(alloc, after)? else {
+        return Ok(None);
+    };
+    if !fleet.allows(&phone, &registered) {
+        forgotten.push(phone)?;
+        keeper.unregister(alloc, &phone)?;
+    }
+    Ok(Some(phone))
+}
+
+// Removes the registrations that the fleet does not allow.
+fn forget_others<K: Registrations>(
+    alloc: Global,
+    keeper: &mut K,
+    fleet: &Fleet,
+    forgotten: &mut Seq<Phone>,
+) -> Result<(), StoreError>
+    ensures ok { OnOk result (Becomes (K.tables keeper.old) (K.tables keeper.new)
+        (ForgetsAll fleet.now)) }
+    ensures err { OnErr result (Becomes (K.tables keeper.old) (K.tables keeper.new) ForgetsSome) }
+    ensures names { Becomes (K.tables keeper.old) (K.tables keeper.new)
+        (Names forgotten.old forgotten.new) }
+{
+    let mut after = None;
+    for _ in 0..u64::MAX {
+        match forget_next(alloc, keeper, fleet, after.as_ref(), forgotten)? {
+            Some(phone) => after = Some(phone),
+            None => return Ok(()),
+        }
+    }
+    Err(StoreError::Full(u64::MAX))
+}
+
+// Looks at the first vehicle behind this phone's, and registers its phone, if it is not registered. The phone that was looked at, if
+// there is one.
+fn register_next<K: Keeper>(
+    alloc: Global,
+    keeper: &mut K,
+    fleet: &Fleet,
+    after: Option<&Phone>,
+) -> Result<Option<Phone>, StoreError>
+    requires { WhereKnown (K.tables keeper.old) (AreAllowed fleet.now) }
+    ensures ok { IfOk result (λ found. Becomes (K.tables keeper.old) (K.tables keeper.new)
+        (BindsNext fleet.now (option_map key_of (option_copied after.entry)) found)) }
+    ensures err { OnErr result (K.tables keeper.new ≡ K.tables keeper.old) }
+{
+    let Some((phone, own)) = fleet.next_bound(after) else {
+        return Ok(None);
+    };
+    if keeper.registered(alloc, &phone)?.is_none() {
+        keeper.register(alloc, &phone, own)?;
+    }
+    Ok(Some(phone))
+}
+
+// Registers the vehicles' phones.
+fn register_bound<K: Keeper>(alloc: Global, keeper: &mut K, fleet: &Fleet) -> Result<(), StoreError>
+    requires { WhereKnown (K.tables keeper.old) (AreAllowed fleet.now) }
+    ensures ok { OnOk result (Becomes (K.tables keeper.old) (K.tables keeper.new)
+        (BindsAll fleet.now)) }
+    ensures err { OnErr result (Becomes (K.tables keeper.old) (K.tables keeper.new)
+        (BindsSome fleet.now)) }
+{
+    let mut after = None;
+    for _ in 0..u64::MAX {
+        match register_next(alloc, keeper, fleet, after.as_ref())? {
+            Some(phone) => after = Some(phone),
+            None => return Ok(()),
+        }
+    }
+    Err(StoreError::Full(u64::MAX))
+}
+
+// Brings the registrations in line with the fleet.
+pub(crate) fn settle<K: Registrations>(
+    alloc: Global,
+    keeper: &mut K,
+    fleet: &Fleet,
+    forgotten: &mut Seq<Phone>,
+) -> Result<(), StoreError>
+    ensures ok { OnOk result (Becomes (K.tables keeper.old) (K.tables keeper.new)
+        (IsApplied fleet.now)) }
+    ensures err { OnErr result (Becomes (K.tables keeper.old) (K.tables keeper.new)
+        (IsOnTheWay fleet.now)) }
+    ensures named { Becomes (K.tables keeper.old) (K.tables keeper.new)
+        (AreNamed forgotten.new) }
+{
+    forget_others(alloc, keeper, fleet, forgotten)?;
+    register_bound(alloc, keeper, fleet)
+}

@@ -1,0 +1,9 @@
+//! The keeper of a service: registrations under the rules of a fleet that may change while a hub goes on.
+#![tactic(auto)]
+
+mod applying;
+mod registry;
+mod shared;
+
+pub use registry::{Forgetting, NOBODY, Registry};
+pub use shared::SharedKeeper;
