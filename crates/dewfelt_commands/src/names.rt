@@ -1,5 +1,7 @@
 //! The names of the files by which a command and a service speak: in DIR/commands, each with the command's own sixteen letters.
 
+ghost use Rattle.std.specs.Prelude.{◌<◌};
+
 use std::alloc::{AllocError, Global};
 use std::io;
 use std::random::RandomSource;
@@ -24,11 +26,13 @@ pub(crate) fn log_of(alloc: Global, path: &str) -> Result<String, AllocError> {
     format!(in alloc; "{path}-wal")
 }
 
-fn letter(number: u8) -> char {
+fn letter(number: u8) -> char
+    requires { number < 16 }
+{
     if number < 10 {
         return (b'0' + number) as char;
     }
-    (b'a' + (number % 16 - 10)) as char
+    (b'a' + (number - 10)) as char
 }
 
 /// Sixteen letters that no other command has, but by chance.

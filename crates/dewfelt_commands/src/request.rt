@@ -1,5 +1,8 @@
 //! What a command asks of a service.
 
+ghost use Rattle.std.specs.Prelude.{◌≡◌, ◌++◌, OnOk, IfOk, IfSome, codes, string_bytes};
+ghost use Rattle.dewfelt_settings.specs.Phones.{two_digits, digits_text};
+
 use dewfelt_settings::phone_of;
 use jt_value::Phone;
 use std::alloc::{AllocError, Global};
@@ -20,20 +23,34 @@ pub enum Request {
 // How many digits a phone has.
 const DIGITS: usize = 20;
 
+fn put_pair(text: &mut String, octet: u8) -> Result<(), AllocError>
+    ensures { OnOk result (string_bytes text.new ≡ string_bytes text.old ++ two_digits octet) }
+{
+    text.push((b'0' + octet / 16) as char)?;
+    text.push((b'0' + octet % 16) as char)?;
+    Ok(())
+}
+
 /// Puts the twenty digits of a phone.
-pub(crate) fn put_digits(text: &mut String, phone: &Phone) -> Result<(), AllocError> {
+pub(crate) fn put_digits(text: &mut String, phone: &Phone) -> Result<(), AllocError>
+    ensures { OnOk result (string_bytes text.new
+        ≡ string_bytes text.old ++ digits_text phone.now.digits) }
+{
     let digits = phone.digits;
     for octet in &digits {
-        text.push((b'0' + octet / 16) as char)?;
-        text.push((b'0' + octet % 16) as char)?;
+        put_pair(text, *octet)?;
     }
     Ok(())
 }
 
-fn forget_text(alloc: Global, phone: &Phone) -> Result<String, AllocError> {
+#[tactic(auto, using(std::proofs::Common::append_assoc))]
+fn forget_text(alloc: Global, phone: &Phone) -> Result<String, AllocError>
+    ensures { IfOk result (λ text.
+        string_bytes text ≡ codes "forget " ++ (digits_text phone.now.digits ++ codes "\n")) }
+{
     let mut text = String::from_str(alloc, "forget ")?;
     put_digits(&mut text, phone)?;
-    text.push('\n')?;
+    text.push_str("\n")?;
     Ok(text)
 }
 
@@ -48,9 +65,23 @@ fn forgotten(alloc: Global, text: &str) -> Result<Option<Phone>, AllocError> {
     }
 }
 
+// The request with this text, if any has it.
+fn likely(alloc: Global, text: &str) -> Result<Option<Request>, AllocError> {
+    match text {
+        "registrations\n" => Ok(Some(Request::Registrations)),
+        "copy\n" => Ok(Some(Request::Copy)),
+        "stop\n" => Ok(Some(Request::Stop)),
+        _ => Ok(forgotten(alloc, text)?.map(Request::Forget)),
+    }
+}
+
 impl Request {
+    ghost use Rattle.dewfelt_commands.specs.Requests.{text_of};
+
     /// The text of the request, one line.
-    pub fn text(&self, alloc: Global) -> Result<String, AllocError> {
+    pub fn text(&self, alloc: Global) -> Result<String, AllocError>
+        ensures { IfOk result (λ text. string_bytes text ≡ text_of self.now) }
+    {
         match self {
             Request::Registrations => String::from_str(alloc, "registrations\n"),
             Request::Forget(phone) => forget_text(alloc, phone),
@@ -59,13 +90,17 @@ impl Request {
         }
     }
 
-    /// The request with this text.
-    pub fn of(alloc: Global, text: &str) -> Result<Option<Request>, AllocError> {
-        match text {
-            "registrations\n" => Ok(Some(Request::Registrations)),
-            "copy\n" => Ok(Some(Request::Copy)),
-            "stop\n" => Ok(Some(Request::Stop)),
-            _ => Ok(forgotten(alloc, text)?.map(Request::Forget)),
+    /// The request with this text; None for all other texts.
+    pub fn of(alloc: Global, text: &str) -> Result<Option<Request>, AllocError>
+        ensures { IfOk result (λ found. IfSome found (λ request. text.now ≡ text_of request)) }
+    {
+        let Some(request) = likely(alloc, text)? else {
+            return Ok(None);
+        };
+        let own = request.text(alloc)?;
+        if own.as_str() == text {
+            return Ok(Some(request));
         }
+        Ok(None)
     }
 }
