@@ -1,5 +1,7 @@
 -- What a fleet allows (this project's own). To be believed.
-use Rattle.std.specs.Prelude.{◌≡◌, ℕ, Bool, false, ◌&&◌, List, Option, Some, None, IfSome}
+use Rattle.std.specs.Prelude.{◌≡◌, ℕ, Bool, false, ◌&&◌, List, Option, Some, None, IfSome, if◌then◌else◌}
+use Rattle.jt_value.specs.Sameness.{same_key}
+use Rattle.jt_store.specs.Tables.{IsHolder, plates, terminals}
 use Rattle.std.specs.Str.{bytes_eq}
 use Rattle.jt_store.specs.declared.row.Registered.{Registered}
 use Rattle.jt_store.specs.Memory.{under}
@@ -28,3 +30,19 @@ is_allowed_by plates terminals None r = is_among plates r.plate && is_among term
 -- whether the phone with these digits may be registered so
 abbrev pub is_allowed : FleetValue → List ℕ → Registered → Bool
 is_allowed fleet key r = is_allowed_by fleet.plates fleet.terminals (under fleet.bound key) r
+
+-- neither phone nor names are bound, and the names are not among the others
+pub record MayBind (fleet : FleetValue) (key : List ℕ) (r : Registered) : Type 0 where
+  pub phone : under fleet.bound key ≡ None
+  pub plate : IsHolder plates (under fleet.bound) r.plate None
+  pub terminal : IsHolder terminals (under fleet.bound) r.terminal None
+  pub other_plate : is_among fleet.plates r.plate ≡ false
+  pub other_terminal : is_among fleet.terminals r.terminal ≡ false
+
+-- the phone, which was not bound, is bound to this, and else the same
+pub record IsBound (old : FleetValue) (key : List ℕ) (r : Registered) (now : FleetValue) : Type 0 where
+  pub may : MayBind old key r
+  pub bound : (q : List ℕ) → under now.bound q ≡ (if same_key key q then Some r else under old.bound q)
+  pub secret : now.secret ≡ old.secret
+  pub plates : now.plates ≡ old.plates
+  pub terminals : now.terminals ≡ old.terminals

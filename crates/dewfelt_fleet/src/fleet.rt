@@ -1,14 +1,15 @@
 //! The fleet: which names may register, and which are bound to a phone.
 
 ghost use Rattle.std.specs.Cmp.Lexicographic.{slice_cmp};
+ghost use Rattle.std.specs.Bool.{OnFalse, OnTrue};
 ghost use Rattle.std.specs.Option.{option_map};
 ghost use Rattle.std.specs.Ordering.{is_gt, nat_cmp};
-ghost use Rattle.std.specs.Prelude.{◌≡◌, ◌||◌, ℕ, List, [], Some, None, true, false, IfNone, IfOk, IfSome, IsSome, OnErr, OnOk, option_copied, if◌then◌else◌};
+ghost use Rattle.std.specs.Prelude.{◌≡◌, ◌||◌, ℕ, List, [], Some, None, true, false, IfNone, IfOk, IfSome, IsSome, IsTrue, OnErr, option_copied, if◌then◌else◌};
 ghost use Rattle.std.specs.Str.{bytes_eq};
-ghost use Rattle.dewfelt_fleet.specs.Fleets.{IsApart, is_allowed};
+ghost use Rattle.dewfelt_fleet.specs.Fleets.{IsApart, IsBound, MayBind, is_allowed};
 ghost use Rattle.dewfelt_fleet.specs.Names.{is_among};
 ghost use Rattle.jt_store.specs.Memory.{under};
-ghost use Rattle.jt_store.specs.Tables.{AreNamedOnce, IsBehind, IsTrimmed};
+ghost use Rattle.jt_store.specs.Tables.{AreNamedOnce, IsBehind, IsHolder, IsTrimmed, plates, terminals};
 ghost use Rattle.jt_value.specs.Sameness.{key_of, same_key};
 ghost use Rattle.jt_value.specs.declared.phone.Edition.TheVariants.{E2019};
 
@@ -140,7 +141,7 @@ impl Fleet {
         &self.terminals
     }
 
-    /// Binds a plate and a terminal id to a phone, by its digits. False, and nothing is bound, where one of the three is bound
+    /// Binds a plate and a terminal id to a phone, by its digits. False, and all is as before, where one of the three is bound
     /// already, or the plate or the id is among the others.
     pub fn bind(
         &mut self,
@@ -149,8 +150,12 @@ impl Fleet {
         registered: &Registered,
     ) -> Result<bool, Memory>
         requires trimmed { IsTrimmed registered.now.terminal }
+        ensures done { IfOk result (λ done. OnTrue done
+            (IsBound self.old (key_of phone.now) registered.now self.new)) }
+        ensures refused { IfOk result (λ done. OnFalse done (self.new ≡ self.old)) }
+        ensures err { OnErr result (self.new ≡ self.old) }
     {
-        if !self.is_free(phone, registered) {
+        if !self.may_bind(phone, registered) {
             return Ok(false);
         }
         self.bound.set(alloc, phone.digits, registered)?;
@@ -158,29 +163,70 @@ impl Fleet {
     }
 
     // Whether neither phone nor names are bound, and the names are not among the others.
-    fn is_free(&self, phone: &Phone, registered: &Registered) -> bool {
-        let plate = registered.plate.as_slice();
-        let terminal = registered.terminal.as_slice();
-        self.bound.get(&phone.digits).is_none()
-            && self.bound.plate_holder(plate).is_none()
-            && self.bound.terminal_holder(terminal).is_none()
-            && !self.plates.has(plate)
-            && !self.terminals.has(terminal)
+    fn may_bind(&self, phone: &Phone, registered: &Registered) -> bool
+        ensures { IsTrue result → MayBind self.now (key_of phone.now) registered.now }
+    {
+        !self.binds_phone(phone)
+            && !self.binds_plate(registered.plate.as_slice())
+            && !self.binds_terminal(registered.terminal.as_slice())
+            && !self.plates.has(registered.plate.as_slice())
+            && !self.terminals.has(registered.terminal.as_slice())
     }
 
-    /// Puts a plate among those that are not bound. False, and it is not put there, where it is bound.
-    pub fn add_plate(&mut self, alloc: Global, plate: &[u8]) -> Result<bool, Memory> {
-        if self.bound.plate_holder(plate).is_some() {
+    fn binds_phone(&self, phone: &Phone) -> bool
+        ensures { result ≡ false → under self.now.bound (key_of phone.now) ≡ None }
+    {
+        match self.bound.get(&phone.digits) {
+            Some(_) => true,
+            None => false,
+        }
+    }
+
+    fn binds_plate(&self, plate: &[u8]) -> bool
+        ensures { result ≡ false → IsHolder plates (under self.now.bound) plate.now None }
+    {
+        match self.bound.plate_holder(plate) {
+            Some(_) => true,
+            None => false,
+        }
+    }
+
+    fn binds_terminal(&self, terminal: &[u8]) -> bool
+        ensures { result ≡ false → IsHolder terminals (under self.now.bound) terminal.now None }
+    {
+        match self.bound.terminal_holder(terminal) {
+            Some(_) => true,
+            None => false,
+        }
+    }
+
+    /// Puts a plate among those that are not bound. False, and all is as before, where it is bound.
+    pub fn add_plate(&mut self, alloc: Global, plate: &[u8]) -> Result<bool, Memory>
+        ensures done { IfOk result (λ done. OnTrue done ((q : List ℕ) →
+            is_among self.new.plates q ≡ (bytes_eq plate.now q || is_among self.old.plates q))) }
+        ensures others { (self.new.secret ≡ self.old.secret) × (self.new.bound ≡ self.old.bound)
+            × (self.new.terminals ≡ self.old.terminals) }
+        ensures refused { IfOk result (λ done. OnFalse done (self.new ≡ self.old)) }
+        ensures err { OnErr result (self.new ≡ self.old) }
+    {
+        if self.binds_plate(plate) {
             return Ok(false);
         }
         self.plates.add(alloc, plate)?;
         Ok(true)
     }
 
-    /// Puts a terminal id, which has no zeros at its end, among those that are not bound. False, and it is not put there, where it
-    /// is bound.
-    pub fn add_terminal(&mut self, alloc: Global, terminal: &[u8]) -> Result<bool, Memory> {
-        if self.bound.terminal_holder(terminal).is_some() {
+    /// Puts a terminal id, which has no zeros at its end, among those that are not bound. False, and all is as before, where it is
+    /// bound.
+    pub fn add_terminal(&mut self, alloc: Global, terminal: &[u8]) -> Result<bool, Memory>
+        ensures done { IfOk result (λ done. OnTrue done ((q : List ℕ) → is_among self.new.terminals q
+            ≡ (bytes_eq terminal.now q || is_among self.old.terminals q))) }
+        ensures others { (self.new.secret ≡ self.old.secret) × (self.new.bound ≡ self.old.bound)
+            × (self.new.plates ≡ self.old.plates) }
+        ensures refused { IfOk result (λ done. OnFalse done (self.new ≡ self.old)) }
+        ensures err { OnErr result (self.new ≡ self.old) }
+    {
+        if self.binds_terminal(terminal) {
             return Ok(false);
         }
         self.terminals.add(alloc, terminal)?;

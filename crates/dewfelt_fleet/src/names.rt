@@ -1,6 +1,6 @@
 //! Sets of names.
 
-ghost use Rattle.std.specs.Prelude.{◌≡◌, ℕ, List, [], ◌||◌, OnOk};
+ghost use Rattle.std.specs.Prelude.{◌≡◌, ℕ, List, [], ◌||◌, OnErr, OnOk};
 ghost use Rattle.std.specs.Str.{bytes_eq};
 ghost use Rattle.dewfelt_fleet.specs.Names.{is_among};
 
@@ -39,8 +39,9 @@ impl Names {
     }
 
     pub(crate) fn add(&mut self, alloc: Global, name: &[u8]) -> Result<(), Memory>
-        ensures { OnOk result ((q : List ℕ) →
+        ensures ok { OnOk result ((q : List ℕ) →
             is_among self.new q ≡ (bytes_eq name.now q || is_among self.old q)) }
+        ensures err { OnErr result (self.new ≡ self.old) }
     {
         let name = Vec::from_slice(alloc, name)?;
         self.names.insert(name)?;

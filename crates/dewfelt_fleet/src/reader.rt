@@ -4,40 +4,46 @@ ghost use Rattle.std.specs.Prelude.{◌<◌, ◌≢◌, [], length};
 
 use crate::bad::{BadLine, Expected, NoFleet, NoLine, shown};
 use crate::fleet::Fleet;
-use crate::line::{FleetLine, Vehicle, fleet_line};
+use crate::line::{FleetLine, Id, Vehicle, fleet_line};
+use jt_value::Octets;
 use std::alloc::Global;
 
 // What editors may write before the text.
 const MARK: &[u8] = b"\xef\xbb\xbf";
 
-fn take_vehicle(alloc: Global, fleet: &mut Fleet, vehicle: Vehicle) -> Result<(), NoLine> {
-    let Vehicle { phone, registered } = vehicle;
-    if fleet.bind(alloc, &phone, &registered)? {
-        Ok(())
-    } else {
-        Err(NoLine::Bad(Expected::FreeVehicle))
-    }
-}
-
-// Takes a line behind that of the secret.
-fn take(alloc: Global, fleet: &mut Fleet, line: FleetLine) -> Result<(), NoLine> {
-    let (is_taken, expected) = match line {
-        FleetLine::Passed => return Ok(()),
-        FleetLine::Secret(_) => (false, Expected::OneSecret),
-        FleetLine::Plate(plate) => {
-            let plate = plate.as_slice();
-            (fleet.add_plate(alloc, plate)?, Expected::FreePlate)
-        }
-        FleetLine::Terminal(id) => {
-            let id = id.octets.as_slice();
-            (fleet.add_terminal(alloc, id)?, Expected::FreeTerminal)
-        }
-        FleetLine::Vehicle(vehicle) => return take_vehicle(alloc, fleet, vehicle),
-    };
+// Tells what was expected in place of a line that was not taken.
+fn expect(is_taken: bool, expected: Expected) -> Result<(), NoLine> {
     if is_taken {
         Ok(())
     } else {
         Err(NoLine::Bad(expected))
+    }
+}
+
+fn take_plate(alloc: Global, fleet: &mut Fleet, plate: Octets) -> Result<(), NoLine> {
+    let is_taken = fleet.add_plate(alloc, plate.as_slice())?;
+    expect(is_taken, Expected::FreePlate)
+}
+
+fn take_terminal(alloc: Global, fleet: &mut Fleet, id: Id) -> Result<(), NoLine> {
+    let is_taken = fleet.add_terminal(alloc, id.octets.as_slice())?;
+    expect(is_taken, Expected::FreeTerminal)
+}
+
+fn take_vehicle(alloc: Global, fleet: &mut Fleet, vehicle: Vehicle) -> Result<(), NoLine> {
+    let Vehicle { phone, registered } = vehicle;
+    let is_taken = fleet.bind(alloc, &phone, &registered)?;
+    expect(is_taken, Expected::FreeVehicle)
+}
+
+// Takes a line behind that of the secret.
+fn take(alloc: Global, fleet: &mut Fleet, line: FleetLine) -> Result<(), NoLine> {
+    match line {
+        FleetLine::Passed => Ok(()),
+        FleetLine::Secret(_secret) => Err(NoLine::Bad(Expected::OneSecret)),
+        FleetLine::Plate(plate) => take_plate(alloc, fleet, plate),
+        FleetLine::Terminal(id) => take_terminal(alloc, fleet, id),
+        FleetLine::Vehicle(vehicle) => take_vehicle(alloc, fleet, vehicle),
     }
 }
 
@@ -46,9 +52,9 @@ fn begun(alloc: Global, line: FleetLine) -> Result<Option<Fleet>, NoLine> {
     match line {
         FleetLine::Passed => Ok(None),
         FleetLine::Secret(secret) => Ok(Some(Fleet::new(alloc, secret))),
-        FleetLine::Plate(_) | FleetLine::Terminal(_) | FleetLine::Vehicle(_) => {
-            Err(NoLine::Bad(Expected::SecretFirst))
-        }
+        FleetLine::Plate(_plate) => Err(NoLine::Bad(Expected::SecretFirst)),
+        FleetLine::Terminal(_id) => Err(NoLine::Bad(Expected::SecretFirst)),
+        FleetLine::Vehicle(_vehicle) => Err(NoLine::Bad(Expected::SecretFirst)),
     }
 }
 

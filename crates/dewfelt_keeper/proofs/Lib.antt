@@ -7,4 +7,5 @@
 
 pub mod Binding
 pub mod Forgetting
+pub mod Paging
 pub mod Sweeping

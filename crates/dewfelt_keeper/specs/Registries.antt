@@ -1,8 +1,10 @@
 -- What the calls of a registry do to its keeper's tables (this project's own). To be believed.
-use Rattle.std.specs.Prelude.{◌≡◌, ◌⊎◌, ℕ, true, List, Option, Some, None}
+use Rattle.std.specs.Prelude.{◌≡◌, ◌⊎◌, ◌<◌, ◌≤◌, ℕ, true, List, [], ◌∷◌, length, Option, Some, None}
+use Rattle.jt_value.specs.declared.phone.Phone.{Phone}
+use Rattle.jt_value.specs.Sameness.{key_of}
 use Rattle.jt_store.specs.declared.row.Registered.{Registered}
 use Rattle.jt_store.specs.Memory.{under}
-use Rattle.jt_store.specs.Tables.{Tables, MayRegister, WhereKnown, registered_set}
+use Rattle.jt_store.specs.Tables.{Tables, FindsNext, MayRegister, WhereKnown, registered_set}
 use Rattle.dewfelt_fleet.specs.Fleets.{FleetValue, is_allowed}
 use Rattle.dewfelt_keeper.specs.declared.registry.Forgetting.{Forgetting}
 use Rattle.dewfelt_keeper.specs.declared.registry.Forgetting.TheVariants as forgetting
@@ -34,3 +36,19 @@ Forgets None key old now forgetting.NotRegistered = (now ≡ old) × WhereKnown 
 Forgets (Some own) key old now forgetting.NotRegistered = ⊥
 Forgets (Some own) key old now forgetting.Bound = now ≡ old
 Forgets None key old now forgetting.Bound = ⊥
+
+-- registrations that follow one another behind these digits
+abbrev pub AreNext : (List ℕ → Option Registered) → Option (List ℕ) → List (Phone × Registered) → Type 0
+AreNext registered after [] = Unit {0}
+AreNext registered after (one ∷ more) = FindsNext registered after (Some one) × AreNext registered (Some (key_of one.0)) more
+
+-- the digits of the last phone of a page, and those before it where the page is empty
+abbrev pub last_behind : Option (List ℕ) → List (Phone × Registered) → Option (List ℕ)
+last_behind after [] = after
+last_behind after (one ∷ more) = last_behind (Some (key_of one.0)) more
+
+-- the registrations that follow, at most so many; a page that is shorter is the last one
+pub record IsPage (registered : List ℕ → Option Registered) (after : Option (List ℕ)) (most : ℕ) (page : List (Phone × Registered)) : Type 0 where
+  pub all : AreNext registered after page
+  pub few : length page ≤ most
+  pub last : length page < most → FindsNext registered (last_behind after page) None
