@@ -2,6 +2,7 @@
 
 use crate::naming::{away_word, denied_word, digits_before, end_word, phone_digits, service_word};
 use crate::seen::Seen;
+use dewfelt_commands::phone_text;
 use dewfelt_log::{Line, Outbox, Rate};
 use jt_platform::{Entry, Reply, Request};
 use jt_register::Register;
@@ -157,9 +158,9 @@ impl<R: Clock + Drop> Told<R> {
 
     /// Puts a line of a phone that is registered no more, since a command asked for that.
     pub(crate) fn say_forgot(&mut self, phone: &Phone) {
-        let mut line = self.line("forgot");
-        put_phone(&mut line, phone);
-        self.put(line);
+        if let Ok(digits) = phone_text(self.alloc, phone) {
+            self.say("forgot", "phone", digits.as_str());
+        }
     }
 
     /// Puts a line of a fault, with what the system says of it.
