@@ -5,8 +5,9 @@ use Rattle.std.specs.Str.{bytes_eq}
 use Rattle.std.proofs.lemmas.Slice.Eq.{bytes_eq-Decides}
 use Rattle.jt_value.specs.Sameness.{same_key}
 use Rattle.jt_store.specs.declared.row.Registered.{Registered}
-use Rattle.jt_store.specs.Tables.{HasName, IsHolder, plates, terminals}
-use Rattle.dewfelt_fleet.specs.Fleets.{IsApart}
+use Rattle.jt_store.specs.Memory.{under}
+use Rattle.jt_store.specs.Tables.{HasName, IsHolder, MayRegister, plates, terminals}
+use Rattle.dewfelt_fleet.specs.Fleets.{FleetValue, IsApart, MayBind}
 use Rattle.dewfelt_fleet.specs.Names.{is_among}
 
 -- one vehicle more
@@ -59,4 +60,11 @@ pub apart_terminal : (free_plates free_terminals now : List (List ℕ)) (bound :
 apart_terminal free_plates free_terminals now bound name more nobody apart = record {
   plate = apart.plate;
   terminal = free_more free_terminals now terminals bound name more nobody apart.terminal;
+}
+
+-- a vehicle may be registered where nothing of it is bound
+pub may_register : (fleet : FleetValue) (key : List ℕ) (r : Registered) → MayBind fleet key r → MayRegister (under fleet.bound) key r
+may_register fleet key r may = record {
+  plate = λ other has. absurd (may.plate other has);
+  terminal = λ other has. absurd (may.terminal other has);
 }

@@ -94,11 +94,14 @@ fn plate_of(alloc: Global, word: Word<'_>, expected: Expected) -> Result<Octets,
 fn without_zeros(octets: &[u8]) -> &[u8]
     ensures { IsTrimmed result.now }
 {
-    let mut end = octets.len();
-    while end > 0 && octets[end - 1] == 0 {
-        end -= 1;
+    let mut rest = octets;
+    while let Some((last, front)) = rest.split_last() {
+        if *last != 0 {
+            return rest;
+        }
+        rest = front;
     }
-    &octets[..end]
+    rest
 }
 
 fn terminal_of(alloc: Global, word: Word<'_>, expected: Expected) -> Result<Id, NoLine> {

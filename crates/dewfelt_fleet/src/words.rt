@@ -1,6 +1,6 @@
 //! The words of a line: up to a space, or between double quotes.
 
-ghost use Rattle.std.specs.Prelude.{◌<◌, ◌≤◌, IfSome, length};
+ghost use Rattle.std.specs.Prelude.{◌<◌, IfSome, length};
 
 // A word of a line.
 #[derive(Clone, Copy)]
@@ -12,17 +12,11 @@ pub(crate) enum Word<'a> {
 }
 
 // The octets without the spaces before them.
-pub(crate) fn without_spaces(octets: &[u8]) -> &[u8]
-    ensures { length result.now ≤ length octets.now }
-{
-    let mut rest = octets;
-    while let Some((first, more)) = rest.split_first() {
-        if *first != b' ' {
-            return rest;
-        }
-        rest = more;
+pub(crate) fn without_spaces(octets: &[u8]) -> &[u8] {
+    match octets.iter().position(|octet| *octet != b' ') {
+        Some(place) => &octets[place..],
+        None => b"".as_slice(),
     }
-    rest
 }
 
 // The place of the first such octet.

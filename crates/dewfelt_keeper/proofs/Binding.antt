@@ -2,6 +2,7 @@
 use Rattle.std.proofs.Common.{◌≡◌, ℕ, Bool, true, false, cond, List, [], ◌∷◌, Option, Some, None, refl, sym, ap, subst, ◌∙◌, inl, inr}
 use Rattle.std.specs.Prelude.{◌⊎◌, ◌&&◌, IfSome, IsSome, IsSomeAnd}
 use Rattle.std.specs.Str.{bytes_eq}
+use Rattle.std.proofs.lemmas.Bool.{true≢false}
 use Rattle.std.proofs.lemmas.Slice.Eq.{bytes_eq-Decides}
 use Rattle.jt_value.specs.declared.phone.Phone.{Phone}
 use Rattle.jt_value.specs.Sameness.{key_of, same_key}
@@ -11,15 +12,15 @@ use Rattle.jt_store.specs.Tables.{Tables, HasName, AreNamedOnce, MayRegister, pl
 use Rattle.dewfelt_fleet.specs.Fleets.{FleetValue, IsApart, is_allowed, is_allowed_by, is_same}
 use Rattle.dewfelt_fleet.specs.Names.{is_among}
 use Rattle.dewfelt_keeper.specs.Rules.{Becomes, IsApplied, IsOnTheWay, IsNamed, AreNamed, bound_or, kept_by, settled_by}
-use Rattle.dewfelt_keeper.specs.Sweeps.{AreAllowed, BindsAll, BindsNext, BindsSome, BindsUpTo, ForgetsAll, ForgetsSome, is_done, or_own}
-use Rattle.dewfelt_keeper.proofs.Sweeping.{Place, Here, Apart, Passed, behind_is, not_done, place_of, same_is, same_itself}
+use Rattle.dewfelt_keeper.specs.Sweeps.{AreAllowed, BindsAll, BindsNext, BindsSome, BindsUpTo, ForgetsAll, ForgetsSome, is_done, with_own, with_own_if, with_own_or}
+use Rattle.dewfelt_keeper.proofs.Sweeping.{Place, behind_is, not_done, place_of, same_is, same_itself}
 
 -- ---- what the fleet allows
 
 both : (a b : Bool) → (a && b) ≡ true → (a ≡ true) × (b ≡ true)
 both true true e = (refl, refl)
-both true false e = absurd cc
-both false b e = absurd cc
+both true false e = absurd (true≢false (sym e))
+both false b e = absurd (true≢false (sym e))
 
 octets_are : (a b : List ℕ) → bytes_eq a b ≡ true → a ≡ b
 octets_are a b e = (bytes_eq-Decides a b).0 e
@@ -67,7 +68,7 @@ module _ (fleet : FleetValue) where
     plate_there other r None e allows same =
         let free = (both (is_among fleet.plates r.plate) (is_among fleet.terminals r.terminal) allows).0 in
         let bound_one = apart_here fleet.plates plates (apart.plate key) in
-        let free_one = ap (is_among fleet.plates) (sym same) ∙ free in absurd cc
+        absurd (true≢false (sym free ∙ ap (is_among fleet.plates) same ∙ bound_one))
 
     terminal_there : (other : List ℕ) (r : Registered) (its : Option Registered) → bound other ≡ its → is_allowed_by fleet.plates fleet.terminals its r ≡ true → r.terminal ≡ own.terminal → other ≡ key
     terminal_there other r (Some its) e allows same =
@@ -76,7 +77,7 @@ module _ (fleet : FleetValue) where
     terminal_there other r None e allows same =
         let free = (both (is_among fleet.plates r.plate) (is_among fleet.terminals r.terminal) allows).1 in
         let bound_one = apart_here fleet.terminals terminals (apart.terminal key) in
-        let free_one = ap (is_among fleet.terminals) (sym same) ∙ free in absurd cc
+        absurd (true≢false (sym free ∙ ap (is_among fleet.terminals) same ∙ bound_one))
 
     by_name : (name_of : Registered → List ℕ) → ((other : List ℕ) (r : Registered) → is_allowed fleet other r ≡ true → name_of r ≡ name_of own → other ≡ key)
         → (other : List ℕ) (found : Option Registered) → IfSome found (λ r. is_allowed fleet other r ≡ true) → IsSomeAnd found (λ r. name_of r ≡ name_of own) → other ≡ key
@@ -95,34 +96,44 @@ module _ (fleet : FleetValue) where
   pub binds_none : (t : Tables) → BindsUpTo fleet None t t
   binds_none t = record { registered = λ key. refl; rows = refl }
 
-  own_or : (key : List ℕ) (own : Registered) (was : Option Registered) → bound key ≡ Some own → IfSome was (λ r. is_allowed fleet key r ≡ true) → or_own was own ≡ Some own
-  own_or key own None is allows = refl
-  own_or key own (Some r) is allows = ap Some (own_is key own r is allows)
+  -- what the phone is registered with afterwards
+  own_here : (key : List ℕ) (own : Registered) (now : Tables) (was : Option Registered) → bound key ≡ Some own → now.registered key ≡ was → IfSome was (λ r. is_allowed fleet key r ≡ true)
+      → (with_own_if was key own now).registered key ≡ Some own
+  own_here key own now None is stood allows = ap (λ b. cond b (Some own) (now.registered key)) (same_itself key)
+  own_here key own now (Some r) is stood allows = stood ∙ ap Some (own_is key own r is allows)
+
+  same_there : (key q : List ℕ) (own : Registered) (now : Tables) (was : Option Registered) → same_key key q ≡ false → (with_own_if was key own now).registered q ≡ now.registered q
+  same_there key q own now None apart = ap (λ b. cond b (Some own) (now.registered q)) apart
+  same_there key q own now (Some r) apart = refl
+
+  rows_there : (key : List ℕ) (own : Registered) (now : Tables) (was : Option Registered) → (with_own_if was key own now).rows ≡ now.rows
+  rows_there key own now None = refl
+  rows_there key own now (Some r) = refl
 
   module _ (after : Option (List ℕ)) (phone : Phone) (old now next : Tables) (allowed : AreAllowed fleet old) (upto : BindsUpTo fleet after old now) (one : BindsNext fleet after (Some phone) now next) where
     was_here : now.registered (key_of phone) ≡ old.registered (key_of phone)
     was_here = upto.registered (key_of phone) ∙ ap (λ b. cond b (bound_or (bound (key_of phone)) (old.registered (key_of phone))) (old.registered (key_of phone))) (not_done after (key_of phone) one.1)
 
     at : (q : List ℕ) → Place bound after (key_of phone) q → next.registered q ≡ cond (is_done (Some (key_of phone)) q) (bound_or (bound q) (old.registered q)) (old.registered q)
-    at q (Here same done) =
-        let mine : next.registered q ≡ or_own (now.registered q) one.0 = one.4 q ∙ ap (λ b. cond b (or_own (now.registered q) one.0) (now.registered q)) (subst (λ k. same_key (key_of phone) k ≡ true) same (same_itself (key_of phone))) in
-        let is : bound q ≡ Some one.0 = subst (λ k. bound k ≡ Some one.0) same one.2 in
-        let stood : now.registered q ≡ old.registered q = subst (λ k. now.registered k ≡ old.registered k) same was_here in
-        mine ∙ ap (λ o. or_own o one.0) stood ∙ own_or q one.0 (old.registered q) is (allowed q) ∙ sym (ap (λ o. bound_or o (old.registered q)) is)
-        ∙ sym (ap (λ b. cond b (bound_or (bound q) (old.registered q)) (old.registered q)) done)
-    at q (Apart apart done) =
-        one.4 q ∙ ap (λ b. cond b (or_own (now.registered q) one.0) (now.registered q)) apart ∙ upto.registered q
-        ∙ ap (λ b. cond b (bound_or (bound q) (old.registered q)) (old.registered q)) (sym done)
-    at q (Passed apart before done none) =
-        one.4 q ∙ ap (λ b. cond b (or_own (now.registered q) one.0) (now.registered q)) apart ∙ upto.registered q
-        ∙ ap (λ b. cond b (bound_or (bound q) (old.registered q)) (old.registered q)) before
-        ∙ sym (ap (λ o. bound_or o (old.registered q)) none)
-        ∙ sym (ap (λ b. cond b (bound_or (bound q) (old.registered q)) (old.registered q)) done)
+    at q (inl h) =
+        let stands : next.registered (key_of phone) ≡ Some one.0 =
+        ap (λ (t : Tables). t.registered (key_of phone)) one.4
+        ∙ own_here (key_of phone) one.0 now (now.registered (key_of phone)) one.2 refl (subst (λ o. IfSome o (λ r. is_allowed fleet (key_of phone) r ≡ true)) (sym was_here) (allowed (key_of phone))) in
+        subst (λ k. next.registered k ≡ Some one.0) h.0 stands ∙ sym (ap (λ o. bound_or o (old.registered q)) (subst (λ k. bound k ≡ Some one.0) h.0 one.2))
+        ∙ sym (ap (λ b. cond b (bound_or (bound q) (old.registered q)) (old.registered q)) h.1)
+    at q (inr (inl h)) =
+        ap (λ (t : Tables). t.registered q) one.4 ∙ same_there (key_of phone) q one.0 now (now.registered (key_of phone)) h.0 ∙ upto.registered q
+        ∙ ap (λ b. cond b (bound_or (bound q) (old.registered q)) (old.registered q)) (sym h.1)
+    at q (inr (inr h)) =
+        ap (λ (t : Tables). t.registered q) one.4 ∙ same_there (key_of phone) q one.0 now (now.registered (key_of phone)) h.0 ∙ upto.registered q
+        ∙ ap (λ b. cond b (bound_or (bound q) (old.registered q)) (old.registered q)) h.1
+        ∙ sym (ap (λ o. bound_or o (old.registered q)) h.3)
+        ∙ sym (ap (λ b. cond b (bound_or (bound q) (old.registered q)) (old.registered q)) h.2)
 
     pub binds_more : BindsUpTo fleet (Some (key_of phone)) old next
     binds_more = record {
       registered = λ q. at q (place_of bound after (key_of phone) one.1 one.3 q);
-      rows = one.5 ∙ upto.rows;
+      rows = ap (λ (t : Tables). t.rows) one.4 ∙ rows_there (key_of phone) one.0 now (now.registered (key_of phone)) ∙ upto.rows;
     }
 
   bound_nothing : (after : Option (List ℕ)) (key : List ℕ) (was now : Option Registered) (done : Bool) → is_done after key ≡ done

@@ -8,7 +8,7 @@ use Rattle.jt_store.specs.Tables.{Tables, FindsNext}
 use Rattle.dewfelt_fleet.specs.Fleets.{FleetValue, is_allowed}
 use Rattle.dewfelt_keeper.specs.Rules.{Becomes, IsNamed, AreNamed, kept_by}
 use Rattle.dewfelt_keeper.specs.Sweeps.{ForgetsAll, ForgetsNext, ForgetsSome, ForgetsUpTo, Names, is_done, with_own}
-use Rattle.dewfelt_keeper.proofs.Sweeping.{Place, Here, Apart, Passed, behind_is, not_done, place_of, same_is, same_itself}
+use Rattle.dewfelt_keeper.proofs.Sweeping.{Place, behind_is, not_done, place_of, same_is, same_itself}
 
 -- ---- tables that are told
 
@@ -50,18 +50,18 @@ module _ (fleet : FleetValue) (after : Option (List ℕ)) (old now : Tables) (ph
   next = cond (is_allowed fleet (key_of phone) r) now (with_own (key_of phone) None now)
 
   at : (q : List ℕ) → Place now.registered after (key_of phone) q → next.registered q ≡ cond (is_done (Some (key_of phone)) q) (kept_by fleet q (old.registered q)) (old.registered q)
-  at q (Here same done) =
+  at q (inl h) =
       let was : old.registered (key_of phone) ≡ Some r =
       sym (ap (λ b. cond b (kept_by fleet (key_of phone) (old.registered (key_of phone))) (old.registered (key_of phone))) (not_done after (key_of phone) found.1))
       ∙ sym (upto.registered (key_of phone)) ∙ found.2 in
-      let done_here : is_done (Some (key_of phone)) (key_of phone) ≡ true = subst (λ k. is_done (Some (key_of phone)) k ≡ true) (sym same) done in
-      subst (λ k. next.registered k ≡ cond (is_done (Some (key_of phone)) k) (kept_by fleet k (old.registered k)) (old.registered k)) same
+      let done_here : is_done (Some (key_of phone)) (key_of phone) ≡ true = subst (λ k. is_done (Some (key_of phone)) k ≡ true) (sym h.0) h.1 in
+      subst (λ k. next.registered k ≡ cond (is_done (Some (key_of phone)) k) (kept_by fleet k (old.registered k)) (old.registered k)) h.0
       (kept_here fleet (key_of phone) r _ refl now found.2 ∙ ap (kept_by fleet (key_of phone)) (sym was)
       ∙ sym (ap (λ b. cond b (kept_by fleet (key_of phone) (old.registered (key_of phone))) (old.registered (key_of phone))) done_here))
-  at q (Apart apart done) = same_apart (key_of phone) q apart _ now ∙ upto.registered q ∙ ap (λ b. cond b (kept_by fleet q (old.registered q)) (old.registered q)) (sym done)
-  at q (Passed apart before done none) =
-      let was : old.registered q ≡ None = sym (ap (λ b. cond b (kept_by fleet q (old.registered q)) (old.registered q)) before) ∙ sym (upto.registered q) ∙ none in
-      same_apart (key_of phone) q apart _ now ∙ none ∙ ap (kept_by fleet q) (sym was) ∙ sym (ap (λ b. cond b (kept_by fleet q (old.registered q)) (old.registered q)) done)
+  at q (inr (inl h)) = same_apart (key_of phone) q h.0 _ now ∙ upto.registered q ∙ ap (λ b. cond b (kept_by fleet q (old.registered q)) (old.registered q)) (sym h.1)
+  at q (inr (inr h)) =
+      let was : old.registered q ≡ None = sym (ap (λ b. cond b (kept_by fleet q (old.registered q)) (old.registered q)) h.1) ∙ sym (upto.registered q) ∙ h.3 in
+      same_apart (key_of phone) q h.0 _ now ∙ h.3 ∙ ap (kept_by fleet q) (sym was) ∙ sym (ap (λ b. cond b (kept_by fleet q (old.registered q)) (old.registered q)) h.2)
 
   pub forgets_next : ForgetsUpTo fleet (Some (key_of phone)) old (cond (is_allowed fleet (key_of phone) r) now (with_own (key_of phone) None now))
   forgets_next = record {

@@ -19,6 +19,18 @@ is_done (Some last) key = not (is_lt (slice_cmp nat_cmp last key))
 abbrev pub with_own : List ℕ → Option Registered → Tables → Tables
 with_own key own t = record { registered = λ q. if same_key key q then own else t.registered q; rows = t.rows }
 
+-- without this registration, if the fleet does not allow it
+abbrev pub left_allowed : FleetValue → List ℕ → Registered → Tables → Tables
+left_allowed fleet key r t = if is_allowed fleet key r then t else with_own key None t
+
+abbrev pub with_own_if : Option Registered → List ℕ → Registered → Tables → Tables
+with_own_if (Some r) key own t = t
+with_own_if None key own t = with_own key (Some own) t
+
+-- with this registration, if the phone has none
+abbrev pub with_own_or : List ℕ → Registered → Tables → Tables
+with_own_or key own t = with_own_if (t.registered key) key own t
+
 -- ---- registrations that the fleet does not allow
 
 -- up to these digits they are gone
@@ -31,7 +43,7 @@ abbrev pub ForgetsNext : FleetValue → Option (List ℕ) → Option Phone → T
 ForgetsNext fleet after None old now = FindsNext old.registered after None × (now ≡ old)
 ForgetsNext fleet after (Some phone) old now =
     (r : Registered) × FindsNext old.registered after (Some (phone, r))
-    × (now ≡ (if is_allowed fleet (key_of phone) r then old else with_own (key_of phone) None old))
+    × (now ≡ left_allowed fleet (key_of phone) r old)
 
 pub record ForgetsAll (fleet : FleetValue) (old now : Tables) : Type 0 where
   pub registered : (key : List ℕ) → now.registered key ≡ kept_by fleet key (old.registered key)
@@ -58,18 +70,13 @@ pub record BindsUpTo (fleet : FleetValue) (after : Option (List ℕ)) (old now :
   pub registered : (key : List ℕ) → now.registered key ≡ (if is_done after key then bound_or (under fleet.bound key) (old.registered key) else old.registered key)
   pub rows : now.rows ≡ old.rows
 
-abbrev pub or_own : Option Registered → Registered → Option Registered
-or_own (Some r) own = Some r
-or_own None own = Some own
-
 -- the next one is registered, if it is not yet
 abbrev pub BindsNext : FleetValue → Option (List ℕ) → Option Phone → Tables → Tables → Type 0
 BindsNext fleet after None old now = ((key : List ℕ) → IsBehind after key → under fleet.bound key ≡ None) × (now ≡ old)
 BindsNext fleet after (Some phone) old now =
     (own : Registered) × IsBehind after (key_of phone) × (under fleet.bound (key_of phone) ≡ Some own)
     × ((key : List ℕ) → IsBehind after key → IsSome (under fleet.bound key) → is_gt (slice_cmp nat_cmp (key_of phone) key) ≡ false)
-    × ((key : List ℕ) → now.registered key ≡ (if same_key (key_of phone) key then or_own (old.registered key) own else old.registered key))
-    × (now.rows ≡ old.rows)
+    × (now ≡ with_own_or (key_of phone) own old)
 
 pub record BindsAll (fleet : FleetValue) (old now : Tables) : Type 0 where
   pub registered : (key : List ℕ) → now.registered key ≡ bound_or (under fleet.bound key) (old.registered key)

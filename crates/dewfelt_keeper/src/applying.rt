@@ -1,19 +1,41 @@
 //! A fleet that is applied to the registrations of a keeper.
 
 ghost use Rattle.std.specs.Option.{option_copied, option_map};
-ghost use Rattle.std.specs.Prelude.{◌≡◌, ◌≤◌, IfOk, OnErr, OnOk, IsErrOf};
-ghost use Rattle.jt_store.specs.Tables.{HasCause, WhereKnown};
+ghost use Rattle.std.specs.Prelude.{◌≡◌, IfOk, OnErr, OnOk};
+ghost use Rattle.jt_store.specs.Tables.{IsTrimmed, MayRegister, WhereKnown};
 ghost use Rattle.jt_value.specs.Sameness.{key_of};
 ghost use Rattle.dewfelt_keeper.specs.Rules.{AreNamed, Becomes, IsApplied, IsOnTheWay};
-ghost use Rattle.dewfelt_keeper.specs.Sweeps.{AreAllowed, BindsAll, BindsNext, BindsSome, ForgetsAll, ForgetsNext, ForgetsSome, Names};
+ghost use Rattle.dewfelt_keeper.specs.Sweeps.{AreAllowed, BindsAll, BindsNext, BindsSome, ForgetsAll, ForgetsNext, ForgetsSome, Names, left_allowed, with_own_or};
 
 use dewfelt_fleet::Fleet;
-use jt_store::{Keeper, Registrations, StoreError};
+use jt_store::{Keeper, Registered, Registrations, StoreError};
 use jt_value::{Phone, Seq};
 use std::alloc::Global;
 
+// Removes a phone's registration where the fleet does not allow it. The phone is put behind those that are forgotten first.
+fn forget_unallowed<K: Keeper>(
+    alloc: Global,
+    keeper: &mut K,
+    fleet: &Fleet,
+    phone: &Phone,
+    registered: &Registered,
+    forgotten: &mut Seq<Phone>,
+) -> Result<(), StoreError>
+    ensures ok { OnOk result (Becomes (K.tables keeper.old) (K.tables keeper.new)
+        (λ old now. now ≡ left_allowed fleet.now (key_of phone.now) registered.now old)) }
+    ensures err { OnErr result (K.tables keeper.new ≡ K.tables keeper.old) }
+    ensures names { Becomes (K.tables keeper.old) (K.tables keeper.new)
+        (Names forgotten.old forgotten.new) }
+{
+    if fleet.allows(phone, registered) {
+        return Ok(());
+    }
+    forgotten.push(*phone)?;
+    keeper.unregister(alloc, phone)
+}
+
 // Looks at the first registration behind this phone's, and removes it where the fleet does not allow it. The phone that was looked
-// at, if there is one; it is put behind those that are forgotten first.
+// at, if there is one.
 fn forget_next<K: Registrations>(
     alloc: Global,
     keeper: &mut K,
@@ -27,14 +49,16 @@ fn forget_next<K: Registrations>(
     ensures names { Becomes (K.tables keeper.old) (K.tables keeper.new)
         (Names forgotten.old forgotten.new) }
 {
-    let Some((phone, registered)) = keeper.next_registered(alloc, after)? else {
-        return Ok(None);
-    };
-    if !fleet.allows(&phone, &registered) {
-        forgotten.push(phone)?;
-        keeper.unregister(alloc, &phone)?;
+    match keeper.next_registered(alloc, after) {
+        Ok(None) => Ok(None),
+        Ok(Some((phone, registered))) => {
+            match forget_unallowed(alloc, keeper, fleet, &phone, &registered, forgotten) {
+                Ok(()) => Ok(Some(phone)),
+                Err(error) => Err(error),
+            }
+        }
+        Err(error) => Err(error),
     }
-    Ok(Some(phone))
 }
 
 // Removes the registrations that the fleet does not allow.
@@ -60,6 +84,27 @@ fn forget_others<K: Registrations>(
     Err(StoreError::Full(u64::MAX))
 }
 
+// Registers a phone as it is bound, if it is not registered.
+fn register_own<K: Keeper>(
+    alloc: Global,
+    keeper: &mut K,
+    phone: &Phone,
+    own: &Registered,
+) -> Result<(), StoreError>
+    requires trimmed { IsTrimmed own.now.terminal }
+    requires may { WhereKnown (K.tables keeper.old)
+        (λ t. MayRegister t.registered (key_of phone.now) own.now) }
+    ensures ok { OnOk result (Becomes (K.tables keeper.old) (K.tables keeper.new)
+        (λ old now. now ≡ with_own_or (key_of phone.now) own.now old)) }
+    ensures err { OnErr result (K.tables keeper.new ≡ K.tables keeper.old) }
+{
+    match keeper.registered(alloc, phone) {
+        Ok(Some(_registered)) => Ok(()),
+        Ok(None) => keeper.register(alloc, phone, own),
+        Err(error) => Err(error),
+    }
+}
+
 // Looks at the first vehicle behind this phone's, and registers its phone, if it is not registered. The phone that was looked at, if
 // there is one.
 fn register_next<K: Keeper>(
@@ -73,13 +118,13 @@ fn register_next<K: Keeper>(
         (BindsNext fleet.now (option_map key_of (option_copied after.entry)) found)) }
     ensures err { OnErr result (K.tables keeper.new ≡ K.tables keeper.old) }
 {
-    let Some((phone, own)) = fleet.next_bound(after) else {
-        return Ok(None);
-    };
-    if keeper.registered(alloc, &phone)?.is_none() {
-        keeper.register(alloc, &phone, own)?;
+    match fleet.next_bound(after) {
+        Some((phone, own)) => match register_own(alloc, keeper, &phone, own) {
+            Ok(()) => Ok(Some(phone)),
+            Err(error) => Err(error),
+        },
+        None => Ok(None),
     }
-    Ok(Some(phone))
 }
 
 // Registers the vehicles' phones.
