@@ -1,32 +1,43 @@
 #!/bin/sh
-# Serves terminals without end: a run of `platform` after another.
+# Runs `dewfelt serve` as systemd would by samples/platform.service: where it ends by a fault it is started anew a second later.
 #
-#     samples/serve.sh PORT SESSIONS SECONDS >> platform.log
+#     samples/serve.sh DIR [OPTIONS] >> platform.log
 #
-# Run it in the folder that has the file `fleet` and is to have `platform.db`. A run ends after SESSIONS connections, or after
-# SECONDS, and the next one begins. The variable JT808 names the program; without it, it is that of this repository. SIGTERM
-# ends the loop and the run.
-program=${JT808:-$(dirname -- "$(readlink -f -- "$0")")/../jt808}
-if [ $# -ne 3 ]; then
-    echo "usage: samples/serve.sh PORT SESSIONS SECONDS" >&2
+# DIR is the folder that has the file `fleet`; the options are those of `dewfelt serve`. The variable DEWFELT names the program;
+# without it, it is that of this repository. SIGTERM, SIGINT or SIGHUP stops the service by `dewfelt stop`, and ends the loop.
+program=${DEWFELT:-$(dirname -- "$(readlink -f -- "$0")")/../dewfelt}
+if [ $# -lt 1 ]; then
+    echo "usage: samples/serve.sh DIR [OPTIONS]" >&2
     exit 2
 fi
-trap 'kill "$run" 2>/dev/null; wait "$run"; exit 0' INT TERM
+is_stopped=
+stop() {
+    is_stopped=yes
+    "$program" stop "$folder" >&2
+}
+folder=$1
+trap stop HUP INT TERM
 
 while :; do
-    timeout "$3" "$program" platform --port "$1" --sessions "$2" <fleet &
+    "$program" serve "$@" &
     run=$!
     wait "$run"
     status=$?
+    # A signal ends the wait before the service has ended.
+    while kill -0 "$run" 2>/dev/null; do
+        wait "$run"
+        status=$?
+    done
+    if [ -n "$is_stopped" ]; then
+        exit 0
+    fi
     case $status in
-    0 | 124) ;;
-    # A bad fleet, bad words, or a program that is not there: going on helps nobody.
-    1 | 2 | 125 | 126 | 127)
-        echo "serve: the platform ended with status $status" >&2
+    # It was stopped; or settings, words, fleet or folder are wrong, or no program is there: going on helps nobody.
+    0 | 1 | 2 | 3 | 9 | 125 | 126 | 127)
         exit "$status"
         ;;
     *)
-        echo "serve: the platform ended with status $status and is started anew" >&2
+        echo "serve: the service ended with status $status and is started anew" >&2
         sleep 1
         ;;
     esac

@@ -1,18 +1,18 @@
 //! The program `dewfelt`: it makes the real objects, and leaves all else to `dewfelt_serve`.
 #![tactic(auto)]
 
+use dewfelt_commands::{Clerk, Failed, Locked, Stores, copy, forget, registrations, stop};
+use dewfelt_fleet::Fleet;
 use dewfelt_serve::{
-    Locked, Service, Status, Told, Trouble, check, lock, path_in, read_fleet_of, read_settings_of,
-    serve,
+    Flags, OverFolder, Status, Told, Trouble, check, clerk_of, lock, read_fleet_of,
+    read_settings_of, serve_over,
 };
 use dewfelt_settings::{Choices, Command, HELP, Settings, VERSION, read_command};
 use jt_outside::StdSink;
-use jt_platform::Fleet;
 use jt_service::{Door, ServiceListen};
 use jt_sql::SqlKeeper;
-use jt_store::Keeper;
-use jt_value::{Memory, Octets};
-use std::alloc::AllocError;
+use jt_value::Memory;
+use std::alloc::{AllocError, Global};
 use std::env::Env;
 use std::io::{ErrorKind, Read, Stdin, Stdout};
 use std::process::ExitCode;
@@ -71,137 +71,146 @@ fn wait_for_the_end(mut input: Stdin, ended: Arc<AtomicBool>) {
     ended.store(true, Ordering::SeqCst);
 }
 
+// The files of rows and registrations.
+#[derive(Drop)]
+struct SqlFiles {
+    rt: HostRuntime,
+}
+
+impl Stores for SqlFiles {
+    type Keeper = SqlKeeper<HostRuntime>;
+
+    fn at(&self, path: &str) -> Result<SqlKeeper<HostRuntime>, Memory> {
+        SqlKeeper::at(self.rt.clone()?, path)
+    }
+}
+
 // What is read before a service is made, and the lock of the folder.
 #[derive(Drop)]
 struct Prepared {
     settings: Settings,
-    fleet: Fleet,
-    secret: Octets,
     locked: Locked,
+    text: Vec<u8>,
+    fleet: Fleet,
+    clerk: Clerk,
 }
 
 fn prepare(rt: &HostRuntime, folder: &str, words: &Choices) -> Result<Prepared, Trouble> {
     let file = read_settings_of(rt, folder)?;
     let locked = lock(rt, folder)?;
-    let (secret, fleet) = read_fleet_of(rt, folder)?;
+    let (text, fleet) = read_fleet_of(rt, folder)?;
     Ok(Prepared {
         settings: Settings::of(words, &file),
-        fleet,
-        secret,
         locked,
+        text,
+        fleet,
+        clerk: clerk_of(rt, folder)?,
     })
 }
 
-fn keeper_of(rt: &HostRuntime, folder: &str) -> Result<SqlKeeper<HostRuntime>, Memory> {
-    let path = path_in(rt.alloc(), folder, "platform.db")?;
-    SqlKeeper::at(rt.clone()?, path.as_str())
-}
-
-fn door_of(rt: &HostRuntime, settings: &Settings) -> Result<ServiceListen<HostRuntime>, Trouble> {
+fn door_of(
+    rt: &HostRuntime,
+    settings: &Settings,
+    flags: &Flags,
+) -> Result<ServiceListen<HostRuntime>, Trouble> {
     let Ok(own) = rt.clone() else {
         return Err(Trouble::memory(rt.alloc()));
     };
-    match ServiceListen::bind(own, settings.listen) {
+    let Ok(ends) = flags.ends.clone() else {
+        return Err(Trouble::memory(rt.alloc()));
+    };
+    match ServiceListen::bind(own, settings.listen, ends) {
         Ok(door) => Ok(door),
         Err(error) => Err(Trouble::of_listen(rt.alloc(), settings, &error)),
     }
 }
 
-// The flag that ends the service: it is set once standard input has ended, where that is to be looked at.
-fn input_flag<R: Threads>(
-    threads: &R,
-    rt: &HostRuntime,
-    settings: &Settings,
-) -> Result<Arc<AtomicBool>, Status> {
-    let Ok(flag) = Arc::new(rt.alloc(), AtomicBool::new(false)) else {
+fn flags(alloc: Global) -> Result<Flags, AllocError> {
+    Ok(Flags {
+        stops: Arc::new(alloc, AtomicBool::new(false))?,
+        ends: Arc::new(alloc, AtomicBool::new(false))?,
+    })
+}
+
+// Starts the thread that sets the first flag once standard input has ended.
+fn watch_input<R: Threads>(threads: &R, rt: &HostRuntime, flags: &Flags) -> Result<(), Status> {
+    let input = rt.stdin();
+    let Ok(stops) = flags.stops.clone() else {
         return Err(Status::Memory);
     };
-    if settings.until_input_ends {
-        let input = rt.stdin();
-        let Ok(other) = flag.clone() else {
-            return Err(Status::Memory);
-        };
-        if thread::spawn(threads, move || wait_for_the_end(input, other)).is_err() {
-            return Err(Status::Threads);
-        }
+    match thread::spawn(threads, move || wait_for_the_end(input, stops)) {
+        Ok(_) => Ok(()),
+        Err(_) => Err(Status::Threads),
     }
-    Ok(flag)
 }
 
-// Serves over a keeper and a door of any types. (the types of both at once are too much for one proof)
-fn serve_over<R, D, P>(
-    threads: &R,
-    rt: &HostRuntime,
-    prepared: Prepared,
-    door: D,
-    keeper: P,
-    told: Told<HostRuntime>,
-) -> Status
-where
-    R: Threads + Wait + Clock + Sync,
-    D: Door + Send + Drop,
-    D::Link: Send,
-    P: Keeper + Send + Drop,
-{
-    let Prepared {
-        settings,
-        fleet,
-        secret,
-        locked,
-    } = prepared;
-    let flag = match input_flag(threads, rt, &settings) {
-        Ok(flag) => flag,
-        Err(status) => return status,
-    };
-    let service = Service {
-        door,
-        keeper,
-        sink: StdSink::new(rt.stdout()),
-        told,
-        fleet,
-        secret,
-    };
-    let status = serve(threads, rt.alloc(), service, &settings, flag);
-    drop(locked);
-    status
+// What is made of the runtime: who is told, what reads the folder's files, and its stores.
+fn made_of(rt: &HostRuntime) -> Result<(Told<HostRuntime>, HostRuntime, SqlFiles), AllocError> {
+    let told = Told::new(rt.alloc(), rt.clone()?)?;
+    Ok((told, rt.clone()?, SqlFiles { rt: rt.clone()? }))
 }
 
-fn told_of(rt: &HostRuntime) -> Result<Told<HostRuntime>, AllocError> {
-    Told::new(rt.alloc(), rt.clone()?)
-}
-
-// Serves over a keeper in the folder's file.
-fn serve_file<R, D>(
+// Serves over a door of any type. (the types of door and store at once are too much for one proof)
+fn serve_door<R, D>(
     threads: &R,
     rt: &HostRuntime,
     folder: &str,
     prepared: Prepared,
     door: D,
+    flags: Flags,
 ) -> Status
 where
-    R: Threads + Wait + Clock + Sync,
-    D: Door + Send + Drop,
+    R: Threads + Wait + Clock + Sync + Send + Clone + Drop,
+    D: Door + Drop,
     D::Link: Send,
 {
-    let Ok(told) = told_of(rt) else {
+    let Prepared {
+        settings,
+        locked,
+        text,
+        fleet,
+        clerk,
+    } = prepared;
+    if settings.until_input_ends {
+        if let Err(status) = watch_input(threads, rt, &flags) {
+            return status;
+        }
+    }
+    let Ok((told, files, stores)) = made_of(rt) else {
         return Status::Memory;
     };
-    match keeper_of(rt, folder) {
-        Ok(keeper) => serve_over(threads, rt, prepared, door, keeper, told),
-        Err(Memory) => Status::Memory,
-    }
+    let over = OverFolder {
+        folder,
+        files,
+        stores,
+        text,
+        fleet,
+        clerk,
+        door,
+        sink: StdSink::new(rt.stdout()),
+        told,
+    };
+    let status = serve_over(threads, rt.alloc(), over, &settings, flags);
+    drop(locked);
+    status
 }
 
 fn serve_folder<R>(threads: &R, rt: &HostRuntime, folder: &str, words: &Choices) -> Status
 where
-    R: Threads + Wait + Clock + Sync,
+    R: Threads + Wait + Clock + Sync + Send + Clone + Drop,
 {
     let prepared = match prepare(rt, folder, words) {
         Ok(prepared) => prepared,
         Err(trouble) => return say(rt, &trouble),
     };
-    match door_of(rt, &prepared.settings) {
-        Ok(door) => say_status(rt, folder, serve_file(threads, rt, folder, prepared, door)),
+    let Ok(flags) = flags(rt.alloc()) else {
+        return say_text(rt, Status::Memory);
+    };
+    match door_of(rt, &prepared.settings, &flags) {
+        Ok(door) => {
+            let status = serve_door(threads, rt, folder, prepared, door, flags);
+            say_status(rt, folder, status)
+        }
         Err(trouble) => say(rt, &trouble),
     }
 }
@@ -223,18 +232,69 @@ fn check_folder(rt: &HostRuntime, folder: &str, words: &Choices) -> Status {
     }
 }
 
-fn over_words<R>(threads: &R, rt: &HostRuntime, words: &[String]) -> Status
+// How the program ends where a command beside a service ended so, and what it prints.
+fn end_of(rt: &HostRuntime, answer: Result<String, Failed>) -> u8 {
+    match answer {
+        Ok(text) => print_text(rt, text.as_str()).number(),
+        Err(failed) => {
+            let why = failed.text.as_str();
+            let why = if why.is_empty() {
+                failed.outcome.text()
+            } else {
+                why
+            };
+            let _ = eprintln!(rt; "dewfelt: {why}");
+            failed.outcome.number()
+        }
+    }
+}
+
+fn text_of(rt: &HostRuntime, said: Result<&'static str, Failed>) -> Result<String, Failed> {
+    match String::from_str(rt.alloc(), said?) {
+        Ok(text) => Ok(text),
+        Err(_) => Err(Failed::memory(rt.alloc())),
+    }
+}
+
+// What a command beside a service prints.
+fn beside(rt: &HostRuntime, stores: &SqlFiles, command: Command) -> Result<String, Failed> {
+    let mut err = StdSink::new(rt.stderr());
+    match command {
+        Command::Registrations(folder) => registrations(rt, stores, folder, &mut err),
+        Command::Forget(folder, phone) => {
+            text_of(
+                rt,
+                forget(rt, stores, folder, &phone, &mut err).map(|()| ""),
+            )
+        }
+        Command::Copy(folder, file) => copy(rt, stores, folder, file, &mut err),
+        Command::Stop(folder) => text_of(rt, stop(rt, folder, &mut err)),
+        _ => text_of(rt, Ok("")),
+    }
+}
+
+fn run_beside(rt: &HostRuntime, command: Command) -> u8 {
+    match rt.clone() {
+        Ok(own) => end_of(rt, beside(rt, &SqlFiles { rt: own }, command)),
+        Err(_) => say_text(rt, Status::Memory).number(),
+    }
+}
+
+fn over_words<R>(threads: &R, rt: &HostRuntime, words: &[String]) -> u8
 where
-    R: Threads + Wait + Clock + Sync,
+    R: Threads + Wait + Clock + Sync + Send + Clone + Drop,
 {
     match read_command(rt.alloc(), words) {
-        Ok(Command::Serve(folder, choices)) => serve_folder(threads, rt, folder, &choices),
-        Ok(Command::Check(folder, choices)) => check_folder(rt, folder, &choices),
-        Ok(Command::Help) => print_text(rt, HELP),
-        Ok(Command::Version) => print_text(rt, VERSION),
+        Ok(Command::Serve(folder, choices)) => {
+            serve_folder(threads, rt, folder, &choices).number()
+        }
+        Ok(Command::Check(folder, choices)) => check_folder(rt, folder, &choices).number(),
+        Ok(Command::Help) => print_text(rt, HELP).number(),
+        Ok(Command::Version) => print_text(rt, VERSION).number(),
+        Ok(command) => run_beside(rt, command),
         Err(wrong) => {
             let _ = eprintln!(rt; "dewfelt: {wrong}");
-            Status::Usage
+            Status::Usage.number()
         }
     }
 }
@@ -250,7 +310,7 @@ fn status_of_words(error: &io::Error) -> Status {
 fn main(rt: HostRuntime) -> ExitCode {
     let status = match words(&rt) {
         Ok(words) => over_words(&rt, &rt, words.as_slice()),
-        Err(error) => say_text(&rt, status_of_words(&error)),
+        Err(error) => say_text(&rt, status_of_words(&error)).number(),
     };
-    ExitCode::from(status.number())
+    ExitCode::from(status)
 }

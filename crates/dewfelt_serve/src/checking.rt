@@ -1,8 +1,8 @@
 //! The command `check`.
 
 use crate::folder::{Trouble, read_fleet_of, read_settings_of};
+use dewfelt_fleet::Fleet;
 use dewfelt_settings::{Choices, Settings};
-use jt_platform::Fleet;
 use std::alloc::{AllocError, Global};
 use std::rt::Files;
 
@@ -12,12 +12,11 @@ fn text_of(
     settings: &Settings,
     fleet: &Fleet,
 ) -> Result<String, AllocError> {
-    let plates = fleet.plates.len();
-    let terminals = fleet.terminals.len();
+    let (vehicles, plates, terminals) = fleet.counts();
     let listen = settings.listen;
     let links = settings.links.number;
     format!(in alloc;
-        "{folder}: plates={plates} terminals={terminals} links={links} listen={listen}\n"
+        "{folder}: vehicles={vehicles} plates={plates} terminals={terminals} links={links} listen={listen}\n"
     )
 }
 
@@ -28,7 +27,7 @@ pub fn check<R: Files + AllocGlobal>(
     words: &Choices,
 ) -> Result<String, Trouble> {
     let file = read_settings_of(rt, folder)?;
-    let (_secret, fleet) = read_fleet_of(rt, folder)?;
+    let (_text, fleet) = read_fleet_of(rt, folder)?;
     let settings = Settings::of(words, &file);
     match text_of(rt.alloc(), folder, &settings, &fleet) {
         Ok(text) => Ok(text),

@@ -1,13 +1,11 @@
 //! The files of a folder.
 
 use crate::Status;
+use dewfelt_commands::{Clerk, Failed, Locked, try_lock};
+use dewfelt_fleet::{BadLine, Fleet, NoFleet, read_fleet};
 use dewfelt_settings::{Choices, Settings, Wrong, read_file};
-use jt_outside::StdSource;
-use jt_platform::Fleet;
-use jt_platform_command::{FleetRead, read_fleet};
-use jt_value::Octets;
 use std::alloc::{AllocError, Global};
-use std::fs::{File, OpenOptions, TryLockError};
+use std::fs::File;
 use std::io::ErrorKind;
 use std::rt::Files;
 use std::{fs, io};
@@ -45,10 +43,8 @@ impl Trouble {
         }
     }
 
-    fn of_line(alloc: Global, path: &str, line: u64) -> Trouble {
-        match format!(in alloc;
-            "{path}: line {line} is bad: expected secret, plate or terminal and digits"
-        ) {
+    fn of_line(alloc: Global, path: &str, bad: &BadLine) -> Trouble {
+        match format!(in alloc; "{path}: {bad}") {
             Ok(text) => Trouble {
                 status: Status::Fleet,
                 text,
@@ -102,69 +98,56 @@ pub fn read_settings_of<R: Files + AllocGlobal>(rt: &R, folder: &str) -> Result<
     }
 }
 
-// The fleet that an open file names.
-fn read_fleet_in<F: io::Read + Drop>(
-    alloc: Global,
-    path: &str,
-    file: F,
-) -> Result<(Octets, Fleet), Trouble> {
-    let mut source = StdSource::new(file);
-    match read_fleet(alloc, &mut source) {
-        FleetRead::Fleet(secret, fleet) => Ok((secret, fleet)),
-        FleetRead::Bad(line) => Err(Trouble::of_line(alloc, path, line)),
-        FleetRead::Failed => Err(Trouble::of_file(alloc, Status::Fleet, path, "it can't be read")),
-        FleetRead::Memory => Err(Trouble::memory(alloc)),
-    }
-}
-
-/// The secret, the plates and the terminals of the file of the fleet.
+/// The text of the file of the fleet, and the fleet that it names.
 pub fn read_fleet_of<R: Files + AllocGlobal>(
     rt: &R,
     folder: &str,
-) -> Result<(Octets, Fleet), Trouble> {
+) -> Result<(Vec<u8>, Fleet), Trouble> {
     let alloc = rt.alloc();
     let Ok(path) = path_in(alloc, folder, "fleet") else {
         return Err(Trouble::memory(alloc));
     };
-    match File::open(rt, path.as_str()) {
-        Ok(file) => read_fleet_in(alloc, path.as_str(), file),
-        Err(error) => Err(Trouble::of_error(alloc, Status::Fleet, path.as_str(), &error)),
-    }
-}
-
-/// A folder over which no other service runs while this is there.
-#[derive(Drop)]
-pub struct Locked {
-    file: File,
-}
-
-fn take_lock(alloc: Global, path: &str, file: File) -> Result<Locked, Trouble> {
-    match file.try_lock() {
-        Ok(()) => Ok(Locked { file }),
-        Err(TryLockError::WouldBlock) => Err(Trouble::of_file(
-            alloc,
-            Status::Busy,
-            path,
-            "another dewfelt serves this folder",
-        )),
-        Err(TryLockError::Error(error)) => {
-            Err(Trouble::of_error(alloc, Status::Folder, path, &error))
+    let text = match fs::read(rt, path.as_str()) {
+        Ok(text) => text,
+        Err(error) => {
+            return Err(Trouble::of_error(alloc, Status::Fleet, path.as_str(), &error));
         }
+    };
+    match read_fleet(alloc, text.as_slice()) {
+        Ok(fleet) => Ok((text, fleet)),
+        Err(NoFleet::Bad(bad)) => Err(Trouble::of_line(alloc, path.as_str(), &bad)),
+        Err(NoFleet::Memory) => Err(Trouble::memory(alloc)),
     }
 }
 
 /// Locks the folder, by a file in it that stays.
 pub fn lock<R: Files<File = File> + AllocGlobal>(rt: &R, folder: &str) -> Result<Locked, Trouble> {
     let alloc = rt.alloc();
-    let Ok(path) = path_in(alloc, folder, "lock") else {
-        return Err(Trouble::memory(alloc));
-    };
-    let opened = OpenOptions::new()
-        .write(true)
-        .create(true)
-        .open(rt, path.as_str());
-    match opened {
-        Ok(file) => take_lock(alloc, path.as_str(), file),
-        Err(error) => Err(Trouble::of_error(alloc, Status::Folder, path.as_str(), &error)),
+    match try_lock(rt, folder) {
+        Ok(Some(locked)) => Ok(locked),
+        Ok(None) => Err(Trouble::of_file(
+            alloc,
+            Status::Busy,
+            folder,
+            "another dewfelt runs over this folder",
+        )),
+        Err(failed) => {
+            let Failed { outcome: _, text } = failed;
+            Err(Trouble {
+                status: Status::Folder,
+                text,
+            })
+        }
+    }
+}
+
+/// The folder's clerk, who has a folder for requests there, in which nothing lies.
+pub fn clerk_of<R: Files + AllocGlobal + Clone + Drop>(
+    rt: &R,
+    folder: &str,
+) -> Result<Clerk, Trouble> {
+    match Clerk::start(rt, folder) {
+        Ok(clerk) => Ok(clerk),
+        Err(error) => Err(Trouble::of_error(rt.alloc(), Status::Folder, folder, &error)),
     }
 }

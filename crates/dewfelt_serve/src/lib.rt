@@ -2,16 +2,33 @@
 #![tactic(auto)]
 
 mod checking;
+mod chores;
+mod desk;
+mod fleet_file;
 mod folder;
+mod ground;
+mod living;
 mod naming;
+mod opening;
+mod over_folder;
+mod present;
+mod running;
+mod saying;
 mod seen;
 mod serving;
 mod status;
+mod tending;
 mod told;
 mod writing;
 
 pub use checking::check;
-pub use folder::{Locked, Trouble, lock, path_in, read_fleet_of, read_settings_of};
-pub use serving::{Service, serve};
+pub use chores::Chores;
+pub use folder::{Trouble, clerk_of, lock, path_in, read_fleet_of, read_settings_of};
+pub use ground::{Ground, HasGround};
+pub use living::Living;
+pub use over_folder::{OverFolder, serve_over};
+pub use present::Present;
+pub use serving::{Flags, Service, serve};
 pub use status::Status;
+pub use tending::Tending;
 pub use told::Told;

@@ -30,6 +30,8 @@ fn cut_word(cut: Cut) -> &'static str {
         Cut::StrangerOctets => "stranger-octets",
         Cut::Replaced => "replaced",
         Cut::Dismissed => "dismissed",
+        Cut::Renewed => "renewed",
+        Cut::StoreFailed => "store-failed",
     }
 }
 
@@ -58,6 +60,8 @@ pub(crate) fn denied_word(number: u8) -> &'static str {
 pub(crate) fn service_word(end: ServiceEnd) -> &'static str {
     match end {
         ServiceEnd::Stopped => "stopped",
+        ServiceEnd::Renewed => "renewed",
+        ServiceEnd::StoreFailed => "store-failed",
         ServiceEnd::Over => "over",
         ServiceEnd::NumbersSpent => "numbers-spent",
         ServiceEnd::ListenerFailed => "listener-failed",

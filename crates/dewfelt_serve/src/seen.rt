@@ -2,12 +2,12 @@
 
 use std::alloc::{AllocError, Global};
 
-/// How many sessions have a number (this project's own): at one a second they last half a year.
-pub(crate) const SESSIONS: u32 = 1 << 24;
+// The greatest number that a session has, and one more (this project's own, as jt_service's `Limits::of` has it).
+const SESSIONS: u32 = 1 << 24;
 
 const BITS: u32 = 64;
 
-/// On which sessions somebody was let in so far: a bit for each number, in 2 MB that are taken at the start.
+/// On which sessions of a hub somebody was let in so far: a bit for each number, in 2 MB that are taken at the start.
 #[derive(Drop)]
 pub(crate) struct Seen {
     words: Vec<u64>,
@@ -16,10 +16,17 @@ pub(crate) struct Seen {
 impl Seen {
     /// On none so far.
     pub(crate) fn new(alloc: Global) -> Result<Seen, AllocError> {
-        let count = (SESSIONS / BITS) as usize + 1;
+        let count = (SESSIONS / BITS) as usize;
         Ok(Seen {
             words: vec![in alloc; 0; count]?,
         })
+    }
+
+    /// On none of a new hub so far.
+    pub(crate) fn clear(&mut self) {
+        for word in &mut self.words {
+            *word = 0;
+        }
     }
 
     /// Marks a session. Tells whether it was marked before, as one with a greater number than any session has always is.

@@ -1,18 +1,17 @@
-//! The command `serve`, over a keeper, a door and a sink.
+//! The command `serve`, over a door, what hubs are made of, and a sink.
 
-ghost use Rattle.std.specs.Prelude.{◌≡◌, []};
 ghost use Rattle.std.specs.Thread.{IsSync};
 
-use crate::seen::SESSIONS;
+use crate::chores::{Chores, do_chores};
+use crate::ground::HasGround;
+use crate::running::Run;
+use crate::saying::say_start;
 use crate::writing::write_lines;
 use crate::{Status, Told};
 use dewfelt_log::empty_room;
 use dewfelt_settings::Settings;
 use jt_outside::Sink;
-use jt_platform::{Fleet, Hub, Journal};
-use jt_service::{Door, Limits, ServiceEnd, Watch, Witnessed, serve_on};
-use jt_store::{Keeper, StoreError};
-use jt_value::{Edition, Octets, Phone};
+use jt_service::{Door, ServiceEnd, Watch};
 use std::alloc::Global;
 use std::sync::atomic::{AtomicBool, Ordering};
 use std::sync::{Arc, Wait};
@@ -22,103 +21,52 @@ use std::time::Clock;
 
 /// All that a service is made of.
 #[derive(Drop)]
-pub struct Service<D, P, K, T> {
+pub struct Service<D, G, C, K, T> {
     /// Where links come in.
     pub door: D,
-    /// Where rows and registrations are kept.
-    pub keeper: P,
+    /// What hubs are made of.
+    pub ground: G,
+    /// What is done each second.
+    pub chores: C,
     /// Where lines go.
     pub sink: K,
     /// Who is told.
     pub told: Told<T>,
-    /// The plates and terminals that may register.
-    pub fleet: Fleet,
-    /// What codes are made of.
-    pub secret: Octets,
 }
 
-fn limits_of(settings: &Settings) -> Limits {
-    let mut limits = Limits::of(settings.links.number);
-    limits.sessions = SESSIONS;
-    limits.quiet = settings.quiet.number as u64;
-    limits.strangers = settings.strangers.number;
-    limits.strangers_of_address = match settings.strangers_of_address {
-        Some(count) => Some(count.number),
-        None => None,
-    };
-    limits
+/// The flags of a service, which others have too.
+#[derive(Drop)]
+pub struct Flags {
+    /// Once it is set the service ends.
+    pub stops: Arc<AtomicBool>,
+    /// It is set while all links are to end.
+    pub ends: Arc<AtomicBool>,
 }
 
 fn status_of(end: ServiceEnd) -> Status {
     match end {
-        ServiceEnd::Stopped | ServiceEnd::Over => Status::Done,
-        ServiceEnd::NumbersSpent => Status::Numbers,
         ServiceEnd::ListenerFailed => Status::Listen,
         ServiceEnd::NoThread => Status::Threads,
         ServiceEnd::Memory => Status::Memory,
+        _ => Status::Done,
     }
 }
 
-// A phone that no terminal has.
-const NOBODY: Phone = Phone {
-    edition: Edition::E2019,
-    digits: [0; 10],
-};
-
-// Opens the keeper's file, by a question.
-fn open<P: Keeper>(alloc: Global, keeper: &mut P) -> Result<(), Status> {
-    match keeper.registered(alloc, &NOBODY) {
-        Ok(_) => Ok(()),
-        Err(StoreError::Memory) => Err(Status::Memory),
-        Err(_) => Err(Status::Store),
-    }
+// What a service is made of, but for its lines.
+#[derive(Drop)]
+struct Parts<D, G, C> {
+    door: D,
+    ground: G,
+    chores: C,
 }
 
-fn milliseconds<R: Clock>(rt: &R) -> u64 {
-    match rt.monotonic() {
-        Ok(since) => u64::try_from(since.as_millis()).unwrap_or(u64::MAX),
-        Err(_) => 0,
-    }
-}
-
-fn say_start<T: Clock + Drop>(told: &mut Told<T>, settings: &Settings) {
-    let mut line = told.line("start");
-    line.text("version", "0.1.0");
-    line.address("listen", settings.listen);
-    line.number("links", settings.links.number as u64);
-    line.number("quiet", settings.quiet.number as u64);
-    line.number("strangers", settings.strangers.number as u64);
-    match settings.strangers_of_address {
-        Some(count) => line.number("strangers_of_address", count.number as u64),
-        None => line.text("strangers_of_address", "none"),
-    }
-    line.text("http", "none");
-    told.put(line);
-}
-
-fn say_opened<T: Clock + Drop>(told: &mut Told<T>, fleet: &Fleet, milliseconds: u64) {
-    let mut line = told.line("opened");
-    line.number("plates", fleet.plates.len() as u64);
-    line.number("terminals", fleet.terminals.len() as u64);
-    line.number("milliseconds", milliseconds);
-    told.put(line);
-}
-
-fn say_listening<T: Clock + Drop>(told: &mut Told<T>, settings: &Settings) {
-    let mut line = told.line("listening");
-    line.address("at", settings.listen);
-    told.put(line);
-}
-
-// The service ended so: the lines of that are the last ones.
-fn finish<R: Wait, T: Clock + Drop>(
-    rt: &R,
-    watch: &Watch<Told<T>>,
-    end: ServiceEnd,
-    is_done: &AtomicBool,
-) {
-    watch.told().lock(rt).end_with(end);
-    is_done.store(true, Ordering::SeqCst);
+// What the threads of a service look at to end.
+#[derive(Drop)]
+struct Ends {
+    // No link is served any more.
+    is_over: AtomicBool,
+    // All is done, and no line comes any more but the last ones.
+    is_done: AtomicBool,
 }
 
 // Starts the thread that writes lines. Tells whether it could be made.
@@ -140,134 +88,147 @@ where
         .is_ok()
 }
 
-// Serves, and lets go of the hub, whose file is then closed.
-fn serve_hub<R, D, P, J, T>(
-    rt: &R,
-    alloc: Global,
-    door: D,
-    hub: Hub<P, J>,
-    limits: Limits,
-    watch: &Watch<Told<T>>,
-) -> ServiceEnd
+// Starts the thread that does the chores. Tells whether it could be made.
+fn start_chores<'t, E, R, T, C>(
+    scope: &'t Scope<'t, E>,
+    rt: &'t R,
+    watch: &'t Watch<Told<T>>,
+    chores: C,
+    is_over: &'t AtomicBool,
+) -> bool
 where
-    R: Threads + Wait + Clock + Sync,
-    D: Door + Send + Drop,
-    D::Link: Send,
-    P: Keeper + Send + Drop,
-    J: Journal + Send,
-    T: Clock + Send + Drop,
-    requires history { hub.history ≡ [] }
+    R: Threads + Wait + Clock + Sync + 't,
+    T: Clock + Send + Drop + 't,
+    C: Chores<T> + Send + Drop + 't,
 {
-    let (end, hub) = serve_on(rt, alloc, door, hub, limits, watch);
-    drop(hub);
-    end
+    scope
+        .spawn(move || do_chores(rt, watch, chores, is_over))
+        .is_ok()
 }
 
-// Serves while a thread writes lines.
-fn serve_and_write<R, D, P, J, T, K>(
-    rt: &R,
-    alloc: Global,
-    door: D,
-    hub: Hub<P, J>,
-    limits: Limits,
-    watch: &Watch<Told<T>>,
-    sink: K,
-    room: Vec<u8>,
-    is_done: &AtomicBool,
+// Serves while a thread does the chores.
+fn serve_and_do<R, D, G, C, T>(
+    run: Run<R, T>,
+    mut door: D,
+    ground: G,
+    chores: C,
+    is_over: &AtomicBool,
 ) -> ServiceEnd
 where
     R: Threads + Wait + Clock + Sync,
-    D: Door + Send + Drop,
+    D: Door + Drop,
     D::Link: Send,
-    P: Keeper + Send + Drop,
-    J: Journal + Send,
+    G: HasGround + Drop,
+    G::Keeper: Send,
+    C: Chores<T> + Send + Drop,
     T: Clock + Send + Drop,
-    K: Sink + Send + Drop,
-    requires history { hub.history ≡ [] }
 {
+    let rt = run.rt;
+    let watch = run.watch;
     thread::scope(
         thread::scope_env(),
         rt,
         move |scope| -> ServiceEnd
             requires sync { IsSync R.row }
-            requires history { hub.history ≡ [] }
         {
-            if !start_writer(scope, rt, watch, sink, room, is_done) {
+            if !start_chores(scope, rt, watch, chores, is_over) {
                 return ServiceEnd::NoThread;
             }
-            let end = serve_hub(rt, alloc, door, hub, limits, watch);
-            finish(rt, watch, end, is_done);
+            let end = run.serve(&mut door, ground);
+            is_over.store(true, Ordering::SeqCst);
             end
         },
     )
 }
 
-// Serves under a watch.
-fn serve_watched<R, D, P, K, T>(
+// Serves while a thread writes lines.
+fn serve_and_write<R, D, G, C, T, K>(
+    run: Run<R, T>,
+    service: Parts<D, G, C>,
+    sink: K,
+    room: Vec<u8>,
+    ends: &Ends,
+) -> ServiceEnd
+where
+    R: Threads + Wait + Clock + Sync,
+    D: Door + Drop,
+    D::Link: Send,
+    G: HasGround + Drop,
+    G::Keeper: Send,
+    C: Chores<T> + Send + Drop,
+    T: Clock + Send + Drop,
+    K: Sink + Send + Drop,
+{
+    let rt = run.rt;
+    let watch = run.watch;
+    thread::scope(
+        thread::scope_env(),
+        rt,
+        move |scope| -> ServiceEnd
+            requires sync { IsSync R.row }
+        {
+            if !start_writer(scope, rt, watch, sink, room, &ends.is_done) {
+                return ServiceEnd::NoThread;
+            }
+            let Parts {
+                door,
+                ground,
+                chores,
+            } = service;
+            let end = serve_and_do(run, door, ground, chores, &ends.is_over);
+            watch.told().lock(rt).end_with(end);
+            ends.is_done.store(true, Ordering::SeqCst);
+            end
+        },
+    )
+}
+
+/// Serves the links that come in at the door, does the chores, and writes lines to the sink, until the first flag is set, or no more
+/// links can be served. A store that does not open, or fails, is tried again. Answers how it ended, once the sink has taken the last
+/// lines.
+pub fn serve<R, D, G, C, K, T>(
     rt: &R,
     alloc: Global,
-    door: D,
-    keeper: P,
-    fleet: Fleet,
-    secret: Octets,
-    limits: Limits,
-    watch: &Watch<Told<T>>,
-    sink: K,
+    service: Service<D, G, C, K, T>,
+    settings: &Settings,
+    flags: Flags,
 ) -> Status
 where
     R: Threads + Wait + Clock + Sync,
-    D: Door + Send + Drop,
+    D: Door + Drop,
     D::Link: Send,
-    P: Keeper + Send + Drop,
+    G: HasGround + Drop,
+    G::Keeper: Send,
+    C: Chores<T> + Send + Drop,
     K: Sink + Send + Drop,
     T: Clock + Send + Drop,
 {
     let Ok(room) = empty_room(alloc) else {
         return Status::Memory;
     };
-    let is_done = AtomicBool::new(false);
-    let journal = Witnessed::of(rt, watch);
-    match Hub::begin_with(alloc, keeper, fleet, secret, journal) {
-        Ok(hub) => status_of(serve_and_write(
-            rt, alloc, door, hub, limits, watch, sink, room, &is_done,
-        )),
-        Err(_) => Status::Memory,
-    }
-}
-
-/// Opens the keeper, serves the links that come in at the door, and writes lines to the sink, until the flag is set, or no more
-/// links can be served. Answers how it ended, once the sink has taken the last lines.
-pub fn serve<R, D, P, K, T>(
-    rt: &R,
-    alloc: Global,
-    service: Service<D, P, K, T>,
-    settings: &Settings,
-    stops: Arc<AtomicBool>,
-) -> Status
-where
-    R: Threads + Wait + Clock + Sync,
-    D: Door + Send + Drop,
-    D::Link: Send,
-    P: Keeper + Send + Drop,
-    K: Sink + Send + Drop,
-    T: Clock + Send + Drop,
-{
     let Service {
         door,
-        mut keeper,
+        ground,
+        chores,
         sink,
         mut told,
-        fleet,
-        secret,
     } = service;
     say_start(&mut told, settings);
-    let begun = milliseconds(rt);
-    if let Err(status) = open(alloc, &mut keeper) {
-        return status;
-    }
-    say_opened(&mut told, &fleet, milliseconds(rt).saturating_sub(begun));
-    say_listening(&mut told, settings);
-    let limits = limits_of(settings);
-    let watch = Watch::new(alloc, told, stops);
-    serve_watched(rt, alloc, door, keeper, fleet, secret, limits, &watch, sink)
+    let ends = Ends {
+        is_over: AtomicBool::new(false),
+        is_done: AtomicBool::new(false),
+    };
+    let watch = Watch::new(alloc, told, flags.stops, flags.ends);
+    let run = Run {
+        rt,
+        alloc,
+        watch: &watch,
+        settings,
+    };
+    let parts = Parts {
+        door,
+        ground,
+        chores,
+    };
+    status_of(serve_and_write(run, parts, sink, room, &ends))
 }

@@ -15,8 +15,6 @@ pub enum Status {
     Fleet,
     /// Standard output could not be written.
     Output,
-    /// DIR/platform.db can't be opened.
-    Store,
     /// The address can't be listened at, or the listener failed for good.
     Listen,
     /// Another service runs over DIR.
@@ -27,8 +25,6 @@ pub enum Status {
     Folder,
     /// No thread can be made.
     Threads,
-    /// No number for a session is left: the service is to be started anew.
-    Numbers,
 }
 
 impl Status {
@@ -44,13 +40,11 @@ impl Status {
             Status::Usage => 2,
             Status::Fleet => 3,
             Status::Output => 4,
-            Status::Store => 5,
             Status::Listen => 6,
             Status::Busy => 7,
             Status::Memory => 8,
             Status::Folder => 9,
             Status::Threads => 10,
-            Status::Numbers => 11,
         }
     }
 
@@ -63,12 +57,10 @@ impl Status {
             Status::Fleet => "fleet can't be read",
             Status::Folder => "no folder",
             Status::Output => "standard output can't be written",
-            Status::Store => "platform.db can't be opened",
             Status::Listen => "the listener failed 60 times in a row",
             Status::Busy => "another dewfelt serves this folder",
             Status::Memory => "no memory",
             Status::Threads => "no thread can be made",
-            Status::Numbers => "no number for a session is left: start it anew",
         }
     }
 }

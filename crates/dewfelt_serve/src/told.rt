@@ -2,6 +2,7 @@
 
 use crate::naming::{away_word, denied_word, digits_before, end_word, phone_digits, service_word};
 use crate::seen::Seen;
+use dewfelt_commands::phone_text;
 use dewfelt_log::{Line, Outbox, Rate};
 use jt_platform::{Entry, Reply, Request};
 use jt_register::Register;
@@ -9,6 +10,7 @@ use jt_service::{Away, Counts, Ended, ServiceEnd, Tell};
 use jt_session::Report;
 use jt_value::Phone;
 use std::alloc::{AllocError, Global};
+use std::io;
 use std::net::SocketAddr;
 use std::time::Clock;
 
@@ -47,6 +49,9 @@ pub struct Told<R> {
     outbox: Outbox,
     strangers: Rate,
     tally: Tally,
+    // Sessions of the hubs before, whose numbers come before those of the present one; and the greatest number of that so far.
+    before: u64,
+    last: u32,
     seen: Seen,
     end: Option<ServiceEnd>,
 }
@@ -70,8 +75,9 @@ fn put_report(line: &mut Line, report: &Report) {
     line.number("written", report.written);
 }
 
-fn put_session(line: &mut Line, ended: &Ended) {
-    line.number("session", ended.report.session as u64);
+// A session's end, under the number that lines have for it.
+fn put_session(line: &mut Line, number: u64, ended: &Ended) {
+    line.number("session", number);
     put_peer(line, ended.peer);
     if let Some(phone) = &ended.phone {
         put_phone(line, phone);
@@ -81,8 +87,8 @@ fn put_session(line: &mut Line, ended: &Ended) {
     line.number("seconds", ended.milliseconds / 1_000);
 }
 
-fn put_register(line: &mut Line, session: u32, phone: &Phone, register: &Register, reply: &Reply) {
-    line.number("session", session as u64);
+fn put_register(line: &mut Line, number: u64, phone: &Phone, register: &Register, reply: &Reply) {
+    line.number("session", number);
     put_phone(line, phone);
     line.foreign("plate", register.plate.as_slice());
     line.foreign("terminal", trimmed(register.terminal.as_slice()));
@@ -114,9 +120,15 @@ impl<R: Clock + Drop> Told<R> {
             outbox: Outbox::new(alloc)?,
             strangers: Rate::new(),
             tally: NOTHING,
+            before: 0,
+            last: 0,
             seen: Seen::new(alloc)?,
             end: None,
         })
+    }
+
+    pub(crate) fn alloc(&self) -> Global {
+        self.alloc
     }
 
     // Seconds since 1970; 0 where the clock can't be read.
@@ -142,6 +154,20 @@ impl<R: Clock + Drop> Told<R> {
         let mut line = self.line(event);
         line.text(key, value);
         self.put(line);
+    }
+
+    /// Puts a line of a phone that is registered no more, since a command asked for that.
+    pub(crate) fn say_forgot(&mut self, phone: &Phone) {
+        if let Ok(digits) = phone_text(self.alloc, phone) {
+            self.say("forgot", "phone", digits.as_str());
+        }
+    }
+
+    /// Puts a line of a fault, with what the system says of it.
+    pub(crate) fn say_error(&mut self, what: &str, error: &io::Error) {
+        if let Ok(text) = format!(in self.alloc; "{error}") {
+            self.say("fault", what, text.as_str());
+        }
     }
 
     /// Takes the lines that wait, for an empty room.
@@ -199,16 +225,30 @@ impl<R: Clock + Drop> Told<R> {
         None
     }
 
+    // The number that lines have for a session: hub after hub they go on.
+    fn number_of(&self, session: u32) -> u64 {
+        self.before.saturating_add(session as u64)
+    }
+
+    /// A hub is gone, and the next one begins: its sessions have numbers behind those that were.
+    pub(crate) fn begin_anew(&mut self) {
+        self.before = self.number_of(self.last);
+        self.last = 0;
+        self.seen.clear();
+    }
+
     fn note_register(&mut self, session: u32, phone: &Phone, register: &Register, reply: &Reply) {
+        let number = self.number_of(session);
         if let Some(mut line) = self.stranger_line("register") {
-            put_register(&mut line, session, phone, register, reply);
+            put_register(&mut line, number, phone, register, reply);
             self.put(line);
         }
     }
 
     fn note_phone(&mut self, event: &str, session: u32, phone: &Phone) {
+        let number = self.number_of(session);
         if let Some(mut line) = self.stranger_line(event) {
-            line.number("session", session as u64);
+            line.number("session", number);
             put_phone(&mut line, phone);
             self.put(line);
         }
@@ -234,7 +274,8 @@ fn put_units(line: &mut Line, tally: &Tally) {
 }
 
 impl<R: Clock + Drop> Tell for Told<R> {
-    fn began(&mut self, _session: u32, _peer: Option<SocketAddr>) {
+    fn began(&mut self, session: u32, _peer: Option<SocketAddr>) {
+        self.last = self.last.max(session);
         self.tally.began = self.tally.began.saturating_add(1);
     }
 
@@ -265,7 +306,7 @@ impl<R: Clock + Drop> Tell for Told<R> {
             return;
         }
         let mut line = self.line("let_in");
-        line.number("session", session as u64);
+        line.number("session", self.number_of(session));
         put_phone(&mut line, phone);
         self.put(line);
     }
@@ -279,7 +320,7 @@ impl<R: Clock + Drop> Tell for Told<R> {
             self.stranger_line("session")
         };
         if let Some(mut line) = line {
-            put_session(&mut line, ended);
+            put_session(&mut line, self.number_of(ended.report.session), ended);
             self.put(line);
         }
     }

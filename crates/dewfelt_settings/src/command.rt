@@ -6,7 +6,8 @@ ghost use Rattle.dewfelt_settings.specs.Choosing.{has_choice};
 ghost use Rattle.dewfelt_settings.specs.Keys.{named_with};
 ghost use Rattle.dewfelt_settings.specs.declared.wrong.Cause.TheVariants as causes;
 
-use crate::{Cause, Choices, Key, Wrong};
+use crate::{Cause, Choices, Form, Key, Wrong, phone_of};
+use jt_value::Phone;
 use std::alloc::Global;
 
 /// What the program is to do.
@@ -16,6 +17,14 @@ pub enum Command<'w> {
     Serve(&'w str, Choices),
     /// Say what is wrong with the files of a folder.
     Check(&'w str, Choices),
+    /// Say what is registered over a folder.
+    Registrations(&'w str),
+    /// Remove the registration of a phone over a folder.
+    Forget(&'w str, Phone),
+    /// Copy the rows and registrations of a folder into a file.
+    Copy(&'w str, &'w str),
+    /// Stop the service over a folder.
+    Stop(&'w str),
     /// Say how the program is called.
     Help,
     /// Say the program's version.
@@ -213,6 +222,58 @@ fn told_by<'w>(
     }
 }
 
+// The first word that is an option.
+fn first_option<'w>(words: &'w [String]) -> Option<&'w str> {
+    words
+        .iter()
+        .map(String::as_str)
+        .find(|word| word.starts_with("-"))
+}
+
+// The words behind a command of this form, of which the second is empty where the form has one. None where they ask for help.
+fn words_of<'w>(
+    alloc: Global,
+    form: Form,
+    words: &'w [String],
+) -> Result<Option<(&'w str, &'w str)>, Wrong>
+    ensures { IfErr result (λ wrong. is_of_words wrong.cause ≡ true) }
+{
+    if words.iter().any(|word| is_help(word.as_str())) {
+        return Ok(None);
+    }
+    if let Some(word) = first_option(words) {
+        return Err(Wrong::new(alloc, Cause::NotOption(form), word));
+    }
+    if let Some(word) = words.get(form.words()) {
+        return Err(Wrong::new(alloc, Cause::WordMore(form), word.as_str()));
+    }
+    if words.len() < form.words() || words.iter().any(|word| word.is_empty()) {
+        return Err(Wrong::new(alloc, Cause::WordLess(form), ""));
+    }
+    let folder = words.first().map_or("", String::as_str);
+    let second = words.get(1).map_or("", String::as_str);
+    Ok(Some((folder, second)))
+}
+
+// A command beside a service, by the words behind it.
+fn read_form<'w>(alloc: Global, form: Form, words: &'w [String]) -> Result<Command<'w>, Wrong>
+    ensures { IfErr result (λ wrong. is_of_words wrong.cause ≡ true) }
+{
+    let Some((folder, second)) = words_of(alloc, form, words)? else {
+        return Ok(Command::Help);
+    };
+    match form {
+        Form::Registrations => Ok(Command::Registrations(folder)),
+        Form::Forget => match phone_of(alloc, second.as_bytes()) {
+            Ok(Some(phone)) => Ok(Command::Forget(folder, phone)),
+            Ok(None) => Err(Wrong::new(alloc, Cause::Phone, second)),
+            Err(_) => Err(Wrong::new(alloc, Cause::Memory, "")),
+        },
+        Form::Copy => Ok(Command::Copy(folder, second)),
+        Form::Stop => Ok(Command::Stop(folder)),
+    }
+}
+
 /// Reads the words behind the program's name.
 pub fn read_command<'w>(alloc: Global, words: &'w [String]) -> Result<Command<'w>, Wrong>
     ensures none { words.now ≡ [] → IsErr result }
@@ -230,6 +291,10 @@ pub fn read_command<'w>(alloc: Global, words: &'w [String]) -> Result<Command<'w
             Some((folder, choices)) => Ok(Command::Check(folder, choices)),
             None => Ok(Command::Help),
         },
+        "registrations" => read_form(alloc, Form::Registrations, others),
+        "forget" => read_form(alloc, Form::Forget, others),
+        "copy" => read_form(alloc, Form::Copy, others),
+        "stop" => read_form(alloc, Form::Stop, others),
         "--help" | "-h" | "help" => Ok(Command::Help),
         "--version" | "-V" => Ok(Command::Version),
         other => Err(Wrong::new(alloc, Cause::Command, other)),

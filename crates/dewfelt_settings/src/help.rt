@@ -8,6 +8,10 @@ pub const HELP: &str = "dewfelt: a platform for JT/T 808 terminals
 
   dewfelt serve DIR [OPTIONS]   serve the fleet of the file DIR/fleet; rows go into DIR/platform.db
   dewfelt check DIR [OPTIONS]   say what is wrong with DIR/fleet and DIR/dewfelt.toml, and start nothing
+  dewfelt registrations DIR     print the phones that are registered, each with its plate and its terminal id
+  dewfelt forget DIR PHONE      remove the registration of a phone, of 1 to 20 digits; a service ends its link
+  dewfelt copy DIR FILE         copy rows and registrations into a new file, also while a service runs
+  dewfelt stop DIR              stop the service over DIR, and wait until it is gone
   dewfelt --help                this text
   dewfelt --version             the version
 

@@ -4,17 +4,21 @@
 mod choices;
 mod command;
 mod file;
+mod form;
 mod help;
 mod key;
 mod number;
+mod phone;
 mod settings;
 mod wrong;
 
 pub use choices::Choices;
 pub use command::{Command, read_command};
 pub use file::read_file;
+pub use form::Form;
 pub use help::{HELP, VERSION};
 pub use key::Key;
 pub use number::{Count, Seconds};
+pub use phone::phone_of;
 pub use settings::Settings;
 pub use wrong::{Cause, Wrong};

@@ -2,7 +2,7 @@
 
 ghost use Rattle.std.specs.Prelude.{◌≡◌};
 
-use crate::Key;
+use crate::{Form, Key};
 use std::alloc::Global;
 use std::fmt;
 
@@ -27,6 +27,14 @@ pub enum Cause {
     FlagTwice,
     /// The value that an option gives a setting is not as it has to be.
     OptionValue(Key),
+    /// An option stands behind a command beside a service, which has none.
+    NotOption(Form),
+    /// A word too many stands behind a command beside a service.
+    WordMore(Form),
+    /// Too few words stand behind a command beside a service, or one is empty.
+    WordLess(Form),
+    /// A word is no phone.
+    Phone,
     /// A key of the file is no setting's.
     Key,
     /// The value that the file gives a setting is not as it has to be.
@@ -57,7 +65,9 @@ impl Wrong {
     }
 }
 
-const COMMANDS: &str = "serve DIR, check DIR, --help or --version";
+const COMMANDS: &str =
+    "serve DIR, check DIR, registrations DIR, forget DIR PHONE, copy DIR FILE, stop DIR, \
+     --help or --version";
 
 const OPTIONS: &str =
     "--listen, --links, --quiet, --strangers, --strangers-of-address, --http or --until-input-ends";
@@ -77,6 +87,10 @@ impl fmt::Display for Wrong {
             Cause::Twice(key) => twice(f, key),
             Cause::FlagTwice => write!(f, "{about} is given twice: expected once"),
             Cause::OptionValue(key) => option_value(f, key, about),
+            Cause::NotOption(form) => not_option(f, form, about),
+            Cause::WordMore(form) => word_more(f, form, about),
+            Cause::WordLess(form) => word_less(f, form),
+            Cause::Phone => write!(f, "{about:?} is no phone: expected 1 to 20 digits"),
             Cause::Key => write!(f, "unknown key {about:?}: expected {KEYS}"),
             Cause::KeyValue(key) => key_value(f, key, about),
             Cause::NotToml(line) => write!(f, "line {line} is no TOML: {about}"),
@@ -94,6 +108,21 @@ fn no_value<W: fmt::Write>(f: &mut fmt::Formatter<W>, key: Key) -> fmt::Result {
 fn twice<W: fmt::Write>(f: &mut fmt::Formatter<W>, key: Key) -> fmt::Result {
     let option = key.option();
     write!(f, "--{option} is given twice: expected once")
+}
+
+fn not_option<W: fmt::Write>(f: &mut fmt::Formatter<W>, form: Form, about: &str) -> fmt::Result {
+    let usage = form.usage();
+    write!(f, "unknown option {about:?}: expected {usage}")
+}
+
+fn word_more<W: fmt::Write>(f: &mut fmt::Formatter<W>, form: Form, about: &str) -> fmt::Result {
+    let usage = form.usage();
+    write!(f, "a word too many {about:?}: expected {usage}")
+}
+
+fn word_less<W: fmt::Write>(f: &mut fmt::Formatter<W>, form: Form) -> fmt::Result {
+    let usage = form.usage();
+    write!(f, "too few words: expected {usage}")
 }
 
 fn option_value<W: fmt::Write>(f: &mut fmt::Formatter<W>, key: Key, about: &str) -> fmt::Result {

@@ -12,7 +12,7 @@ fn words(alloc: Global, text: &str) -> Result<Vec<String>, AllocError> {
 }
 
 // What is said of a command line: the settings in one line, or what is wrong.
-fn said(alloc: Global, line: &str, file: &str) -> Result<String, AllocError> {
+pub(crate) fn said(alloc: Global, line: &str, file: &str) -> Result<String, AllocError> {
     let words = words(alloc, line)?;
     let command = match read_command(alloc, words.as_slice()) {
         Ok(command) => command,
@@ -37,6 +37,13 @@ fn said(alloc: Global, line: &str, file: &str) -> Result<String, AllocError> {
             format!(in alloc; "{folder} {listen} {links} {quiet} {strangers} {of} {ends}")
         }
         Command::Check(folder, _) => format!(in alloc; "check {folder}"),
+        Command::Registrations(folder) => format!(in alloc; "registrations {folder}"),
+        Command::Forget(folder, phone) => {
+            let digits = phone.digits;
+            format!(in alloc; "forget {folder} {digits:?}")
+        }
+        Command::Copy(folder, file) => format!(in alloc; "copy {folder} {file}"),
+        Command::Stop(folder) => format!(in alloc; "stop {folder}"),
         Command::Help => format!(in alloc; "help"),
         Command::Version => format!(in alloc; "version"),
     }
@@ -87,12 +94,12 @@ fn settings_of_words_and_files(rt: HostRuntime) -> Result<(), Fail> {
         (
             "",
             "",
-            "no command: expected serve DIR, check DIR, --help or --version",
+            "no command: expected serve DIR, check DIR, registrations DIR, forget DIR PHONE, copy DIR FILE, stop DIR, --help or --version",
         ),
         (
             "serv d",
             "",
-            "unknown command \"serv\": expected serve DIR, check DIR, --help or --version",
+            "unknown command \"serv\": expected serve DIR, check DIR, registrations DIR, forget DIR PHONE, copy DIR FILE, stop DIR, --help or --version",
         ),
         ("serve", "", "no folder: expected serve DIR"),
         ("serve a b", "", "a second folder \"b\": expected one"),

@@ -22,6 +22,7 @@ use Rattle.jt_platform.specs.contracts.desk.HubOpening
 use Rattle.jt_platform.specs.contracts.hub.Hub
 use Rattle.jt_platform.specs.contracts.request.Reply
 use Rattle.jt_platform.specs.contracts.request.Request
+use Rattle.jt_service.specs.contracts.watch.Watch
 
 seat_send : (S V : RattleType) → IsSend S → IsSend (seat.the_row S V)
 seat_send S V s = record { owned = λ d vs. ((λ vss. (tt, ((λ uss. (tt, tt)), tt))), seat_keyless S s V.coded.code d.table_id d.id d.me); leaving = λ k f vs. tt }
@@ -39,6 +40,9 @@ lease_sync T A g f = record { shared = λ d b o ν q. part_keyless (lease.the_ro
 
 option_send : (R : RattleType) → IsSend R → IsSend (Option.the_row R)
 option_send R s = search (sendable, crosses) depth 20
+
+pub watch_sync : (T : RattleType) → IsSend T → IsSync (Watch.the_row T)
+watch_sync T t = search (sendable, crosses) depth 40 fits 100000
 
 module _ (P : RattleType) (k : keeper.Ghosts P.Denot) (s : IsSend P) (J : RattleType) (j : journal.Ghosts J.Denot) (t : IsSend J) where
   pub hub_send : IsSend (Hub.the_row P J k j)

@@ -1,5 +1,5 @@
 -- What contracts see of a link that a service may end (this project's own). To be believed.
-use Rattle.std.specs.Prelude.{◌≡◌, ◌<◌, ◌≤◌, ℕ, List, Option, None, length, take}
+use Rattle.std.specs.Prelude.{◌<◌, ◌≤◌, ℕ, List, Option, None, length, take}
 use Rattle.std.specs.Io.KnownBytes.{IsAtEnd}
 use Rattle.jt_outside.specs.Inbound.{Inbound}
 use Rattle.jt_outside.specs.Link.{Wire, Gives, GivesNone}

@@ -9,10 +9,14 @@ pub enum Cut {
     StrangerTime,
     /// Nobody was let in on it before it sent as many octets as a stranger may.
     StrangerOctets,
-    /// A newer link took its place, since there were too many on which nobody was let in, or wanted one where all were taken.
+    /// A newer link wanted its place, where nobody was let in on as many as may be, or all places were taken.
     Replaced,
     /// Its phone is served no longer.
     Dismissed,
+    /// All links end, and the service may begin anew: it was asked to, or no session's number is left.
+    Renewed,
+    /// All links end, since the store failed in a session.
+    StoreFailed,
 }
 
 /// Why a link that came was closed at once (this project's own).
@@ -20,7 +24,7 @@ pub enum Cut {
 pub enum Away {
     /// As many links are served as may be.
     Full,
-    /// Nobody is let in yet on as many links as may be, and the oldest of these came in the last second.
+    /// Nobody is let in yet on as many links as may be.
     Strangers,
     /// Nobody is let in yet on as many links of its address as may be.
     Address,

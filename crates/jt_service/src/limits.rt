@@ -13,8 +13,8 @@ pub struct Limits {
     pub stranger_seconds: u64,
     /// So many octets it may send until then.
     pub stranger_octets: u64,
-    /// On so many links at once nobody may be let in yet, those that are being ended not counted: at least 1, without which nobody
-    /// is served. Where there are fewer threads than links, half of the threads at most.
+    /// On so many links at once nobody may be let in yet, those that are being ended counted until they are gone: at least 1, without
+    /// which nobody is served. Where there are fewer threads than links, half of the threads at most.
     pub strangers: u32,
     /// On so many of them that come from one address, where that is limited.
     pub strangers_of_address: Option<u32>,

@@ -40,9 +40,9 @@ pub struct Counts {
 }
 
 impl Seat {
-    // Whether nobody was let in on its link, which goes on.
+    // Whether nobody was let in on its link, which may be one that is to end.
     fn is_stranger(&self) -> bool {
-        self.is_taken && self.phone.is_none() && self.cut.is_none()
+        self.is_taken && self.phone.is_none()
     }
 
     fn is_of(&self, address: IpAddr) -> bool {
@@ -84,7 +84,7 @@ impl Seats {
         self.seats.iter().position(|seat| !seat.is_taken)
     }
 
-    // On how many links, which go on, nobody was let in yet.
+    // On how many links nobody was let in yet.
     fn strangers(&self) -> u32 {
         let mut count: u32 = 0;
         for seat in &self.seats {
@@ -106,12 +106,12 @@ impl Seats {
         count
     }
 
-    // The place of the oldest link on which nobody was let in yet.
+    // The place of the oldest link on which nobody was let in yet, and which goes on.
     fn oldest_stranger(&self) -> Option<usize> {
         let mut oldest = None;
         let mut least = u64::MAX;
         for (place, seat) in self.seats.iter().enumerate() {
-            if seat.is_stranger() && seat.since < least {
+            if seat.is_stranger() && seat.cut.is_none() && seat.since < least {
                 least = seat.since;
                 oldest = Some(place);
             }
@@ -127,21 +127,20 @@ impl Seats {
         }
     }
 
-    // Ends the oldest stranger's link, where it has been there for long enough. Tells whether it did.
-    fn replace_oldest(&mut self, now: u64) -> bool {
+    // Ends the oldest stranger's link, where it has been there for long enough.
+    fn replace_oldest(&mut self, now: u64) {
         let Some(place) = self.oldest_stranger() else {
-            return false;
+            return;
         };
-        match self.seats.get_mut(place) {
-            Some(seat) if now.saturating_sub(seat.since) >= STRANGER_STAY => {
+        if let Some(seat) = self.seats.get_mut(place) {
+            if now.saturating_sub(seat.since) >= STRANGER_STAY {
                 seat.cut = Some(Cut::Replaced);
-                true
             }
-            _ => false,
         }
     }
 
-    // A place for a link that comes now, which may end an older link on which nobody was let in.
+    // A place for a link that comes now. Where it gets none for want of places, it may end an older link on which nobody was let in,
+    // so that the next one finds a place.
     pub(crate) fn admit(
         &mut self,
         now: u64,
@@ -155,7 +154,8 @@ impl Seats {
             self.replace_oldest(now);
             return Err(Away::Full);
         };
-        if self.strangers() >= limits.strangers && !self.replace_oldest(now) {
+        if self.strangers() >= limits.strangers {
+            self.replace_oldest(now);
             return Err(Away::Strangers);
         }
         self.take(place, now, peer);

@@ -5,6 +5,8 @@ use jt_outside::TcpLink;
 use std::io::ErrorKind;
 use std::net::{Net, OpenListener, SocketAddr, TcpListener, TcpStream};
 use std::os::fd::AsRawFd;
+use std::sync::Arc;
+use std::sync::atomic::AtomicBool;
 use std::time::{Clock, Duration};
 use std::{io, thread};
 
@@ -14,9 +16,9 @@ const WAIT: u64 = 1;
 const WAIT_MILLISECONDS: i32 = 1_000;
 
 // How long a write of them waits for the other end to read, in seconds, and how often (this project's own).
-const WRITE_WAIT: u64 = 5;
+const WRITE_WAIT: u64 = 1;
 
-const WRITE_WAITS: u32 = 12;
+const WRITE_WAITS: u32 = 60;
 
 // How many connections the system keeps for the accepts to come (this project's own; it may keep fewer).
 const BACKLOG: i32 = 4_096;
@@ -29,22 +31,24 @@ const ENFILE: i32 = 23;
 
 const ENOBUFS: i32 = 105;
 
-/// Listens by TCP at an address and port, of IPv4 or IPv6. The links' reads wait for a second, their writes for 60. Descriptors or
-/// memory that are short, and no connection within a second, are told as such. A connection that failed before it was accepted, or
-/// whose waits the system would not set, is passed over, as a second within which nobody came: nothing counts it.
+/// Listens by TCP at an address and port, of IPv4 or IPv6. The links' reads wait for a second, their writes for 60, and for 2 at most
+/// once a flag is set. Descriptors or memory that are short, and no connection within a second, are told as such. A connection that
+/// failed before it was accepted, or whose waits the system would not set, is passed over, as a second within which nobody came:
+/// nothing counts it.
 #[derive(Drop)]
 pub struct ServiceListen<R: Net> {
     rt: R,
     listener: R::Listener,
+    ends: Arc<AtomicBool>,
 }
 
 impl<R: Net<Stream = TcpStream> + Drop> ServiceListen<R> {
-    /// Listens at this address, and keeps the runtime. An error is what the system said.
-    pub fn bind(rt: R, address: SocketAddr) -> io::Result<ServiceListen<R>> {
+    /// Listens at this address, and keeps the runtime and the flag. An error is what the system said.
+    pub fn bind(rt: R, address: SocketAddr, ends: Arc<AtomicBool>) -> io::Result<ServiceListen<R>> {
         let listener = TcpListener::bind(&rt, address)?;
         listener.set_nonblocking(true)?;
         let _ = libc::net::listen(listener.as_raw_fd(), BACKLOG);
-        Ok(ServiceListen { rt, listener })
+        Ok(ServiceListen { rt, listener, ends })
     }
 
     /// The address at which it listens, with the port that the system chose where that was 0.
@@ -109,9 +113,10 @@ impl<R: Net<Stream = TcpStream> + Clock> Door for ServiceListen<R> {
             return Arrived::Nobody;
         }
         match self.listener.accept() {
-            Ok((stream, peer)) if set_waits(&stream).is_ok() => {
-                Arrived::Link(TcpLink::new(stream, WRITE_WAITS), Some(peer))
-            }
+            Ok((stream, peer)) if set_waits(&stream).is_ok() => match self.ends.clone() {
+                Ok(ends) => { Arrived::Link(TcpLink::until(stream, WRITE_WAITS, ends), Some(peer)) }
+                Err(_) => Arrived::Nobody,
+            },
             Ok(_) => Arrived::Nobody,
             Err(error) => failure(&self.rt, &error),
         }

@@ -13,12 +13,13 @@ use crate::door::{Arrived, Door};
 use crate::hall::{Arrival, Hall};
 use crate::limits::Limits;
 use crate::root::{Root, Which};
+use crate::service_end::ServiceEnd;
 use crate::telling::{Ended, Tell};
 use crate::watch::{Watch, moment};
 use crate::watched_link::{Warden, WatchedLink};
 use jt_outside::Link;
 use jt_platform::{Hub, Journal};
-use jt_session::{Report, serve_link};
+use jt_session::{End, Report, serve_link};
 use jt_store::Keeper;
 use jt_turn::{Pass, Turn};
 use jt_value::Memory;
@@ -37,23 +38,6 @@ const QUIET_PARTS: u64 = 3;
 const MOST_FAILED: u32 = 60;
 
 const FAILED_WAIT: u64 = 1;
-
-/// Why no more links are served (this project's own).
-#[derive(Clone, Copy, Debug, PartialEq, Eq)]
-pub enum ServiceEnd {
-    /// It was asked to stop.
-    Stopped,
-    /// The listener said that no link is left to come.
-    Over,
-    /// No session's number is left.
-    NumbersSpent,
-    /// The listener failed 60 times, a second apart at least, and no link came between.
-    ListenerFailed,
-    /// No thread could be made.
-    NoThread,
-    /// Memory was wanted and refused, before any link was accepted.
-    Memory,
-}
 
 // Who watches over the link in a place.
 #[derive(Drop)]
@@ -128,6 +112,9 @@ fn serve_arrival<N: Which, R: Wait + Clock, K: Link + Drop, P: Keeper + Drop, J:
     let (report, cut, pass) = serve_one::<N, R, K, Guard<R, T>, P, J>(
         rt, alloc, turn, pass, link, guard, rounds,
     );
+    if report.end == End::StoreFault {
+        watch.fail();
+    }
     hall.root.lock(rt).take_back(turn, pass);
     let phone = watch.phone(rt, place);
     let milliseconds = moment(rt).saturating_sub(since);
@@ -235,21 +222,21 @@ fn send_back<N: Which, R: Wait, K: Link + Drop, P: Keeper + Drop, J: Journal, T:
 }
 
 // Accepts links and hands them on, until the service is to end. Says why it ended.
-fn receive<N: Which, R: Wait + Clock, D: Door + Drop, P: Keeper + Drop, J: Journal, T: Tell>(
+fn receive<N: Which, R: Wait + Clock, D: Door, P: Keeper + Drop, J: Journal, T: Tell>(
     rt: &R,
     turn: &Turn<Hub<P, J>>,
     hall: &Hall<N, D::Link, P, J>,
     watch: &Watch<T>,
     limits: Limits,
-    mut door: D,
+    door: &mut D,
 ) -> ServiceEnd
     requires turn { turn.now ≡ N.turn }
 {
     let mut failed: u32 = 0;
     let mut is_short = false;
     for _ in rt.forever() {
-        if watch.is_stopped() {
-            return ServiceEnd::Stopped;
+        if let Some(end) = watch.ending() {
+            return end;
         }
         match door.next() {
             Arrived::Link(link, peer) => {
@@ -280,20 +267,21 @@ fn receive<N: Which, R: Wait + Clock, D: Door + Drop, P: Keeper + Drop, J: Journ
     unreachable!()
 }
 
-/// Serves the links that come in at a door, each under a number of its own, from 1 on, until the watch is asked to stop, no link
-/// is left to come, no number is left, or the listener failed 60 times in a row. Failures are in a row until a link comes, also with
-/// seconds between in which none does. So many are served at once as the limits and the system's threads allow; the next one
-/// is closed at once. Gives the hub back, where every pass came back.
+/// Serves the links that come in at a door, each under a number of its own, from 1 on, until the watch is asked to stop or to renew,
+/// a session ended by a store fault, no link is left to come, no number is left, or the listener failed 60 times in a row. Failures
+/// are in a row until a link comes, also with seconds between in which none does. So many are served at once as the limits and the
+/// system's threads allow; the next one is closed at once. Gives the hub back, where every pass came back. Behind it the door may
+/// be served again, under the same watch, which what was asked of this run alone does not end at once.
 pub fn serve_on<
     R: Threads + Wait + Clock + Sync,
-    D: Door + Send + Drop,
+    D: Door,
     P: Keeper + Send + Drop,
     J: Journal + Send,
     T: Tell + Send,
 >(
     rt: &R,
     alloc: Global,
-    door: D,
+    door: &mut D,
     mut hub: Hub<P, J>,
     limits: Limits,
     watch: &Watch<T>,
@@ -321,7 +309,7 @@ where
 fn serve_turn<N: Which + Send, R, D, P, J, T>(
     rt: &R,
     alloc: Global,
-    door: D,
+    door: &mut D,
     turn: Turn<Hub<P, J>>,
     pass: Pass<Hub<P, J>>,
     limits: Limits,
@@ -329,7 +317,7 @@ fn serve_turn<N: Which + Send, R, D, P, J, T>(
 ) -> (ServiceEnd, Option<Hub<P, J>>)
 where
     R: Threads + Wait + Clock + Sync,
-    D: Door + Send + Drop,
+    D: Door,
     D::Link: Send,
     P: Keeper + Send + Drop,
     J: Journal + Send,
@@ -355,7 +343,7 @@ where
 fn serve_hall<N: Which + Send, R, D, P, J, T>(
     rt: &R,
     alloc: Global,
-    door: D,
+    door: &mut D,
     turn: &Turn<Hub<P, J>>,
     hall: Hall<N, D::Link, P, J>,
     limits: Limits,
@@ -363,7 +351,7 @@ fn serve_hall<N: Which + Send, R, D, P, J, T>(
 ) -> (ServiceEnd, Root<N, P, J>)
 where
     R: Threads + Wait + Clock + Sync,
-    D: Door + Send + Drop,
+    D: Door,
     D::Link: Send,
     P: Keeper + Send + Drop,
     J: Journal + Send,
@@ -378,7 +366,7 @@ where
 fn serve_scope<N: Which + Send, R, D, P, J, T>(
     rt: &R,
     alloc: Global,
-    door: D,
+    door: &mut D,
     turn: &Turn<Hub<P, J>>,
     hall: &Hall<N, D::Link, P, J>,
     limits: Limits,
@@ -386,14 +374,14 @@ fn serve_scope<N: Which + Send, R, D, P, J, T>(
 ) -> ServiceEnd
 where
     R: Threads + Wait + Clock + Sync,
-    D: Door + Send + Drop,
+    D: Door,
     D::Link: Send,
     P: Keeper + Send + Drop,
     J: Journal + Send,
     T: Tell + Send,
     requires turn { turn.now ≡ N.turn }
 {
-    thread::scope(
+    let end = thread::scope(
         thread::scope_env(),
         rt,
         move |scope| -> ServiceEnd
@@ -405,17 +393,19 @@ where
             hall.shut(rt);
             end
         },
-    )
+    );
+    watch.go_on();
+    end
 }
 
-// Accepts links for so many workers. Where that ended for want of numbers or of a listener, the links that are served end too.
-fn receive_for<N: Which, R: Wait + Clock, D: Door + Drop, P: Keeper + Drop, J: Journal, T: Tell>(
+// Accepts links for so many workers. The links that are served end too, but where no more are left to come.
+fn receive_for<N: Which, R: Wait + Clock, D: Door, P: Keeper + Drop, J: Journal, T: Tell>(
     rt: &R,
     turn: &Turn<Hub<P, J>>,
     hall: &Hall<N, D::Link, P, J>,
     watch: &Watch<T>,
     limits: Limits,
-    door: D,
+    door: &mut D,
     count: u32,
 ) -> ServiceEnd
     requires turn { turn.now ≡ N.turn }
@@ -428,8 +418,8 @@ fn receive_for<N: Which, R: Wait + Clock, D: Door + Drop, P: Keeper + Drop, J: J
     };
     let limits = limits_for(rt, watch, limits, count);
     let end = receive(rt, turn, hall, watch, limits, door);
-    if matches!(end, ServiceEnd::NumbersSpent | ServiceEnd::ListenerFailed) {
-        watch.stop();
+    if end != ServiceEnd::Over {
+        watch.end_with(end);
     }
     end
 }

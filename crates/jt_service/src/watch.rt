@@ -3,6 +3,7 @@
 use crate::cut::{Away, Cut};
 use crate::limits::Limits;
 use crate::seats::{Counts, Seat, Seats};
+use crate::service_end::ServiceEnd;
 use crate::telling::Tell;
 use jt_platform::{Entry, Reply, Request};
 use jt_value::{Memory, Phone};
@@ -14,10 +15,17 @@ use std::time::Clock;
 
 const MILLISECONDS: u64 = 1_000;
 
-/// What a service and its caller share while it runs: who is told, which links are served, and whether it is to stop.
+/// What a service and its caller share while it runs: who is told, which links are served, and whether they are to end.
 #[derive(Drop)]
 pub struct Watch<T> {
+    // The service is to end for good.
     stops: Arc<AtomicBool>,
+    // All links are to end.
+    ends: Arc<AtomicBool>,
+    // The service is to end, and may begin anew: it was asked to.
+    renews: AtomicBool,
+    // The same, since the store failed.
+    failed: AtomicBool,
     seats: Mutex<Seats>,
     told: Mutex<T>,
 }
@@ -31,11 +39,14 @@ pub(crate) fn moment<R: Clock>(rt: &R) -> u64 {
 }
 
 impl<T: Tell> Watch<T> {
-    /// Nothing is served yet. The service ends once the flag is set, by `stop` or by any other who has it; one that is set already
-    /// lets no link in.
-    pub fn new(alloc: Global, told: T, stops: Arc<AtomicBool>) -> Watch<T> {
+    /// Nothing is served yet. The service ends once the first flag is set, by `stop` or by any other who has it; one that is set
+    /// already lets no link in. The second is set while all links are to end, for who makes links that look at it.
+    pub fn new(alloc: Global, told: T, stops: Arc<AtomicBool>, ends: Arc<AtomicBool>) -> Watch<T> {
         Watch {
             stops,
+            ends,
+            renews: AtomicBool::new(false),
+            failed: AtomicBool::new(false),
             seats: Mutex::new(Seats::new(alloc)),
             told: Mutex::new(told),
         }
@@ -50,16 +61,26 @@ impl<T: Tell> Watch<T> {
     pub fn into_told(self) -> T {
         let Watch {
             stops: _,
+            ends: _,
+            renews: _,
+            failed: _,
             seats: _,
             told,
         } = self;
         told.into_inner()
     }
 
-    /// Has the service end: no link is accepted, and those that are served end at their next read or write. A read wakes within a
-    /// second, a write that nobody takes within a minute; a call of the hub is done first.
+    /// Has the service end: no link is accepted, and those that are served end at their next read or write. A call of the hub is
+    /// done first.
     pub fn stop(&self) {
         self.stops.store(true, Ordering::SeqCst);
+        self.ends.store(true, Ordering::SeqCst);
+    }
+
+    /// Has the service end likewise, so that it may begin anew.
+    pub fn renew(&self) {
+        self.renews.store(true, Ordering::SeqCst);
+        self.ends.store(true, Ordering::SeqCst);
     }
 
     /// Whether the service is to end.
@@ -75,6 +96,42 @@ impl<T: Tell> Watch<T> {
     /// How many links are served now.
     pub fn counts<R: Wait>(&self, rt: &R) -> Counts {
         self.seats.lock(rt).counts()
+    }
+
+    // The store failed: the service is to end, and may begin anew.
+    pub(crate) fn fail(&self) {
+        self.failed.store(true, Ordering::SeqCst);
+        self.ends.store(true, Ordering::SeqCst);
+    }
+
+    // Why the service is to end, if it is.
+    pub(crate) fn ending(&self) -> Option<ServiceEnd> {
+        if self.is_stopped() {
+            return Some(ServiceEnd::Stopped);
+        }
+        if self.failed.load(Ordering::SeqCst) {
+            return Some(ServiceEnd::StoreFailed);
+        }
+        if self.renews.load(Ordering::SeqCst) {
+            return Some(ServiceEnd::Renewed);
+        }
+        None
+    }
+
+    // No link is accepted any more, for this reason: those that are served are to end.
+    pub(crate) fn end_with(&self, end: ServiceEnd) {
+        match end {
+            ServiceEnd::StoreFailed => self.fail(),
+            ServiceEnd::Renewed | ServiceEnd::NumbersSpent => self.renew(),
+            _ => self.stop(),
+        }
+    }
+
+    // No link is served any more: what was asked of this run alone is done.
+    pub(crate) fn go_on(&self) {
+        self.failed.store(false, Ordering::SeqCst);
+        self.renews.store(false, Ordering::SeqCst);
+        self.ends.store(false, Ordering::SeqCst);
     }
 
     // Makes places for so many links.
@@ -131,8 +188,8 @@ impl<T: Tell> Watch<T> {
         octets: u64,
         limits: &Limits,
     ) -> Option<Cut> {
-        if self.is_stopped() {
-            return Some(Cut::Stopped);
+        if let Some(end) = self.ending() {
+            return Some(end.cut());
         }
         let seat = self.seat(rt, place)?;
         if seat.cut.is_some() {

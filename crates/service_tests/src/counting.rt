@@ -22,6 +22,8 @@ pub struct Counting {
     pub stranger_octets: u64,
     pub replaced: u64,
     pub dismissed: u64,
+    pub renewed: u64,
+    pub store_failed: u64,
     /// Those that the service ended and whose report says otherwise than that the link failed.
     pub odd: u64,
     /// Octets that were read and written.
@@ -30,6 +32,8 @@ pub struct Counting {
     pub let_in: u64,
     pub stored: u64,
     pub idle: u64,
+    /// Sessions that ended by a store fault.
+    pub faults: u64,
     /// Links that were closed at once, by why.
     pub full: u64,
     pub crowded: u64,
@@ -49,12 +53,15 @@ pub const NOTHING: Counting = Counting {
     stranger_octets: 0,
     replaced: 0,
     dismissed: 0,
+    renewed: 0,
+    store_failed: 0,
     odd: 0,
     read: 0,
     written: 0,
     let_in: 0,
     stored: 0,
     idle: 0,
+    faults: 0,
     full: 0,
     crowded: 0,
     of_address: 0,
@@ -73,6 +80,8 @@ impl Counting {
             Cut::StrangerOctets => raise(&mut self.stranger_octets),
             Cut::Replaced => raise(&mut self.replaced),
             Cut::Dismissed => raise(&mut self.dismissed),
+            Cut::Renewed => raise(&mut self.renewed),
+            Cut::StoreFailed => raise(&mut self.store_failed),
         }
     }
 }
@@ -104,6 +113,9 @@ impl Tell for Counting {
         }
         if ended.report.end == End::Idle {
             raise(&mut self.idle);
+        }
+        if ended.report.end == End::StoreFault {
+            raise(&mut self.faults);
         }
         if let Some(cut) = ended.cut {
             self.count_cut(cut);

@@ -7,3 +7,7 @@ mod counting;
 mod links;
 #[cfg(test)]
 mod rows;
+#[cfg(test)]
+mod serving;
+#[cfg(test)]
+mod sockets;

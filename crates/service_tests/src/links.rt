@@ -11,30 +11,50 @@ use jt_service::{Arrived, Door, Watch};
 use jt_value::{Edition, Phone};
 use std::marker::Model;
 use std::net::{IpAddr, Ipv4Addr, SocketAddr};
-use std::sync::Wait;
+use std::sync::atomic::{AtomicBool, Ordering};
+use std::sync::{Arc, Wait};
 use std::thread;
 use std::time::{Clock, Duration};
+
+/// The heartbeat of phone 013912345678, which takes 20 octets of an answer.
+pub const HEARTBEAT: &[u8] = b"\x7e\0\x02\0\0\x019\x124Vx\0\02\x7e";
+
+/// The registration of phone 333435363738, and its authentication, with a unit behind them: 53, 31 and 43 octets. The answers have
+/// 34, 20 and 20.
+pub const TERMINAL: &[u8] =
+    b"\x7e\x01\0\0\x26345678\0\0\0\0\0\0\0\0\0\0\0\0\0\0\0\0\0\0\0\0\0\0\0\0\0\0\0\0\0\0\01\0\0\0\0\0\0\x01A\x5d\x7e\x7e\x01\x02\0\x10345678\0\x01ef797c8118f02dfbD\x7e\x7e\x02\0\0\x1c345678\0\x02\0\0\0\0\0\0\0\0\0\0\0\0\0\0\0\0\0\0\0\0\0\0\0\0\0\0\0\0\x17\x7e";
 
 const PHONE: Phone = Phone {
     edition: Edition::E2013,
     digits: [0, 0, 0, 0, 0x33, 0x34, 0x35, 0x36, 0x37, 0x38],
 };
 
-fn peer() -> SocketAddr {
+pub(crate) fn peer() -> SocketAddr {
     SocketAddr::new(IpAddr::V4(Ipv4Addr::new(127, 0, 0, 1)), 41_022)
 }
 
-/// A link that gives octets, and then ends, or is quiet for ever. It takes what is written.
+// So long a deaf link looks at its flag between two looks, in milliseconds, and so often.
+const LOOK: u64 = 10;
+
+const LOOKS: u32 = 1_000;
+
+// So long a slow link waits, in milliseconds.
+const QUIET: u64 = 100;
+
+/// A link that gives octets, and then ends, or is quiet for ever. It takes what is written; or, where it is deaf, nothing: a write
+/// waits until its flag is set, for ten seconds at most, and fails.
 #[derive(Drop)]
-pub struct TestLink {
+pub struct TestLink<'w, R> {
     octets: &'static [u8],
     stays: bool,
+    deaf: Option<(&'w R, Arc<AtomicBool>)>,
+    slow: Option<&'w R>,
     faults: u64,
     quiets: u64,
     run: u64,
 }
 
-impl Model for TestLink {
+impl<'w, R> Model for TestLink<'w, R> {
     ghost use Rattle.std.specs.Prelude.{◌≤◌, ◌-◌, ◌^◌};
     ghost use Rattle.jt_outside.specs.Adapters.{Counted};
 
@@ -45,19 +65,48 @@ impl Model for TestLink {
     ghost invariant = { λ l. (l.faults ≤ 2 ^ 64 - 1) × (l.quiets ≤ 2 ^ 64 - 1) };
 }
 
-impl TestLink {
-    pub fn new(octets: &'static [u8], stays: bool) -> TestLink {
+impl<'w, R: Clock> TestLink<'w, R> {
+    pub fn new(octets: &'static [u8], stays: bool) -> TestLink<'w, R> {
         TestLink {
             octets,
             stays,
+            deaf: None,
+            slow: None,
             faults: 0,
             quiets: 0,
             run: 0,
         }
     }
+
+    fn deaf(octets: &'static [u8], rt: &'w R, ends: Arc<AtomicBool>) -> TestLink<'w, R> {
+        let mut link = TestLink::new(octets, true);
+        link.deaf = Some((rt, ends));
+        link
+    }
+
+    /// A link that gives octets, and is then quiet each tenth of a second.
+    pub fn slow(octets: &'static [u8], rt: &'w R) -> TestLink<'w, R> {
+        let mut link = TestLink::new(octets, true);
+        link.slow = Some(rt);
+        link
+    }
+
+    // Waits where it is deaf. Tells whether it was.
+    fn waited(&self) -> bool {
+        let Some((rt, ends)) = &self.deaf else {
+            return false;
+        };
+        for _ in 0..LOOKS {
+            if ends.load(Ordering::SeqCst) {
+                break;
+            }
+            thread::sleep(*rt, Duration::from_millis(LOOK));
+        }
+        true
+    }
 }
 
-impl Sink for TestLink {
+impl<'w, R: Clock> Sink for TestLink<'w, R> {
     ghost written = { λ _. None };
 
     ghost faults = { λ link. link.faults };
@@ -70,12 +119,15 @@ impl Sink for TestLink {
         ensures cause { WriteHasCause self.old.faults self.new.faults result }
         ensures inbound { inbound_of self.new ≡ inbound_of self.old }
     {
-        let _faults = self.faults;
+        if self.waited() {
+            self.faults = self.faults.saturating_add(1);
+            return Put::Failed;
+        }
         Put::Count(buf.len())
     }
 }
 
-impl Link for TestLink {
+impl<'w, R: Clock> Link for TestLink<'w, R> {
     fn read(&mut self, buf: &mut [u8]) -> LinkGot
         requires { 0 < length buf.old }
         ensures octets { Reads (inbound_of self.old) (inbound_of self.new) result buf.new }
@@ -89,6 +141,9 @@ impl Link for TestLink {
             self.octets = &octets[count..];
             self.run = 0;
             return LinkGot::Bytes(count);
+        }
+        if let Some(rt) = self.slow {
+            thread::sleep(rt, Duration::from_millis(QUIET));
         }
         if self.stays {
             self.quiets = self.quiets.saturating_add(1);
@@ -104,6 +159,8 @@ impl Link for TestLink {
 pub enum Step {
     /// So many links come that give these octets, and then end, or stay, each once fewer are served than these.
     Links(u32, &'static [u8], bool, u32),
+    /// A link comes that gives these octets, and then stays, and takes none before all links are to end.
+    Deaf(&'static [u8]),
     /// It waits until somebody was let in on so many links.
     LetIn(u32),
     /// It waits until so many links are served at most.
@@ -116,6 +173,8 @@ pub enum Step {
     Fails(u32),
     /// The service is stopped.
     Stops,
+    /// The service is to begin anew.
+    Renews,
 }
 
 /// A door of these steps, which is over behind the last one.
@@ -123,6 +182,7 @@ pub enum Step {
 pub struct Steps<'w, R> {
     pub rt: &'w R,
     pub watch: &'w Watch<Counting>,
+    pub ends: Arc<AtomicBool>,
     pub steps: &'static [Step],
     pub done: u32,
 }
@@ -134,7 +194,8 @@ impl<'w, R: Wait + Clock> Steps<'w, R> {
             Step::Links(_, _, _, fewer) => counts.open < fewer,
             Step::LetIn(wanted) => counts.let_in >= wanted,
             Step::Open(most) => counts.open <= most,
-            Step::Fails(_) | Step::Seconds(_) | Step::Dismisses | Step::Stops => true,
+            Step::Deaf(_) | Step::Fails(_) | Step::Seconds(_) | Step::Dismisses => true,
+            Step::Stops | Step::Renews => true,
         }
     }
 
@@ -151,8 +212,17 @@ impl<'w, R: Wait + Clock> Steps<'w, R> {
         }
     }
 
-    fn give(&mut self, step: Step) -> Arrived<TestLink> {
+    fn give(&mut self, step: Step) -> Arrived<TestLink<'w, R>> {
         match step {
+            Step::Deaf(octets) => {
+                self.pass_step();
+                match self.ends.clone() {
+                    Ok(ends) => {
+                        Arrived::Link(TestLink::deaf(octets, self.rt, ends), Some(peer()))
+                    }
+                    Err(_) => Arrived::Over,
+                }
+            }
             Step::Links(wanted, octets, stays, _) => {
                 if !self.again(wanted) {
                     self.pass_step();
@@ -167,6 +237,11 @@ impl<'w, R: Wait + Clock> Steps<'w, R> {
             }
             Step::Stops => {
                 self.watch.stop();
+                self.pass_step();
+                Arrived::Nobody
+            }
+            Step::Renews => {
+                self.watch.renew();
                 self.pass_step();
                 Arrived::Nobody
             }
@@ -189,9 +264,9 @@ impl<'w, R: Wait + Clock> Steps<'w, R> {
 }
 
 impl<'w, R: Wait + Clock> Door for Steps<'w, R> {
-    type Link = TestLink;
+    type Link = TestLink<'w, R>;
 
-    fn next(&mut self) -> Arrived<TestLink> {
+    fn next(&mut self) -> Arrived<TestLink<'w, R>> {
         match self.steps.first() {
             Some(step) if self.is_ready(*step) => self.give(*step),
             Some(_) => Arrived::Nobody,

@@ -1,7 +1,7 @@
 ghost use Rattle.std.specs.Prelude.{◌≡◌, []};
 
 use crate::counting::{Counting, NOTHING};
-use crate::links::{Step, Steps};
+use crate::links::{HEARTBEAT, Step, Steps, TERMINAL};
 use jt_platform::{Fleet, Hub};
 use jt_service::{Limits, ServiceEnd, Watch, Witnessed, serve_on};
 use jt_store::MemKeeper;
@@ -13,15 +13,7 @@ use std::sync::{Arc, Wait};
 use std::thread::Threads;
 use std::time::Clock;
 
-/// The heartbeat of phone 013912345678, which takes 20 octets of an answer.
-const HEARTBEAT: &[u8] = b"\x7e\0\x02\0\0\x019\x124Vx\0\02\x7e";
-
-/// The registration of phone 333435363738, and its authentication, with a unit behind them: 53, 31 and 43 octets. The answers have
-/// 34, 20 and 20.
-const TERMINAL: &[u8] =
-    b"\x7e\x01\0\0\x26345678\0\0\0\0\0\0\0\0\0\0\0\0\0\0\0\0\0\0\0\0\0\0\0\0\0\0\0\0\0\0\01\0\0\0\0\0\0\x01A\x5d\x7e\x7e\x01\x02\0\x10345678\0\x01ef797c8118f02dfbD\x7e\x7e\x02\0\0\x1c345678\0\x02\0\0\0\0\0\0\0\0\0\0\0\0\0\0\0\0\0\0\0\0\0\0\0\0\0\0\0\0\x17\x7e";
-
-fn one(rt: &impl Abort, alloc: Global, octets: &[u8]) -> Seq<Octets> {
+pub(crate) fn one(rt: &impl Abort, alloc: Global, octets: &[u8]) -> Seq<Octets> {
     let octets = Vec::from_slice(alloc, octets).expect(rt, "there is memory");
     let mut list = Seq::new(alloc);
     list.push(Octets::from_vec(octets))
@@ -29,16 +21,17 @@ fn one(rt: &impl Abort, alloc: Global, octets: &[u8]) -> Seq<Octets> {
     list
 }
 
-fn secret(rt: &impl Abort, alloc: Global) -> Octets {
+pub(crate) fn secret(rt: &impl Abort, alloc: Global) -> Octets {
     let octets = Vec::from_slice(alloc, b"12").expect(rt, "there is memory");
     Octets::from_vec(octets)
 }
 
-// A hub whose fleet has the plate `A` and the terminal id `1`, and whose secret is 3132.
+// A hub over this keeper, whose fleet has the plate `A` and the terminal id `1`, and whose secret is 3132.
 fn new_hub<'w, R: Abort + Wait>(
     rt: &'w R,
     alloc: Global,
     watch: &'w Watch<Counting>,
+    keeper: MemKeeper,
 ) -> Hub<MemKeeper, Witnessed<'w, R, Counting>>
     ensures { result.history ≡ [] }
 {
@@ -46,32 +39,68 @@ fn new_hub<'w, R: Abort + Wait>(
         plates: one(rt, alloc, b"A"),
         terminals: one(rt, alloc, b"1"),
     };
-    let keeper = MemKeeper::new(alloc, 1000, Seq::new(alloc));
     let journal = Witnessed::of(rt, watch);
     Hub::begin_with(alloc, keeper, fleet, secret(rt, alloc), journal)
         .ok()
         .expect(rt, "there is memory")
 }
 
-// Serves what comes at a door of these steps. Tells how it ended, and whether the hub came back.
+// Serves what comes at the door over this keeper, which it gives back. Tells how it ended.
+fn serve_door<R: Threads + Wait + Clock + Sync + Abort>(
+    rt: &R,
+    alloc: Global,
+    limits: Limits,
+    door: &mut Steps<R>,
+    watch: &Watch<Counting>,
+    keeper: MemKeeper,
+) -> (ServiceEnd, MemKeeper) {
+    let hub = new_hub(rt, alloc, watch, keeper);
+    let (end, hub) = serve_on(rt, alloc, door, hub, limits, watch);
+    let hub = hub.expect(rt, "all passes came back");
+    (end, hub.into_keeper())
+}
+
+// Serves at a door of these steps, run after run, each of which ends so.
 fn serve_steps<R: Threads + Wait + Clock + Sync + Abort>(
     rt: &R,
     alloc: Global,
     limits: Limits,
     steps: &'static [Step],
     watch: &Watch<Counting>,
-) -> (ServiceEnd, bool) {
-    let hub = new_hub(rt, alloc, watch);
-    let door = Steps {
+    ended: Arc<AtomicBool>,
+    failing: Seq<u64>,
+    ends: &[ServiceEnd],
+) {
+    let mut keeper = MemKeeper::new(alloc, 1000, failing);
+    let mut door = Steps {
         rt,
         watch,
+        ends: ended,
         steps,
         done: 0,
     };
-    let (end, hub) = serve_on(rt, alloc, door, hub, limits, watch);
-    let came_back = hub.is_some();
-    drop(hub);
-    (end, came_back)
+    for wanted in ends {
+        let (end, back) = serve_door(rt, alloc, limits, &mut door, watch, keeper);
+        assert!(rt; end == *wanted);
+        keeper = back;
+    }
+}
+
+// What is told of runs that end so, where these calls of the keeper fail, counted from 1.
+fn told_of<R: Threads + Wait + Clock + Sync + Abort>(
+    rt: &R,
+    alloc: Global,
+    limits: Limits,
+    steps: &'static [Step],
+    failing: Seq<u64>,
+    ends: &[ServiceEnd],
+) -> Counting {
+    let stopped = Arc::new(alloc, AtomicBool::new(false)).expect(rt, "there is memory");
+    let ended = Arc::new(alloc, AtomicBool::new(false)).expect(rt, "there is memory");
+    let other = ended.clone().expect(rt, "there is memory");
+    let watch = Watch::new(alloc, NOTHING, stopped, other);
+    serve_steps(rt, alloc, limits, steps, &watch, ended, failing, ends);
+    watch.into_told()
 }
 
 fn served_so<R: Threads + Wait + Clock + Sync + Abort>(
@@ -81,11 +110,7 @@ fn served_so<R: Threads + Wait + Clock + Sync + Abort>(
     steps: &'static [Step],
     end: ServiceEnd,
 ) -> Counting {
-    let stops = Arc::new(alloc, AtomicBool::new(false)).expect(rt, "there is memory");
-    let watch = Watch::new(alloc, NOTHING, stops);
-    let ended = serve_steps(rt, alloc, limits, steps, &watch);
-    assert!(rt; ended == (end, true));
-    watch.into_told()
+    told_of(rt, alloc, limits, steps, Seq::new(alloc), &[end])
 }
 
 // A link that stays is quiet as often as it is read, and these seconds are no seconds.
@@ -95,6 +120,14 @@ fn limits(links: u32) -> Limits {
         quiet: 1 << 40,
         strangers: links,
         ..Limits::of(links)
+    }
+}
+
+// The present moment in milliseconds; 0 where the clock can't be read.
+fn moment<R: Clock>(rt: &R) -> u64 {
+    match rt.monotonic() {
+        Ok(since) => u64::try_from(since.as_millis()).unwrap_or(u64::MAX),
+        Err(_) => 0,
     }
 }
 
@@ -153,6 +186,7 @@ fn numbers_are_spent(rt: HostRuntime) {
     let told = served_so(&rt, rt.alloc(), limits, steps, ServiceEnd::NumbersSpent);
     assert!(rt; is_served(&told, 7, 28));
     assert!(rt; told.let_in == 1);
+    assert!(rt; told.renewed >= 1);
 }
 
 // An accept that fails ends nothing.
@@ -228,14 +262,15 @@ fn strangers(rt: HostRuntime) {
     assert!(rt; told == wanted);
 }
 
-// A stranger who came a second ago makes place for a newer one, or, where all places are taken, for one to come.
+// A stranger who came a second ago makes place for one to come.
 #[test]
 fn newer_strangers(rt: HostRuntime) {
     let steps: &[Step] = &[
         Step::Links(2, HEARTBEAT, true, 100),
         Step::Seconds(1),
         Step::Links(1, HEARTBEAT, true, 100),
-        Step::Open(1),
+        Step::Open(0),
+        Step::Links(1, HEARTBEAT, true, 100),
         Step::Stops,
     ];
     let one = Limits {
@@ -244,9 +279,21 @@ fn newer_strangers(rt: HostRuntime) {
     };
     let told = served_so(&rt, rt.alloc(), one, steps, ServiceEnd::Stopped);
     assert!(rt; is_served(&told, 2, 3));
-    assert!(rt; told.crowded == 1);
+    assert!(rt; told.crowded == 2);
     assert!(rt; told.replaced == 1);
     assert!(rt; told.stopped == 1);
+}
+
+// Links of one address, and links where all places are taken.
+#[test]
+fn no_place(rt: HostRuntime) {
+    let steps: &[Step] = &[
+        Step::Links(2, HEARTBEAT, true, 100),
+        Step::Seconds(1),
+        Step::Links(1, HEARTBEAT, true, 100),
+        Step::Open(1),
+        Step::Stops,
+    ];
     let of_address = Limits {
         strangers_of_address: Some(1),
         ..limits(4)
@@ -310,4 +357,74 @@ fn other_ends(rt: HostRuntime) {
         ..STAYED
     };
     assert!(rt; told == wanted);
+}
+
+// A run that is to begin anew ends its links, and the next one serves over the same keeper: the terminal's unit is a repeat there.
+#[test]
+fn a_run_anew(rt: HostRuntime) {
+    let steps: &[Step] = &[
+        Step::Links(1, TERMINAL, true, 1),
+        Step::LetIn(1),
+        Step::Seconds(1),
+        Step::Renews,
+        Step::Links(1, TERMINAL, true, 1),
+        Step::LetIn(1),
+        Step::Seconds(1),
+        Step::Stops,
+    ];
+    let ends = &[ServiceEnd::Renewed, ServiceEnd::Stopped];
+    let none = Seq::new(rt.alloc());
+    let told = told_of(&rt, rt.alloc(), limits(2), steps, none, ends);
+    let wanted = Counting {
+        began: 2,
+        numbers: 2,
+        ended: 2,
+        ended_numbers: 2,
+        phones: 2,
+        renewed: 1,
+        read: 254,
+        written: 148,
+        let_in: 2,
+        ..STAYED
+    };
+    assert!(rt; told == wanted);
+}
+
+// A session that ends by a store fault ends its run, and all links with it. The next run goes on.
+#[test]
+fn a_store_that_fails(rt: HostRuntime) {
+    let steps: &[Step] = &[
+        Step::Links(1, HEARTBEAT, true, 2),
+        Step::Links(1, TERMINAL, true, 2),
+        Step::Open(0),
+        Step::Links(1, TERMINAL, true, 1),
+        Step::LetIn(1),
+        Step::Seconds(1),
+        Step::Stops,
+    ];
+    let mut failing = Seq::new(rt.alloc());
+    failing.push(1).expect(&rt, "there is memory");
+    let ends = &[ServiceEnd::StoreFailed, ServiceEnd::Stopped];
+    let told = told_of(&rt, rt.alloc(), limits(2), steps, failing, ends);
+    assert!(rt; is_served(&told, 3, 4));
+    assert!(rt; told.faults == 1);
+    assert!(rt; told.store_failed == 1);
+    assert!(rt; told.let_in == 1);
+    assert!(rt; told.stored == 1);
+    assert!(rt; told.stopped == 1);
+}
+
+// A link whose other end does not read ends soon where all links are to end: its write fails, so it is no cut of the service's.
+#[test]
+fn who_does_not_read(rt: HostRuntime) {
+    let stops: &[Step] = &[Step::Deaf(HEARTBEAT), Step::Seconds(1), Step::Stops];
+    let renews: &[Step] = &[Step::Deaf(HEARTBEAT), Step::Seconds(1), Step::Renews];
+    for (steps, end) in [(stops, ServiceEnd::Stopped), (renews, ServiceEnd::Renewed)] {
+        let began = moment(&rt);
+        let told = served_so(&rt, rt.alloc(), limits(2), steps, end);
+        assert!(rt; is_served(&told, 1, 1));
+        assert!(rt; told.read == 15);
+        assert!(rt; told.written == 0);
+        assert!(rt; moment(&rt).saturating_sub(began) < 5_000);
+    }
 }

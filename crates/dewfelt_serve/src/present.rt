@@ -1,0 +1,99 @@
+//! The present fleet and the store, as the threads of a service share them.
+
+use dewfelt_commands::Stores;
+use dewfelt_fleet::{Change, Fleet, read_fleet};
+use dewfelt_keeper::Registry;
+use jt_store::{Registrations, StoreError};
+use jt_value::{Phone, Seq};
+use std::alloc::Global;
+use std::sync::{Arc, Mutex, Wait};
+
+/// The present fleet and the store, as the threads of a service share them.
+#[derive(Drop)]
+pub struct Present<K> {
+    // The text of the fleet, in which no line is bad.
+    text: Vec<u8>,
+    // Where registrations are kept, while the store is open.
+    registry: Option<Arc<Mutex<Registry<K>>>>,
+}
+
+impl<K: Registrations + Drop> Present<K> {
+    /// A fleet of this text, in which no line is bad, over a store that is not open.
+    pub(crate) fn of(text: Vec<u8>) -> Present<K> {
+        Present {
+            text,
+            registry: None,
+        }
+    }
+
+    /// The text of the fleet.
+    pub(crate) fn text(&self) -> &[u8] {
+        self.text.as_slice()
+    }
+
+    // The fleet of the text.
+    fn fleet(&self, alloc: Global) -> Result<Fleet, StoreError> {
+        match read_fleet(alloc, self.text.as_slice()) {
+            Ok(fleet) => Ok(fleet),
+            Err(_) => Err(StoreError::Memory),
+        }
+    }
+
+    /// Takes a newer fleet, of this text. Registrations that it does not allow are removed, where the store is open, and their phones
+    /// put behind those that are `forgotten`. Answers what changed. After an error it is to be taken again.
+    pub(crate) fn take<R: Wait>(
+        &mut self,
+        rt: &R,
+        alloc: Global,
+        fleet: Fleet,
+        text: Vec<u8>,
+        forgotten: &mut Seq<Phone>,
+    ) -> Result<Change, StoreError> {
+        let change = Change::between(&self.fleet(alloc)?, &fleet);
+        if let Some(registry) = &self.registry {
+            registry.lock(rt).apply(alloc, fleet, forgotten)?;
+        }
+        self.text = text;
+        Ok(change)
+    }
+
+    /// The registry, where the store is open.
+    pub(crate) fn registry(&self) -> Option<&Mutex<Registry<K>>> {
+        match &self.registry {
+            Some(registry) => Some(&**registry),
+            None => None,
+        }
+    }
+
+    /// The registry for a hub, where the store is open.
+    pub(crate) fn shared(&self) -> Result<Arc<Mutex<Registry<K>>>, StoreError> {
+        match &self.registry {
+            Some(registry) => Ok(registry.clone()?),
+            None => Err(StoreError::Failed),
+        }
+    }
+
+    /// Opens the store, where it is not open, and removes the registrations that the fleet does not allow. Answers how many.
+    pub(crate) fn open<S: Stores<Keeper = K>>(
+        &mut self,
+        alloc: Global,
+        stores: &S,
+        path: &str,
+    ) -> Result<usize, StoreError> {
+        if self.registry.is_some() {
+            return Ok(0);
+        }
+        let fleet = self.fleet(alloc)?;
+        let nobody = Fleet::new(alloc, Seq::new(alloc));
+        let mut registry = Registry::new(stores.at(path)?, nobody);
+        let mut forgotten = Seq::new(alloc);
+        registry.apply(alloc, fleet, &mut forgotten)?;
+        self.registry = Some(Arc::new(alloc, Mutex::new(registry))?);
+        Ok(forgotten.len())
+    }
+
+    /// Closes the store.
+    pub(crate) fn close(&mut self) {
+        drop(self.registry.take());
+    }
+}

@@ -1,0 +1,92 @@
+//! Lines of what a service does by itself.
+
+use crate::Told;
+use crate::ground::Ground;
+use dewfelt_fleet::BadLine;
+use dewfelt_settings::Settings;
+use std::time::Clock;
+
+/// The service starts, with these settings.
+pub(crate) fn say_start<T: Clock + Drop>(told: &mut Told<T>, settings: &Settings) {
+    let mut line = told.line("start");
+    line.text("version", "0.1.0");
+    line.address("listen", settings.listen);
+    line.number("links", settings.links.number as u64);
+    line.number("quiet", settings.quiet.number as u64);
+    line.number("strangers", settings.strangers.number as u64);
+    match settings.strangers_of_address {
+        Some(count) => line.number("strangers_of_address", count.number as u64),
+        None => line.text("strangers_of_address", "none"),
+    }
+    line.text("http", "none");
+    told.put(line);
+}
+
+/// The store is open, which took so long, for a hub of this ground.
+pub(crate) fn say_opened<T: Clock + Drop, P>(
+    told: &mut Told<T>,
+    ground: &Ground<P>,
+    milliseconds: u64,
+) {
+    let mut line = told.line("opened");
+    line.number("vehicles", ground.vehicles as u64);
+    line.number("plates", ground.fleet.plates.len() as u64);
+    line.number("terminals", ground.fleet.terminals.len() as u64);
+    line.number("forgotten", ground.forgotten as u64);
+    line.number("milliseconds", milliseconds);
+    told.put(line);
+}
+
+/// Links are accepted from now on.
+pub(crate) fn say_listening<T: Clock + Drop>(told: &mut Told<T>, settings: &Settings) {
+    let mut line = told.line("listening");
+    line.address("at", settings.listen);
+    told.put(line);
+}
+
+/// What a newer fleet has, and what came of it.
+#[derive(Clone, Copy)]
+pub(crate) struct FleetTaken {
+    /// How many vehicles are bound, and how many other plates and terminal ids there are.
+    pub(crate) vehicles: usize,
+    pub(crate) plates: usize,
+    pub(crate) terminals: usize,
+    /// How many phones are registered no more.
+    pub(crate) forgotten: usize,
+    /// Whether the service begins anew.
+    pub(crate) renews: bool,
+    /// Whether its secret is another one, which is taken at the next start.
+    pub(crate) has_new_secret: bool,
+}
+
+fn yes(is_so: bool) -> &'static str {
+    if is_so { "yes" } else { "no" }
+}
+
+/// A newer fleet was taken.
+pub(crate) fn say_fleet<T: Clock + Drop>(told: &mut Told<T>, taken: FleetTaken) {
+    let mut line = told.line("fleet");
+    line.text("result", "taken");
+    line.number("vehicles", taken.vehicles as u64);
+    line.number("plates", taken.plates as u64);
+    line.number("terminals", taken.terminals as u64);
+    line.number("forgotten", taken.forgotten as u64);
+    line.text("renews", yes(taken.renews));
+    if taken.has_new_secret {
+        line.text("secret", "changed: it is taken at the next start");
+    }
+    told.put(line);
+}
+
+/// A line of the file of the fleet is bad, and the fleet stays as it was.
+pub(crate) fn say_bad_fleet<T: Clock + Drop>(told: &mut Told<T>, bad: &BadLine) {
+    let mut line = told.line("fleet");
+    line.text("result", "bad");
+    line.number("line", bad.number);
+    line.text("text", bad.text.as_str());
+    let expected = bad.expected;
+    if let Ok(text) = format!(in told.alloc(); "{expected}") {
+        line.text("expected", text.as_str());
+    }
+    told.put(line);
+}

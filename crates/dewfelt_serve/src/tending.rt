@@ -1,0 +1,180 @@
+//! The chores over a folder: its fleet is read again where it changed, and commands are answered.
+
+use crate::Told;
+use crate::chores::Chores;
+use crate::desk::Desk;
+use crate::fleet_file::FleetFile;
+use crate::folder::path_in;
+use crate::present::Present;
+use crate::saying::{FleetTaken, say_bad_fleet, say_fleet};
+use dewfelt_commands::Clerk;
+use dewfelt_fleet::{Fleet, NoFleet, read_fleet};
+use jt_service::Watch;
+use jt_store::{Registrations, StoreError};
+use jt_value::{Phone, Seq};
+use std::alloc::AllocError;
+use std::rt::Files;
+use std::sync::{Arc, Mutex, Wait};
+use std::time::Clock;
+
+/// Tends a folder while a service runs over it.
+#[derive(Drop)]
+pub struct Tending<F, K> {
+    files: F,
+    store: String,
+    fleet: FleetFile,
+    clerk: Clerk,
+    present: Arc<Mutex<Present<K>>>,
+    // The phones that were forgotten at the last look. One of them may have been let in just then, so that their links end once more.
+    forgotten: Seq<Phone>,
+    // Whether the file of the fleet was read.
+    has_read: bool,
+    // Whether it was said that a fleet can't be taken, or that commands can't be answered.
+    is_fault_said: bool,
+    is_folder_said: bool,
+}
+
+impl<F, K> Tending<F, K>
+where
+    F: Files + AllocGlobal + Clone + Drop,
+    K: Registrations + Drop,
+{
+    /// Tends the folder, by this clerk.
+    pub fn of(
+        files: F,
+        folder: &str,
+        clerk: Clerk,
+        present: Arc<Mutex<Present<K>>>,
+    ) -> Result<Tending<F, K>, AllocError> {
+        let alloc = files.alloc();
+        Ok(Tending {
+            store: path_in(alloc, folder, "platform.db")?,
+            fleet: FleetFile::new(path_in(alloc, folder, "fleet")?),
+            files,
+            clerk,
+            present,
+            forgotten: Seq::new(alloc),
+            has_read: false,
+            is_fault_said: false,
+            is_folder_said: false,
+        })
+    }
+
+    // Ends the links of those that were forgotten.
+    fn dismiss<R: Wait, T: Clock + Drop>(&self, rt: &R, watch: &Watch<Told<T>>) {
+        for phone in self.forgotten.as_slice() {
+            watch.dismiss(rt, phone);
+        }
+    }
+
+    // The text is that of the present fleet. The first look at the file, which was read at the start, says nothing of that.
+    fn is_same<R: Wait, T: Clock + Drop>(
+        &mut self,
+        rt: &R,
+        watch: &Watch<Told<T>>,
+        text: &[u8],
+    ) -> bool {
+        let is_same = self.present.lock(rt).text() == text;
+        if is_same && self.has_read {
+            watch.told().lock(rt).say("fleet", "result", "same");
+        }
+        self.has_read = true;
+        is_same
+    }
+
+    // The fleet could not be taken, for want of memory or by a store fault: it is tried again.
+    fn fleet_failed<R: Wait, T: Clock + Drop>(&mut self, rt: &R, watch: &Watch<Told<T>>) {
+        self.fleet.forget();
+        if !self.is_fault_said {
+            watch.told().lock(rt).say("fleet", "result", "fault");
+        }
+        self.is_fault_said = true;
+    }
+
+    fn take_fleet<R: Wait, T: Clock + Drop>(
+        &mut self,
+        rt: &R,
+        watch: &Watch<Told<T>>,
+        fleet: Fleet,
+        text: Vec<u8>,
+    ) {
+        let (vehicles, plates, terminals) = fleet.counts();
+        let alloc = self.files.alloc();
+        let mut present = self.present.lock(rt);
+        let change = present.take(rt, alloc, fleet, text, &mut self.forgotten);
+        let is_open = present.registry().is_some();
+        drop(present);
+        self.dismiss(rt, watch);
+        let Ok(change) = change else {
+            self.fleet_failed(rt, watch);
+            return;
+        };
+        self.is_fault_said = false;
+        let taken = FleetTaken {
+            vehicles,
+            plates,
+            terminals,
+            forgotten: self.forgotten.len(),
+            renews: is_open && change.names,
+            has_new_secret: change.secret,
+        };
+        say_fleet(&mut watch.told().lock(rt), taken);
+        if taken.renews {
+            watch.renew();
+        }
+    }
+
+    fn take_text<R: Wait, T: Clock + Drop>(
+        &mut self,
+        rt: &R,
+        watch: &Watch<Told<T>>,
+        text: Vec<u8>,
+    ) {
+        if self.is_same(rt, watch, text.as_slice()) {
+            return;
+        }
+        match read_fleet(self.files.alloc(), text.as_slice()) {
+            Ok(fleet) => self.take_fleet(rt, watch, fleet, text),
+            Err(NoFleet::Bad(bad)) => say_bad_fleet(&mut watch.told().lock(rt), &bad),
+            Err(NoFleet::Memory) => self.fleet_failed(rt, watch),
+        }
+    }
+
+    // Answers the commands that wait.
+    fn answer<R: Wait, T: Clock + Drop>(&mut self, rt: &R, watch: &Watch<Told<T>>) {
+        let mut desk = Desk {
+            rt,
+            files: &self.files,
+            store: self.store.as_str(),
+            present: &self.present,
+            watch,
+        };
+        match self.clerk.look(&self.files, &mut desk) {
+            Ok(()) => self.is_folder_said = false,
+            Err(error) => {
+                if !self.is_folder_said {
+                    watch.told().lock(rt).say_error("commands", &error);
+                }
+                self.is_folder_said = true;
+            }
+        }
+    }
+}
+
+impl<F, K, T> Chores<T> for Tending<F, K>
+where
+    F: Files + AllocGlobal + Clone + Drop,
+    K: Registrations + Drop,
+    T: Clock + Drop,
+{
+    fn look<R: Wait>(&mut self, rt: &R, watch: &Watch<Told<T>>) {
+        self.dismiss(rt, watch);
+        self.forgotten = Seq::new(self.files.alloc());
+        match self.fleet.look(&self.files) {
+            Some(Ok(text)) => self.take_text(rt, watch, text),
+            Some(Err(error)) => watch.told().lock(rt).say_error("fleet", &error),
+            None => {}
+        }
+        self.answer(rt, watch);
+    }
+}

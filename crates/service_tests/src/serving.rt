@@ -1,0 +1,343 @@
+//! A service over stores, links and lines in memory.
+
+ghost use Rattle.std.specs.Prelude.{◌≡◌, ◌<◌, None, length};
+ghost use Rattle.jt_outside.specs.Sink.{TakesOctets, WriteHasCause};
+
+use crate::links::{TERMINAL, TestLink, peer};
+use crate::rows::{one, secret};
+use dewfelt_serve::{Chores, Flags, Ground, HasGround, Service, Status, Told, serve};
+use dewfelt_settings::{Choices, Count, Settings};
+use jt_outside::{Put, Sink};
+use jt_platform::Fleet;
+use jt_service::{Arrived, Door, Watch};
+use jt_store::{MemKeeper, StoreError};
+use jt_value::{Octets, Seq};
+use std::alloc::Global;
+use std::marker::Model;
+use std::process::Abort;
+use std::sync::atomic::{AtomicBool, Ordering};
+use std::sync::{Arc, Mutex, Wait};
+use std::thread::Threads;
+use std::time::Clock;
+
+/// The lines of a service.
+#[derive(Drop)]
+struct Lines {
+    octets: Mutex<Vec<u8>>,
+}
+
+impl Lines {
+    // How often a text stands in the lines.
+    fn count<R: Wait>(&self, rt: &R, text: &str) -> usize {
+        let octets = self.octets.lock(rt);
+        octets
+            .as_slice()
+            .windows(text.len().max(1))
+            .filter(|window| *window == text.as_bytes())
+            .count()
+    }
+}
+
+/// Takes lines.
+#[derive(Drop)]
+struct Taker<'w, R> {
+    rt: &'w R,
+    lines: &'w Lines,
+    faults: u64,
+}
+
+impl<'w, R> Model for Taker<'w, R> {
+    ghost use Rattle.std.specs.Prelude.{◌≤◌, ◌-◌, ◌^◌, ℕ};
+
+    ghost Value = { ℕ };
+
+    ghost view = { λ taker. taker.faults };
+
+    ghost invariant = { λ taker. taker.faults ≤ 2 ^ 64 - 1 };
+}
+
+impl<'w, R: Wait> Sink for Taker<'w, R> {
+    ghost written = { λ _. None };
+
+    ghost faults = { λ taker. taker };
+
+    fn write(&mut self, buf: &[u8]) -> Put
+        requires { 0 < length buf.now }
+        ensures octets { TakesOctets None None result buf.now }
+        ensures cause { WriteHasCause self.old self.new result }
+    {
+        match self.lines.octets.lock(self.rt).extend_from_slice(buf) {
+            Ok(()) => Put::Count(buf.len()),
+            Err(_) => {
+                self.faults = self.faults.saturating_add(1);
+                Put::Failed
+            }
+        }
+    }
+}
+
+/// What a door does next.
+#[derive(Clone, Copy)]
+enum Act {
+    /// The terminal's link comes, and stays.
+    Terminal,
+    /// It waits until this text stands so often in the lines.
+    Said(&'static str, usize),
+    /// The service is stopped.
+    Stops,
+}
+
+/// A door of these acts, behind which no link comes.
+#[derive(Drop)]
+struct Acts<'w, R> {
+    rt: &'w R,
+    lines: &'w Lines,
+    stops: Arc<AtomicBool>,
+    acts: &'static [Act],
+}
+
+impl<'w, R: Wait + Clock> Acts<'w, R> {
+    fn act(&mut self, act: Act) -> Arrived<TestLink<'w, R>> {
+        match act {
+            Act::Terminal => Arrived::Link(TestLink::slow(TERMINAL, self.rt), Some(peer())),
+            Act::Said(_, _) => Arrived::Nobody,
+            Act::Stops => {
+                self.stops.store(true, Ordering::SeqCst);
+                Arrived::Nobody
+            }
+        }
+    }
+
+    fn is_ready(&self, act: Act) -> bool {
+        match act {
+            Act::Said(text, count) => self.lines.count(self.rt, text) >= count,
+            Act::Terminal | Act::Stops => true,
+        }
+    }
+}
+
+impl<'w, R: Wait + Clock> Door for Acts<'w, R> {
+    type Link = TestLink<'w, R>;
+
+    fn next(&mut self) -> Arrived<TestLink<'w, R>> {
+        let Some((act, rest)) = self.acts.split_first() else {
+            return Arrived::Nobody;
+        };
+        if !self.is_ready(*act) {
+            return Arrived::Nobody;
+        }
+        self.acts = rest;
+        self.act(*act)
+    }
+}
+
+/// What becomes of an opening of the store.
+#[derive(Clone, Copy)]
+enum Opening {
+    Fails,
+    /// It opens, and the first call of the keeper fails then.
+    FailsLater,
+    Opens,
+}
+
+/// Stores that are opened so, one after another. The fleet has the plate `A` and the terminal id `1`, and the secret is 3132.
+#[derive(Drop)]
+struct Openings {
+    fleet: Fleet,
+    secret: Octets,
+    openings: &'static [Opening],
+}
+
+impl Openings {
+    fn ground(&self, alloc: Global, failing: Seq<u64>) -> Result<Ground<MemKeeper>, StoreError> {
+        Ok(Ground {
+            keeper: MemKeeper::new(alloc, 1000, failing),
+            fleet: Fleet {
+                plates: self.fleet.plates.copy(alloc)?,
+                terminals: self.fleet.terminals.copy(alloc)?,
+            },
+            secret: self.secret.copy(alloc)?,
+            vehicles: 0,
+            forgotten: 0,
+        })
+    }
+}
+
+impl HasGround for Openings {
+    type Keeper = MemKeeper;
+
+    fn next(&mut self, alloc: Global) -> Result<Ground<MemKeeper>, StoreError> {
+        let Some((opening, rest)) = self.openings.split_first() else {
+            return Err(StoreError::Failed);
+        };
+        self.openings = rest;
+        let mut failing = Seq::new(alloc);
+        match opening {
+            Opening::Fails => return Err(StoreError::Failed),
+            Opening::FailsLater => failing.push(1)?,
+            Opening::Opens => {}
+        }
+        self.ground(alloc, failing)
+    }
+
+    fn let_go(&mut self) {}
+}
+
+/// Has the service begin anew once this text stands in the lines.
+#[derive(Drop)]
+struct Renews<'w> {
+    lines: &'w Lines,
+    text: &'static str,
+    is_done: bool,
+}
+
+impl<'w, T: Clock + Drop> Chores<T> for Renews<'w> {
+    fn look<R: Wait>(&mut self, rt: &R, watch: &Watch<Told<T>>) {
+        if !self.is_done && self.lines.count(rt, self.text) > 0 {
+            self.is_done = true;
+            watch.renew();
+        }
+    }
+}
+
+fn flag(rt: &impl Abort, alloc: Global) -> Arc<AtomicBool> {
+    Arc::new(alloc, AtomicBool::new(false)).expect(rt, "there is memory")
+}
+
+fn settings() -> Settings {
+    let mut choices = Choices::none();
+    choices.links = Count::of(2);
+    Settings::of(&choices, &Choices::none())
+}
+
+// Serves by these acts over a store that opens so, and begins anew once this text is said. The lines are said meanwhile.
+fn serve_acts<R, T>(
+    rt: &R,
+    alloc: Global,
+    clock: T,
+    lines: &Lines,
+    acts: &'static [Act],
+    openings: &'static [Opening],
+    renews: &'static str,
+) -> Status
+where
+    R: Threads + Wait + Clock + Sync + Abort,
+    T: Clock + Send + Drop,
+{
+    let flags = Flags {
+        stops: flag(rt, alloc),
+        ends: flag(rt, alloc),
+    };
+    let stops = flags.stops.clone().expect(rt, "there is memory");
+    let service = Service {
+        door: Acts {
+            rt,
+            lines,
+            stops,
+            acts,
+        },
+        ground: Openings {
+            fleet: Fleet {
+                plates: one(rt, alloc, b"A"),
+                terminals: one(rt, alloc, b"1"),
+            },
+            secret: secret(rt, alloc),
+            openings,
+        },
+        chores: Renews {
+            lines,
+            text: renews,
+            is_done: false,
+        },
+        sink: Taker {
+            rt,
+            lines,
+            faults: 0,
+        },
+        told: Told::new(alloc, clock).expect(rt, "there is memory"),
+    };
+    serve(rt, alloc, service, &settings(), flags)
+}
+
+fn served_so<R, T>(
+    rt: &R,
+    alloc: Global,
+    clock: T,
+    acts: &'static [Act],
+    openings: &'static [Opening],
+    renews: &'static str,
+    wanted: &[(&str, usize)],
+)
+where
+    R: Threads + Wait + Clock + Sync + Abort,
+    T: Clock + Send + Drop,
+{
+    let lines = Lines {
+        octets: Mutex::new(Vec::new(alloc)),
+    };
+    let status = serve_acts(rt, alloc, clock, &lines, acts, openings, renews);
+    assert!(rt; status.number() == 0);
+    for (text, count) in wanted {
+        assert!(rt; lines.count(rt, text) == *count);
+    }
+}
+
+// A store that does not open at the start, and one that fails later, are opened again, ten seconds after they were tried last.
+#[test]
+fn a_store_is_tried_again(rt: HostRuntime) {
+    let acts: &[Act] = &[
+        Act::Terminal,
+        Act::Said(" event=fault serving=failed\n", 1),
+        Act::Terminal,
+        Act::Said(" event=let_in ", 1),
+        Act::Stops,
+    ];
+    let openings: &[Opening] = &[Opening::Fails, Opening::FailsLater, Opening::Opens];
+    let wanted: &[(&str, usize)] = &[
+        (" event=start version=0.1.0 listen=0.0.0.0:8808 links=2 ", 1),
+        (" event=fault opening=failed\n", 1),
+        (" event=opened ", 2),
+        (" event=listening ", 2),
+        (
+            " event=session session=1 peer=127.0.0.1:41022 end=store-fault ",
+            1,
+        ),
+        (" event=let_in session=2 phone=333435363738\n", 1),
+        (" event=session session=2 ", 1),
+        (" end=stopped ", 1),
+        (" event=end why=stopped\n", 1),
+    ];
+    let clock = rt.clone().expect(&rt, "there is memory");
+    served_so(&rt, rt.alloc(), clock, acts, openings, "never", wanted);
+}
+
+// A service begins anew beside its clerk, and sessions are counted on.
+#[test]
+fn a_service_begins_anew(rt: HostRuntime) {
+    let acts: &[Act] = &[
+        Act::Terminal,
+        Act::Said(" event=renewed why=fleet\n", 1),
+        Act::Terminal,
+        Act::Said(" event=let_in ", 2),
+        Act::Stops,
+    ];
+    let openings: &[Opening] = &[Opening::Opens, Opening::Opens];
+    let wanted: &[(&str, usize)] = &[
+        (" event=opened ", 1),
+        (" event=listening ", 2),
+        (" event=let_in session=1 phone=333435363738\n", 1),
+        (" end=renewed ", 1),
+        (" event=let_in session=2 phone=333435363738\n", 1),
+        (" end=stopped ", 1),
+    ];
+    let clock = rt.clone().expect(&rt, "there is memory");
+    served_so(
+        &rt,
+        rt.alloc(),
+        clock,
+        acts,
+        openings,
+        " event=let_in ",
+        wanted,
+    );
+}
