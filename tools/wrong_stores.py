@@ -19,7 +19,7 @@ import tempfile
 ROOT = os.path.dirname(os.path.dirname(os.path.realpath(__file__)))
 CRATES = ("jt_value", "jt_layout", "jt_position", "jt_store", "jt_relay", "jt_store_answers", "jt_sql", "store_tests", "sql_tests")
 MODULES = ("connections", "files")
-TESTS = ("keeper_tests", "table_tests", "vault_tests")
+TESTS = ("keeper_tests", "left_tests", "table_tests", "vault_tests")
 # The file, what stands there once, and what is put in its place.
 WRONG = {
     "two rows in place of one": (
@@ -86,6 +86,16 @@ WRONG = {
         "jt_sql/src/registrations.rt",
         "DO UPDATE SET plate = excluded.plate, terminal = excluded.terminal",
         "DO UPDATE SET terminal = excluded.terminal",
+    ),
+    "rows that left, of a table that has no number of them": (
+        "jt_sql/src/rows.rt",
+        "    has_row(work, LEFT, params![phone, number])\n",
+        "    Ok(has_row(work, LEFT, params![phone, number]).unwrap_or(false))\n",
+    ),
+    "rows that left, of a table whose name is in capitals": (
+        "jt_sql/src/rows.rt",
+        "WHERE name = 'left808' COLLATE NOCASE",
+        "WHERE name = 'left808'",
     ),
 }
 

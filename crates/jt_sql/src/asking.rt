@@ -18,17 +18,14 @@ pub(crate) fn one_row<S: Alter>(
     }
 }
 
-/// Whether there is a row that is asked for. A file that lacks the table has none.
+/// Whether there is a row that is asked for.
 pub(crate) fn has_row<S: Alter>(
     work: &mut Transaction<'_, S>,
     sql: &str,
     values: &[ValueRef<'_>],
 ) -> Result<bool, Refused> {
-    match work.query_row(sql, values) {
-        Ok(_) => Ok(true),
-        Err(Error::QueryReturnedNoRows | Error::SqlInputError(_)) => Ok(false),
-        Err(error) => Err(Refused::from(error)),
-    }
+    let row = one_row(work, sql, values)?;
+    Ok(row.is_some())
 }
 
 /// All rows that are asked for.

@@ -37,7 +37,10 @@ const AT: &str = "SELECT number, id, body FROM rows808 WHERE phone = ?1 AND numb
 const FROM: &str =
     "SELECT number, id, body FROM rows808 WHERE phone = ?1 AND number >= ?2 ORDER BY number LIMIT 1";
 
-// Of each phone of which rows were moved into another database (tools/archive.py): the number of the last one of them.
+// Of each phone of which rows were moved into another database (tools/archive.py): the number of the last one of them. A file
+// of which no rows were moved has no such table.
+const LEFT_TABLE: &str = "SELECT 1 FROM sqlite_schema WHERE name = 'left808' COLLATE NOCASE";
+
 const LEFT: &str = "SELECT number FROM left808 WHERE phone = ?1 AND number >= ?2";
 
 const ALL: &str = "SELECT number, id, body FROM rows808 WHERE phone = ?1 ORDER BY number";
@@ -117,10 +120,13 @@ fn have_left<S: Alter>(
     phone: &[u8],
     number: u64,
 ) -> Result<bool, Refused> {
-    match i64::try_from(number) {
-        Ok(number) => has_row(work, LEFT, params![phone, number]),
-        Err(_) => Ok(false),
+    let Ok(number) = i64::try_from(number) else {
+        return Ok(false);
+    };
+    if !has_row(work, LEFT_TABLE, &[])? {
+        return Ok(false);
     }
+    has_row(work, LEFT, params![phone, number])
 }
 
 /// The row of the least number from this one on. It fails where rows from there on were moved into another database: who goes

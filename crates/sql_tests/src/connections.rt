@@ -1,7 +1,36 @@
-//! Connections over tables that a test makes.
+//! Connections over tables that a test makes, and keepers over them. All is generic in where the tables lie.
 
-use sqlite::{Alter, Connection, FileStore, Row};
+use jt_sql::SqlKeeper;
+use sqlite::{Alter, Connection, FileStore, MemStore, Row};
 use sqlite_disk::Disk;
+use std::alloc::Global;
+use store_tests::keeper_calls::{Call, Said, first_wrong};
+
+/// A store of tables in memory.
+pub trait InMemory: Alter + Drop {
+    /// A connection without tables. None where there is no memory.
+    fn connection(alloc: Global) -> Option<Connection<Self>>;
+}
+
+impl InMemory for MemStore {
+    fn connection(alloc: Global) -> Option<Connection<MemStore>> {
+        match Connection::open_in_memory(alloc) {
+            Ok(connection) => Some(connection),
+            Err(_) => None,
+        }
+    }
+}
+
+/// A connection in memory over which these texts were run.
+pub fn made<S: InMemory>(alloc: Global, texts: &[&str]) -> Option<Connection<S>> {
+    let mut connection = S::connection(alloc)?;
+    for text in texts {
+        if !ran(&mut connection, text) {
+            return None;
+        }
+    }
+    Some(connection)
+}
 
 /// Whether a text of statements was run.
 pub fn ran<S: Alter>(connection: &mut Connection<S>, sql: &str) -> bool {
@@ -28,4 +57,26 @@ pub fn filled<D: Disk + Drop>(mut connection: Connection<FileStore<D>>, texts: &
         }
     }
     connection.close().is_ok()
+}
+
+/// The place of the first call that a keeper over the connection does not answer so, and the connection.
+pub fn wrong_over<S: Alter + Drop>(
+    alloc: Global,
+    connection: Connection<S>,
+    calls: &[(Call, Said)],
+) -> (Option<usize>, Connection<S>) {
+    let mut keeper = SqlKeeper::over(connection);
+    let wrong = first_wrong(alloc, &mut keeper, calls);
+    (wrong, keeper.into_connection())
+}
+
+/// Whether a keeper over the connection answers so. The connection is then let go of.
+pub fn answers<S: Alter + Drop>(
+    alloc: Global,
+    connection: Connection<S>,
+    calls: &[(Call, Said)],
+) -> bool {
+    let (wrong, connection) = wrong_over(alloc, connection, calls);
+    drop(connection);
+    wrong == None
 }

@@ -1,8 +1,9 @@
+use crate::connections::{InMemory, wrong_over};
 use crate::files::{make_folder, remove_folder};
 use jt_sql::SqlKeeper;
 use jt_store::{Keeper, MemKeeper, StoreError};
 use jt_value::{Edition, Memory, Phone, Seq};
-use sqlite::{Alter, Connection};
+use sqlite::MemStore;
 use std::alloc::Global;
 use std::test::Fail;
 use store_tests::keeper_calls::{Call, Said, first_wrong};
@@ -102,92 +103,68 @@ const LIVES: [Life; 4] = [
     ],
 ];
 
-// The place of the first call of a life that is not answered so. The keeper is then let go of.
-fn wrong_in<V: Keeper + Drop>(alloc: Global, mut keeper: V, life: Life) -> Option<usize> {
-    let wrong = first_wrong(alloc, &mut keeper, life);
-    drop(keeper);
-    wrong
-}
-
-// The first life over one keeper that goes otherwise, and the place in it.
-fn wrong_life<V: Keeper>(alloc: Global, keeper: &mut V) -> Option<(usize, usize)> {
-    for (number, life) in LIVES.iter().enumerate() {
-        if let Some(place) = first_wrong(alloc, keeper, life) {
-            return Some((number, place));
+// Whether one keeper answers so in all lives.
+fn lives_all<K: Keeper + Drop>(alloc: Global, mut keeper: K) -> bool {
+    for life in LIVES {
+        if first_wrong(alloc, &mut keeper, life).is_some() {
+            return false;
         }
     }
-    None
+    true
 }
 
 #[test]
 fn a_keeper_in_memory_answers_so(rt: HostRuntime) -> Result<(), Fail> {
-    let mut keeper = MemKeeper::new(rt.alloc(), 1_000_000_000, Seq::new(rt.alloc()));
-    let wrong = wrong_life(rt.alloc(), &mut keeper);
-    drop(keeper);
-    assert!(rt; wrong == None);
+    let keeper = MemKeeper::new(rt.alloc(), 1_000_000_000, Seq::new(rt.alloc()));
+    assert!(rt; lives_all(rt.alloc(), keeper));
     Ok(())
 }
 
-fn keeper_in(rt: &HostRuntime, path: &str) -> Result<SqlKeeper<HostRuntime>, Memory> {
+// Whether a keeper answers so in one life. It is then let go of.
+fn lives<K: Keeper + Drop>(alloc: Global, mut keeper: K, life: &[(Call, Said)]) -> bool {
+    first_wrong(alloc, &mut keeper, life) == None
+}
+
+fn keeper_at(rt: &HostRuntime, path: &str) -> Result<SqlKeeper<HostRuntime>, Memory> {
     SqlKeeper::at(rt.clone()?, path)
 }
 
-// The place of the first call of a life over a file that is not answered so.
-fn wrong_in_file(rt: &HostRuntime, path: &str, life: Life) -> Option<usize> {
-    match keeper_in(rt, path) {
-        Ok(keeper) => wrong_in(rt.alloc(), keeper, life),
-        Err(Memory) => Some(life.len()),
+// Whether a keeper over a file answers so.
+fn lives_in_file(rt: &HostRuntime, path: &str, life: &[(Call, Said)]) -> bool {
+    match keeper_at(rt, path) {
+        Ok(keeper) => lives(rt.alloc(), keeper, life),
+        Err(_) => false,
     }
 }
 
-// The first life over a file that goes otherwise, and the place in it, where each life opens the file anew.
-fn wrong_file(rt: &HostRuntime, path: &str) -> Option<(usize, usize)> {
-    for (number, life) in LIVES.iter().enumerate() {
-        if let Some(place) = wrong_in_file(rt, path, life) {
-            return Some((number, place));
-        }
-    }
-    None
-}
-
+// Each life opens the file anew.
 #[test]
 fn a_keeper_in_a_file_answers_the_same(rt: HostRuntime) -> Result<(), Fail> {
     make_folder(&rt, "keeper_test")?;
-    assert!(rt; wrong_file(&rt, "keeper_test/a.db") == None);
+    for life in LIVES {
+        assert!(rt; lives_in_file(&rt, "keeper_test/a.db", life));
+    }
     remove_folder(&rt, "keeper_test")?;
     Ok(())
 }
 
-// The place of the first call of a life over a connection that is not answered so, and the connection.
-fn wrong_over<S: Alter + Drop>(
-    alloc: Global,
-    connection: Connection<S>,
-    life: Life,
-) -> (Option<usize>, Connection<S>) {
-    let mut keeper = SqlKeeper::over(connection);
-    let wrong = first_wrong(alloc, &mut keeper, life);
-    (wrong, keeper.into_connection())
-}
-
-// The first life over a connection that goes otherwise, and the place in it.
-fn wrong_connection<S: Alter + Drop>(
-    alloc: Global,
-    mut connection: Connection<S>,
-) -> Option<(usize, usize)> {
-    for (number, life) in LIVES.iter().enumerate() {
+// Whether a keeper over a connection in memory answers so in all lives, each of which takes the connection anew.
+fn lives_over<S: InMemory>(alloc: Global) -> bool {
+    let Some(mut connection) = S::connection(alloc) else {
+        return false;
+    };
+    for life in LIVES {
         let (wrong, left) = wrong_over(alloc, connection, life);
-        if let Some(place) = wrong {
-            return Some((number, place));
+        if wrong.is_some() {
+            return false;
         }
         connection = left;
     }
-    None
+    true
 }
 
 #[test]
 fn a_keeper_over_a_connection_answers_the_same(rt: HostRuntime) -> Result<(), Fail> {
-    let connection = Connection::open_in_memory(rt.alloc()).expect(&rt, "memory");
-    let wrong = wrong_connection(rt.alloc(), connection);
-    assert!(rt; wrong == None);
+    assert!(rt; lives_over::<MemStore>(rt.alloc()));
     Ok(())
 }

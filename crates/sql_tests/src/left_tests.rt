@@ -1,11 +1,10 @@
-use crate::connections::ran;
-use jt_sql::SqlKeeper;
+use crate::connections::{InMemory, answers, ran, wrong_over};
 use jt_store::StoreError;
 use jt_value::{Edition, Phone};
-use sqlite::{Alter, Connection};
+use sqlite::MemStore;
 use std::alloc::Global;
 use std::test::Fail;
-use store_tests::keeper_calls::{Call, Said, first_wrong};
+use store_tests::keeper_calls::{Call, Said};
 
 const PHONE: Phone = Phone {
     edition: Edition::E2013,
@@ -25,51 +24,62 @@ const BEFORE: [(Call, Said); 4] = [
     (Call::Append(OTHER, 0, 6), Said::Done),
 ];
 
-// Two rows of the first phone leave the file, as tools/archive.py lets them.
-const LEAVE: &str =
-    "CREATE TABLE left808 (phone BLOB PRIMARY KEY, number INTEGER, rows INTEGER, fixes INTEGER); \
-     INSERT INTO left808 SELECT phone, number, 2, 2 FROM rows808 WHERE number = 5; \
-     DELETE FROM rows808 WHERE number = 2 OR number = 5";
-
-// From a number of these on the rows are not all there. All else is answered from the rows that stayed.
-const AFTER: [(Call, Said); 9] = [
-    (Call::From(PHONE, 0), Said::Refused(StoreError::Failed)),
-    (Call::From(PHONE, 5), Said::Refused(StoreError::Failed)),
-    (Call::From(PHONE, 6), Said::Row(6, 9)),
-    (Call::At(PHONE, 5), Said::Nothing),
-    (Call::At(PHONE, 6), Said::Row(6, 9)),
-    (Call::Last(PHONE), Said::Number(6)),
-    (Call::From(OTHER, 0), Said::Row(0, 6)),
-    (Call::Append(PHONE, 7, 3), Said::Done),
-    (Call::From(PHONE, 7), Said::Row(7, 3)),
+// How two rows of the first phone leave the file, as tools/archive.py lets them, and what is answered then: from a number of these
+// on the rows are not all there, and all else is answered from the rows that stayed. Likewise of a table whose name is in capitals.
+// Where the table lacks the column of numbers, nobody knows which rows left.
+const LEAVES: [(&str, &[(Call, Said)]); 3] = [
+    (
+        "CREATE TABLE left808 (phone BLOB PRIMARY KEY, number INTEGER, rows INTEGER, fixes INTEGER); \
+         INSERT INTO left808 SELECT phone, number, 2, 2 FROM rows808 WHERE number = 5; \
+         DELETE FROM rows808 WHERE number = 2 OR number = 5",
+        &[
+            (Call::From(PHONE, 0), Said::Refused(StoreError::Failed)),
+            (Call::From(PHONE, 5), Said::Refused(StoreError::Failed)),
+            (Call::From(PHONE, 6), Said::Row(6, 9)),
+            (Call::At(PHONE, 5), Said::Nothing),
+            (Call::At(PHONE, 6), Said::Row(6, 9)),
+            (Call::Last(PHONE), Said::Number(6)),
+            (Call::From(OTHER, 0), Said::Row(0, 6)),
+            (Call::Append(PHONE, 7, 3), Said::Done),
+            (Call::From(PHONE, 7), Said::Row(7, 3)),
+        ],
+    ),
+    (
+        "CREATE TABLE LEFT808 (phone BLOB PRIMARY KEY, number INTEGER); \
+         INSERT INTO LEFT808 SELECT phone, number FROM rows808 WHERE number = 2; \
+         DELETE FROM rows808 WHERE number = 2",
+        &[
+            (Call::From(PHONE, 0), Said::Refused(StoreError::Failed)),
+            (Call::From(PHONE, 3), Said::Row(5, 8)),
+        ],
+    ),
+    (
+        "CREATE TABLE left808 (phone BLOB PRIMARY KEY, rows INTEGER, fixes INTEGER)",
+        &[
+            (Call::From(PHONE, 0), Said::Refused(StoreError::Failed)),
+            (Call::From(PHONE, 6), Said::Refused(StoreError::Failed)),
+            (Call::At(PHONE, 6), Said::Row(6, 9)),
+            (Call::Last(PHONE), Said::Number(6)),
+        ],
+    ),
 ];
 
-// The first call over a connection that is not answered so, and the connection.
-fn wrong_over<S: Alter + Drop>(
-    alloc: Global,
-    connection: Connection<S>,
-    calls: &[(Call, Said)],
-) -> (Option<usize>, Connection<S>) {
-    let mut keeper = SqlKeeper::over(connection);
-    let wrong = first_wrong(alloc, &mut keeper, calls);
-    (wrong, keeper.into_connection())
-}
-
-// The first call before and after rows left that is not answered so. None where all are, and the rows could leave.
-fn wrong_call<S: Alter + Drop>(alloc: Global, connection: Connection<S>) -> Option<usize> {
+// Whether a keeper in memory answers so before rows left and then.
+fn answers_then<S: InMemory>(alloc: Global, leave: &str, after: &[(Call, Said)]) -> bool {
+    let Some(connection) = S::connection(alloc) else {
+        return false;
+    };
     let (wrong, mut connection) = wrong_over(alloc, connection, &BEFORE);
-    if wrong.is_some() || !ran(&mut connection, LEAVE) {
-        return Some(0);
-    }
-    let (wrong, connection) = wrong_over(alloc, connection, &AFTER);
-    drop(connection);
-    wrong
+    wrong == None && ran(&mut connection, leave) && answers(alloc, connection, after)
 }
 
 #[test]
 fn rows_that_left_are_not_passed_over(rt: HostRuntime) -> Result<(), Fail> {
-    let connection = Connection::open_in_memory(rt.alloc()).expect(&rt, "memory");
-    let wrong = wrong_call(rt.alloc(), connection);
-    assert!(rt; wrong == None);
+    for (leave, after) in LEAVES {
+        assert!(rt;
+            answers_then::<MemStore>(rt.alloc(), leave, after),
+            "{leave}"
+        );
+    }
     Ok(())
 }

@@ -1,10 +1,9 @@
-use crate::connections::ran;
-use jt_sql::SqlKeeper;
+use crate::connections::{InMemory, answers, made};
 use jt_value::{Edition, Phone};
-use sqlite::{Alter, Connection};
+use sqlite::MemStore;
 use std::alloc::Global;
 use std::test::Fail;
-use store_tests::keeper_calls::{Call, Said, first_wrong};
+use store_tests::keeper_calls::{Call, Said};
 
 const PHONE: Phone = Phone {
     edition: Edition::E2013,
@@ -34,29 +33,18 @@ const CALLS: [(Call, Said); 4] = [
     ),
 ];
 
-// Whether a keeper over these rows answers so.
-fn answers<S: Alter + Drop>(alloc: Global, mut connection: Connection<S>, rows: &str) -> bool {
-    if !ran(&mut connection, TABLES) || !ran(&mut connection, rows) {
-        return false;
-    }
-    let mut keeper = SqlKeeper::over(connection);
-    let wrong = first_wrong(alloc, &mut keeper, &CALLS);
-    drop(keeper);
-    wrong == None
-}
-
 // Whether a keeper over these rows in memory answers so.
-fn answers_over(alloc: Global, rows: &str) -> bool {
-    match Connection::open_in_memory(alloc) {
-        Ok(connection) => answers(alloc, connection, rows),
-        Err(_) => false,
+fn answers_over<S: InMemory>(alloc: Global, rows: &str) -> bool {
+    match made::<S>(alloc, &[TABLES, rows]) {
+        Some(connection) => answers(alloc, connection, &CALLS),
+        None => false,
     }
 }
 
 #[test]
 fn a_phone_with_great_numbers_and_few_rows_is_not_full(rt: HostRuntime) -> Result<(), Fail> {
     for rows in ROWS {
-        assert!(rt; answers_over(rt.alloc(), rows));
+        assert!(rt; answers_over::<MemStore>(rt.alloc(), rows));
     }
     Ok(())
 }

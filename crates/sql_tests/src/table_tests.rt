@@ -1,11 +1,12 @@
-use crate::connections::{filled, ran};
+use crate::connections::{InMemory, filled, made};
 use crate::files::{make_folder, remove_folder};
+use crate::vault_tests::lives_in_file;
 use jt_sql::{AdoptedVault, SqlVault};
 use jt_store::{StoreError, Unit, Vault};
+use jt_value::Octets;
 use jt_value::ids::{BATCH, POSITION};
 use jt_value::limits::BODY_LIMIT;
-use jt_value::{Memory, Octets};
-use sqlite::{Alter, Connection};
+use sqlite::{Alter, Connection, MemStore};
 use std::alloc::Global;
 use std::fs;
 use std::test::Fail;
@@ -103,36 +104,29 @@ const REFUSED: [&str; 17] = [
      INSERT INTO state VALUES (1, 1, 1, 2, 4, NULL)",
 ];
 
-// What a vault loads over the tables with these rows. None where they can't be made.
-fn loads<S: Alter + Drop>(
-    alloc: Global,
-    mut connection: Connection<S>,
-    rows: &str,
-) -> Option<Said> {
-    if !ran(&mut connection, TABLES) || !ran(&mut connection, rows) {
-        return None;
-    }
-    let mut vault = SqlVault::over(connection);
+// What a vault loads, which is then let go of.
+fn loads_once<V: Vault + Drop>(alloc: Global, mut vault: V) -> Said {
     let said = answer(alloc, &mut vault, Call::Load);
     drop(vault);
-    Some(said)
+    said
 }
 
-// The same, in memory.
-fn loads_over(alloc: Global, rows: &str) -> Option<Said> {
-    match Connection::open_in_memory(alloc) {
-        Ok(connection) => loads(alloc, connection, rows),
-        Err(_) => None,
-    }
+// What a vault loads over the tables in memory with these rows. None where they can't be made.
+fn loads<S: InMemory>(alloc: Global, rows: &str) -> Option<Said> {
+    let connection = made::<S>(alloc, &[TABLES, rows])?;
+    Some(loads_once(alloc, SqlVault::over(connection)))
 }
 
 #[test]
 fn what_no_vault_would_have_written_is_refused(rt: HostRuntime) -> Result<(), Fail> {
     for (rows, said) in LOADED {
-        assert!(rt; loads_over(rt.alloc(), rows) == Some(said), "{rows}");
+        assert!(rt; loads::<MemStore>(rt.alloc(), rows) == Some(said), "{rows}");
     }
     for rows in REFUSED {
-        assert!(rt; loads_over(rt.alloc(), rows) == Some(FAILED), "{rows}");
+        assert!(rt;
+            loads::<MemStore>(rt.alloc(), rows) == Some(FAILED),
+            "{rows}"
+        );
     }
     Ok(())
 }
@@ -185,36 +179,18 @@ fn form<S: Alter>(
     Ok(true)
 }
 
-// What is said of forming a unit over the connection, and of a load behind it. None where the tables can't be made.
-fn forms<S: Alter + Drop>(
-    alloc: Global,
-    mut connection: Connection<S>,
-    id: u16,
-    body: &[u8],
-    count: u32,
-) -> Option<(Said, Said)> {
-    if !ran(&mut connection, TABLES) || !ran(&mut connection, NONE) {
-        return None;
-    }
+// What is said of forming a unit over the tables in memory, and of a load behind it. None where they can't be made.
+fn forms<S: InMemory>(alloc: Global, id: u16, body: &[u8], count: u32) -> Option<(Said, Said)> {
+    let connection = made::<S>(alloc, &[TABLES, NONE])?;
     let mut vault = SqlVault::over(connection);
     let formed = said_of(form(alloc, &mut vault, id, body, count));
-    let loaded = answer(alloc, &mut vault, Call::Load);
-    drop(vault);
-    Some((formed, loaded))
-}
-
-// The same, in memory.
-fn forms_over(alloc: Global, id: u16, body: &[u8], count: u32) -> Option<(Said, Said)> {
-    match Connection::open_in_memory(alloc) {
-        Ok(connection) => forms(alloc, connection, id, body, count),
-        Err(_) => None,
-    }
+    Some((formed, loads_once(alloc, vault)))
 }
 
 #[test]
 fn a_unit_that_counts_others_than_its_body_says_is_not_formed(rt: HostRuntime) -> Result<(), Fail> {
     for (id, body, count, formed, loaded) in COUNTS {
-        assert!(rt; forms_over(rt.alloc(), id, body, count) == Some((formed, loaded)));
+        assert!(rt; forms::<MemStore>(rt.alloc(), id, body, count) == Some((formed, loaded)));
     }
     Ok(())
 }
@@ -227,35 +203,22 @@ fn is_made(rt: &HostRuntime, path: &str, rows: &str) -> bool {
     }
 }
 
-// What a vault loads, which is then let go of.
-fn loads_once<V: Vault + Drop>(alloc: Global, mut vault: V) -> Said {
-    let said = answer(alloc, &mut vault, Call::Load);
-    drop(vault);
-    said
-}
-
-fn vault_in(rt: &HostRuntime, path: &str) -> Result<SqlVault<HostRuntime>, Memory> {
-    SqlVault::at(rt.clone()?, path)
-}
-
-// What a vault over a file loads.
-fn loads_file(rt: &HostRuntime, path: &str) -> Said {
-    match vault_in(rt, path) {
-        Ok(vault) => loads_once(rt.alloc(), vault),
-        Err(Memory) => Said::Nothing,
-    }
-}
-
 #[test]
 fn a_file_that_is_refused_stays_as_it_was(rt: HostRuntime) -> Result<(), Fail> {
     make_folder(&rt, "table_test")?;
     assert!(rt; is_made(&rt, "table_test/a.db", ALL));
-    assert!(rt; loads_file(&rt, "table_test/a.db") == Said::Held(0, 1, 3, 5, 3, 2));
+    assert!(rt;
+        lives_in_file(
+            &rt,
+            "table_test/a.db",
+            &[(Call::Load, Said::Held(0, 1, 3, 5, 3, 2))]
+        )
+    );
     for rows in [NO_SECOND, MISCOUNTED] {
         make_folder(&rt, "table_test")?;
         assert!(rt; is_made(&rt, "table_test/b.db", rows));
         let before = fs::read(&rt, "table_test/b.db")?;
-        assert!(rt; loads_file(&rt, "table_test/b.db") == FAILED);
+        assert!(rt; lives_in_file(&rt, "table_test/b.db", &[(Call::Load, FAILED)]));
         let after = fs::read(&rt, "table_test/b.db")?;
         assert!(rt; before.as_slice() == after.as_slice());
     }

@@ -1,8 +1,9 @@
+use crate::connections::InMemory;
 use crate::files::{make_folder, remove_folder};
 use jt_sql::SqlVault;
 use jt_store::{MemVault, Vault};
 use jt_value::{Memory, Seq};
-use sqlite::{Alter, Connection};
+use sqlite::{Alter, Connection, MemStore};
 use std::alloc::Global;
 use std::test::Fail;
 use store_tests::vault_calls::{Call, Said, first_wrong};
@@ -77,92 +78,79 @@ const LIVES: [Life; 5] = [
     ],
 ];
 
-// The place of the first call of a life that is not answered so. The vault is then let go of.
-fn wrong_in<V: Vault + Drop>(alloc: Global, mut vault: V, life: Life) -> Option<usize> {
-    let wrong = first_wrong(alloc, &mut vault, life);
-    drop(vault);
-    wrong
-}
-
-// The first life over one vault that goes otherwise, and the place in it.
-fn wrong_life<V: Vault>(alloc: Global, vault: &mut V) -> Option<(usize, usize)> {
-    for (number, life) in LIVES.iter().enumerate() {
-        if let Some(place) = first_wrong(alloc, vault, life) {
-            return Some((number, place));
+// Whether one vault answers so in all lives.
+fn lives_all<V: Vault + Drop>(alloc: Global, mut vault: V) -> bool {
+    for life in LIVES {
+        if first_wrong(alloc, &mut vault, life).is_some() {
+            return false;
         }
     }
-    None
+    true
 }
 
 #[test]
 fn a_vault_in_memory_answers_so(rt: HostRuntime) -> Result<(), Fail> {
-    let mut vault = MemVault::new(rt.alloc(), 100_000, Seq::new(rt.alloc()));
-    let wrong = wrong_life(rt.alloc(), &mut vault);
-    drop(vault);
-    assert!(rt; wrong == None);
+    let vault = MemVault::new(rt.alloc(), 100_000, Seq::new(rt.alloc()));
+    assert!(rt; lives_all(rt.alloc(), vault));
     Ok(())
 }
 
-fn vault_in(rt: &HostRuntime, path: &str) -> Result<SqlVault<HostRuntime>, Memory> {
+// Whether a vault answers so in one life. It is then let go of.
+fn lives<V: Vault + Drop>(alloc: Global, mut vault: V, life: &[(Call, Said)]) -> bool {
+    first_wrong(alloc, &mut vault, life) == None
+}
+
+fn vault_at(rt: &HostRuntime, path: &str) -> Result<SqlVault<HostRuntime>, Memory> {
     SqlVault::at(rt.clone()?, path)
 }
 
-// The place of the first call of a life over a file that is not answered so.
-fn wrong_in_file(rt: &HostRuntime, path: &str, life: Life) -> Option<usize> {
-    match vault_in(rt, path) {
-        Ok(vault) => wrong_in(rt.alloc(), vault, life),
-        Err(Memory) => Some(life.len()),
+/// Whether a vault over a file answers so.
+pub fn lives_in_file(rt: &HostRuntime, path: &str, life: &[(Call, Said)]) -> bool {
+    match vault_at(rt, path) {
+        Ok(vault) => lives(rt.alloc(), vault, life),
+        Err(_) => false,
     }
 }
 
-// The first life over a file that goes otherwise, and the place in it, where each life opens the file anew.
-fn wrong_file(rt: &HostRuntime, path: &str) -> Option<(usize, usize)> {
-    for (number, life) in LIVES.iter().enumerate() {
-        if let Some(place) = wrong_in_file(rt, path, life) {
-            return Some((number, place));
-        }
-    }
-    None
-}
-
+// Each life opens the file anew.
 #[test]
 fn a_vault_in_a_file_answers_the_same(rt: HostRuntime) -> Result<(), Fail> {
     make_folder(&rt, "vault_test")?;
-    assert!(rt; wrong_file(&rt, "vault_test/a.db") == None);
+    for life in LIVES {
+        assert!(rt; lives_in_file(&rt, "vault_test/a.db", life));
+    }
     remove_folder(&rt, "vault_test")?;
     Ok(())
 }
 
-// The place of the first call of a life over a connection that is not answered so, and the connection.
-fn wrong_over<S: Alter + Drop>(
+// Whether a vault over the connection answers so, and the connection.
+fn answers_over<S: Alter + Drop>(
     alloc: Global,
     connection: Connection<S>,
     life: Life,
-) -> (Option<usize>, Connection<S>) {
+) -> (bool, Connection<S>) {
     let mut vault = SqlVault::over(connection);
     let wrong = first_wrong(alloc, &mut vault, life);
-    (wrong, vault.into_connection())
+    (wrong == None, vault.into_connection())
 }
 
-// The first life over a connection that goes otherwise, and the place in it.
-fn wrong_connection<S: Alter + Drop>(
-    alloc: Global,
-    mut connection: Connection<S>,
-) -> Option<(usize, usize)> {
-    for (number, life) in LIVES.iter().enumerate() {
-        let (wrong, left) = wrong_over(alloc, connection, life);
-        if let Some(place) = wrong {
-            return Some((number, place));
+// Whether a vault over a connection in memory answers so in all lives, each of which takes the connection anew.
+fn lives_over<S: InMemory>(alloc: Global) -> bool {
+    let Some(mut connection) = S::connection(alloc) else {
+        return false;
+    };
+    for life in LIVES {
+        let (is_right, left) = answers_over(alloc, connection, life);
+        if !is_right {
+            return false;
         }
         connection = left;
     }
-    None
+    true
 }
 
 #[test]
 fn a_vault_over_a_connection_answers_the_same(rt: HostRuntime) -> Result<(), Fail> {
-    let connection = Connection::open_in_memory(rt.alloc()).expect(&rt, "memory");
-    let wrong = wrong_connection(rt.alloc(), connection);
-    assert!(rt; wrong == None);
+    assert!(rt; lives_over::<MemStore>(rt.alloc()));
     Ok(())
 }

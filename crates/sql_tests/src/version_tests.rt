@@ -1,8 +1,8 @@
-use crate::connections::ran;
+use crate::connections::{InMemory, made};
 use jt_sql::{SqlKeeper, SqlVault};
 use jt_store::{Keeper, StoreError};
 use jt_value::{Edition, Phone};
-use sqlite::{Alter, Connection};
+use sqlite::{Alter, Connection, MemStore};
 use std::alloc::Global;
 use std::test::Fail;
 use store_tests::vault_calls;
@@ -31,28 +31,11 @@ fn vault_fails<S: Alter + Drop>(alloc: Global, connection: Connection<S>) -> boo
     load && note
 }
 
-// Whether a store over a text fails.
-fn fails<S: Alter + Drop>(
-    alloc: Global,
-    mut connection: Connection<S>,
-    sql: &str,
-    keeper: bool,
-) -> bool {
-    if !ran(&mut connection, sql) {
-        return false;
-    }
-    if keeper {
-        keeper_fails(alloc, connection)
-    } else {
-        vault_fails(alloc, connection)
-    }
-}
-
-// The same, over a text in memory.
-fn fails_over(alloc: Global, sql: &str, keeper: bool) -> bool {
-    match Connection::open_in_memory(alloc) {
-        Ok(connection) => fails(alloc, connection, sql, keeper),
-        Err(_) => false,
+// Whether a keeper and a vault over a text in memory fail.
+fn fail_over<S: InMemory>(alloc: Global, sql: &str) -> bool {
+    match (made::<S>(alloc, &[sql]), made::<S>(alloc, &[sql])) {
+        (Some(first), Some(second)) => keeper_fails(alloc, first) && vault_fails(alloc, second),
+        _ => false,
     }
 }
 
@@ -67,8 +50,7 @@ fn other_files_are_refused(rt: HostRuntime) -> Result<(), Fail> {
         "CREATE TABLE other (version INTEGER)",
     ];
     for text in texts {
-        assert!(rt; fails_over(rt.alloc(), text, true));
-        assert!(rt; fails_over(rt.alloc(), text, false));
+        assert!(rt; fail_over::<MemStore>(rt.alloc(), text));
     }
     Ok(())
 }
