@@ -1,20 +1,25 @@
 #!/usr/bin/env python3
 """Lets a fleet of terminals report to the built platform for a while, and compares what it stored with what they recorded:
 
-    tools/fleet_trial.py PROGRAM [--minutes N] [--terminals N] [--kills N] [--strangers N] [--one-address]
+    tools/fleet_trial.py PROGRAM [--minutes N] [--terminals N] [--links N] [--one-address] [--kills N] [--strangers N] [--copies N]
 
 PROGRAM is crates/dewfelt/out/dewfelt (`dewfelt serve`), or crates/jt808/out/jt808 (`platform`, up to 1,000 links in a run). Each
 terminal sends a heartbeat and a unit of one position each half minute, and dials anew each ten minutes; each two minutes a fifth
-of them dial anew at once. They have addresses of 127.1.0.0/16, or with --one-address all the same. With --kills the program is
-killed so often at random moments and started at once. --strangers are links that are not let in, of one address and of a hundred:
-silent ones, garbage, half frames, a heartbeat each ten seconds, and connects that end at once.
+of them dial anew at once. They have addresses of 127.1.0.0/16, or with --one-address all the same. First dials are spread over a
+minute. With --kills the program is killed so often at random moments and started at once. --strangers are links that are not let
+in, half of them of one address and half of a hundred: silent ones, garbage, half frames, a heartbeat each ten seconds, and
+connects that end at once. With --copies `PROGRAM copy` makes so many copies at random moments, and each has to be sound.
 
-It prints a line a minute, and at the end: how long answers took (median, 99th percentile, longest), the longest fdatasync beside,
-resident memory a minute, and of each terminal whether the stored positions are a prefix of those that it recorded, each once and
-in order, and hold each accepted one. The status is 1 where they do not.
+It prints a line a minute, and at the end: how long answers took and how long terminals that dialled were let in after (median, 99th
+percentile, longest), the longest fdatasync of a file of its own beside, by how much the tool itself was late, resident memory, and
+of each terminal whether the stored positions are a prefix of those that it recorded, each once and in order, and hold each accepted
+one. The status is 1 where they do not, where the program's end is not, or a copy is not sound; and, without --kills, where an
+answer took above 2 seconds or a terminal was let in after more than 5, at neither a stall of the disk nor one of the tool (a second
+or more), or resident memory rose by 1 MB or more in the last fifteen minutes of thirty.
 """
 import argparse
 import asyncio
+import contextlib
 import os
 import random
 import re
@@ -32,7 +37,12 @@ import time
 
 PLATE = bytes.fromhex("d4c1423132333435")
 BEAT, UNIT, STAY, WAVE = 30, 30, 600, 120
+SPREAD = 60
 ANSWER = 60
+# Seconds: of an answer, until a terminal is let in, and of what counts as a stall.
+LONG_WAIT, LONG_DIAL, STALL = 2, 5, 1
+# Minutes, and KB: so long is memory looked at, and so much it may rise.
+LAST, RISE = 15, 1000
 ANSWERS = {0x0100: 0x8100, 0x0102: 0x8001, 0x0002: 0x8001, 0x0200: 0x8001}
 
 
@@ -61,6 +71,30 @@ def position(place, moment):
     return bytes(4) + bytes([0, 0, 0, 3]) + place.to_bytes(4, "big") + bytes.fromhex("06bc3e40") + bytes(6) + time_digits
 
 
+class Times:
+    """What took how long, with its moment."""
+
+    def __init__(self):
+        self.all = []
+
+    def note(self, began):
+        self.all.append((began, time.monotonic() - began))
+
+    def seconds(self):
+        return sorted(it for _, it in self.all) or [0]
+
+    def text(self):
+        all = self.seconds()
+        return (f"median {statistics.median(all) * 1000:.1f} ms, 99th percentile {all[len(all) * 99 // 100] * 1000:.0f} ms,"
+                f" longest {all[-1]:.2f} s")
+
+    def above(self, limit):
+        return [(began, it) for began, it in self.all if it > limit]
+
+    def overlaps(self, began, seconds):
+        return any(one < began + seconds and began < one + it for one, it in self.all)
+
+
 class Terminal:
     def __init__(self, number, trial):
         self.trial = trial
@@ -72,6 +106,8 @@ class Terminal:
         self.serial = 0
         self.recorded, self.accepted, self.units = [], 0, []
         self.link = None
+        self.dialled = None
+        self.is_cut = asyncio.Event()
 
     async def open(self):
         reader, writer = await asyncio.wait_for(
@@ -99,7 +135,7 @@ class Terminal:
                 continue
             answer, body = content_of(octets)
             if answer == ANSWERS[message] and body[:2] == serial.to_bytes(2, "big"):
-                self.trial.note_wait(time.monotonic() - began)
+                self.trial.waits.note(began)
                 return body
 
     async def log_in(self):
@@ -111,7 +147,8 @@ class Terminal:
             self.code = answer[3:]
         if (await self.ask(0x0102, self.code))[4] != 0:
             raise Lost
-        self.trial.let_in += 1
+        self.trial.let_in.note(self.dialled)
+        self.dialled = None
 
     def record(self):
         body = position(len(self.recorded), time.time())
@@ -128,14 +165,27 @@ class Terminal:
             self.units.pop(0)
             self.accepted += 1
 
+    def cut(self):
+        self.close()
+        self.is_cut.set()
+
+    async def rest(self, seconds):
+        """Waits so long, or until the link is cut, which it tells by Lost."""
+        with contextlib.suppress(asyncio.TimeoutError):
+            await asyncio.wait_for(self.is_cut.wait(), max(0.05, seconds))
+            raise Lost
+
     async def attempt(self, until):
+        self.is_cut.clear()
+        if self.dialled is None:
+            self.dialled = time.monotonic()
         await self.open()
         await self.log_in()
         await self.report()
         leave = time.monotonic() + random.uniform(0.9, 1.1) * STAY
         beat = time.monotonic() + random.uniform(0, BEAT)
         while time.monotonic() < min(until, leave):
-            await asyncio.sleep(max(0.05, min(beat, self.next_unit, leave, until) - time.monotonic()))
+            await self.rest(min(beat, self.next_unit, leave, until) - time.monotonic())
             if not self.link or self.link[0].at_eof():
                 raise Lost
             if time.monotonic() >= self.next_unit:
@@ -148,17 +198,20 @@ class Terminal:
 
     async def live(self, until):
         self.next_unit = time.monotonic() + random.uniform(0, UNIT)
-        await asyncio.sleep(random.uniform(0, 10))
+        await asyncio.sleep(random.uniform(0, min(SPREAD, self.trial.words.minutes * 20)))
         while time.monotonic() < until:
             dialled = time.monotonic()
             try:
                 await self.attempt(until)
             except (Lost, OSError, asyncio.TimeoutError, asyncio.IncompleteReadError):
-                self.trial.losses += 1
+                if not self.is_cut.is_set():
+                    self.trial.losses += 1
             self.close()
-            await asyncio.sleep(random.uniform(0.2, 1.0) if time.monotonic() - dialled > 1 else 1)
+            await asyncio.sleep(random.uniform(0.1, 0.3) if time.monotonic() - dialled > 1 else 1)
         while self.units and time.monotonic() < until + 60:
             try:
+                if self.dialled is None:
+                    self.dialled = time.monotonic()
                 await self.open()
                 await self.log_in()
                 await self.report()
@@ -170,15 +223,15 @@ class Terminal:
 class Program:
     """The program over a folder, which goes on where it was killed."""
 
-    def __init__(self, path, folder, port):
-        self.path, self.folder, self.port = path, folder, port
-        self.is_service = os.path.basename(path) == "dewfelt"
+    def __init__(self, path, folder, port, links):
+        self.path, self.folder, self.port, self.links = path, folder, port, links
+        self.is_service = os.path.basename(path) != "jt808"
         self.log = open(f"{folder}/log", "ab")
         self.start()
 
     def start(self):
         if self.is_service:
-            words = [self.path, "serve", self.folder, "--listen", f"127.0.0.1:{self.port}", "--links", "4000",
+            words = [self.path, "serve", self.folder, "--listen", f"127.0.0.1:{self.port}", "--links", str(self.links),
                      "--until-input-ends"]
             given = subprocess.PIPE
         else:
@@ -199,8 +252,12 @@ class Program:
         raise SystemExit("the program does not listen")
 
     def memory(self):
-        text = open(f"/proc/{self.run.pid}/status").read()
-        return int(re.search(r"VmRSS:\s+(\d+)", text)[1])
+        """Resident memory in KB; nothing in the moment in which the program is killed."""
+        try:
+            found = re.search(r"VmRSS:\s+(\d+)", open(f"/proc/{self.run.pid}/status").read())
+        except OSError:
+            return None
+        return int(found[1]) if found else None
 
     def kill(self):
         self.run.send_signal(signal.SIGKILL)
@@ -208,12 +265,13 @@ class Program:
         self.start()
 
     def end(self):
-        if self.is_service:
-            self.run.stdin.close()
-            return self.run.wait(30)
-        self.run.kill()
-        self.run.wait()
-        return 0
+        """Ends the program. The status of the command `stop`, or that of the service, where one is not 0."""
+        status = subprocess.run([self.path, "stop", self.folder]).returncode if self.is_service else 0
+        if status or not self.is_service:
+            self.run.kill()
+            self.run.wait()
+            return status
+        return self.run.wait(30)
 
 
 class Trial:
@@ -224,8 +282,8 @@ class Trial:
             one.bind(("127.0.0.1", 0))
             self.port = one.getsockname()[1]
         self.terminals = [Terminal(number, self) for number in range(1, words.terminals + 1)]
-        self.waits, self.losses, self.let_in, self.kills = [], 0, 0, 0
-        self.syncs, self.memories = [], []
+        self.waits, self.let_in, self.syncs, self.lates = Times(), Times(), Times(), Times()
+        self.losses, self.kills, self.memories, self.copies, self.faults = 0, 0, [], 0, []
         self.write_fleet()
 
     def write_fleet(self):
@@ -235,9 +293,6 @@ class Trial:
                 print("plate", terminal.plate.hex(), file=file)
                 print("terminal", terminal.name.hex(), file=file)
 
-    def note_wait(self, seconds):
-        self.waits.append(seconds)
-
     def time_syncs(self):
         """An fdatasync each second, beside the program's own."""
         with open(f"{self.folder}/sync", "wb") as file:
@@ -246,14 +301,21 @@ class Trial:
                 file.write(bytes(4096))
                 file.flush()
                 os.fdatasync(file.fileno())
-                self.syncs.append(time.monotonic() - began)
-                time.sleep(1)
+                self.syncs.note(began)
+                time.sleep(0.2 if self.syncs.all[-1][1] > STALL else 1)
+
+    async def time_itself(self, until):
+        """By how much the tool is late itself."""
+        while time.monotonic() < until:
+            began = time.monotonic()
+            await asyncio.sleep(0.1)
+            self.lates.all.append((began, time.monotonic() - began - 0.1))
 
     async def wave(self, until):
         while time.monotonic() < until:
             await asyncio.sleep(WAVE)
             for terminal in random.sample(self.terminals, len(self.terminals) // 5):
-                terminal.close()
+                terminal.cut()
 
     async def kill(self, until):
         moments = sorted(random.uniform(10, until - time.monotonic() - 10) for _ in range(self.words.kills))
@@ -265,7 +327,7 @@ class Trial:
 
     async def stranger(self, number, until):
         """A link that is never let in, of one kind of five; anew where it ended."""
-        address = "127.2.0.1" if number % 2 else f"127.2.1.{number % 100 + 1}"
+        address = "127.2.0.1" if number % 2 else f"127.2.1.{number // 2 % 100 + 1}"
         while time.monotonic() < until:
             try:
                 reader, writer = await asyncio.open_connection("127.0.0.1", self.port, local_addr=(address, 0))
@@ -289,61 +351,90 @@ class Trial:
                 writer.write(frame(0x0002, phone, turn))
             await asyncio.sleep(10)
 
+    async def copy(self, until):
+        for number in range(self.words.copies):
+            await asyncio.sleep((until - time.monotonic()) / (self.words.copies - number) * random.uniform(0.5, 1))
+            accepted = [it.accepted for it in self.terminals]
+            file = f"{self.folder}/copy-{number}.db"
+            ran = await asyncio.create_subprocess_exec(self.program.path, "copy", self.folder, file)
+            if await ran.wait() != 0:
+                self.faults.append(f"a copy ended with status {ran.returncode}")
+                continue
+            self.faults += await asyncio.to_thread(self.wrong_in, file, accepted)
+            self.copies += 1
+            os.remove(file)
+
     async def tell(self, began, until):
         while time.monotonic() < until:
             await asyncio.sleep(60)
             memory = self.program.memory()
-            self.memories.append(memory)
-            waits = self.waits[-20000:] or [0]
+            if memory is not None:
+                self.memories.append(memory)
             print(f"{(time.monotonic() - began) / 60:.0f} min: {sum(len(it.recorded) for it in self.terminals)} recorded,"
-                  f" {sum(it.accepted for it in self.terminals)} accepted, {self.let_in} let in, {self.losses} links lost,"
-                  f" {self.kills} kills, waits {statistics.median(waits) * 1000:.0f} ms, longest {max(waits):.2f} s,"
-                  f" {memory} KB", flush=True)
+                  f" {sum(it.accepted for it in self.terminals)} accepted, {len(self.let_in.all)} let in, {self.losses} links lost,"
+                  f" {self.kills} kills, {self.copies} copies; answers: {self.waits.text()}; {memory} KB", flush=True)
 
     async def run(self):
         began = time.monotonic()
         until = began + 60 * self.words.minutes
         tasks = [terminal.live(until) for terminal in self.terminals]
         tasks += [self.stranger(number, until) for number in range(self.words.strangers)]
-        tasks += [self.wave(until), self.tell(began, until)]
+        tasks += [self.wave(until), self.tell(began, until), self.time_itself(until)]
         if self.words.kills:
             tasks.append(self.kill(until))
+        if self.words.copies:
+            tasks.append(self.copy(until))
         await asyncio.gather(*tasks)
 
-    def stored(self):
+    def stored(self, file):
         rows = {}
-        base = sqlite3.connect(f"{self.folder}/platform.db")
+        base = sqlite3.connect(file)
         for phone, message, body in base.execute("SELECT phone, id, body FROM rows808 ORDER BY phone, number"):
             if message != 0x0200:
                 raise SystemExit(f"a row of message {message:04x}")
             rows.setdefault(bytes(phone)[-6:], []).append(bytes(body))
-        return rows
+        sound = base.execute("PRAGMA integrity_check").fetchone()[0]
+        base.close()
+        return rows, sound
 
-    def judge(self):
-        rows, wrong = self.stored(), 0
-        for terminal in self.terminals:
+    def wrong_in(self, file, accepted):
+        """What is wrong with the rows of a file that has at least as many of each terminal as were accepted."""
+        rows, sound = self.stored(file)
+        wrong = [] if sound == "ok" else [f"{file}: {sound}"]
+        for terminal, least in zip(self.terminals, accepted):
             stored = rows.pop(terminal.phone, [])
-            if stored != terminal.recorded[:len(stored)] or len(stored) < terminal.accepted:
-                wrong += 1
-                print(f"WRONG: {terminal.phone.hex()}: {len(terminal.recorded)} recorded, {terminal.accepted} accepted,"
-                      f" {len(stored)} stored")
-        if rows:
-            wrong += len(rows)
-            print("WRONG: rows of phones that no terminal has:", *[phone.hex() for phone in rows])
-        return wrong
+            if stored != terminal.recorded[:len(stored)] or len(stored) < least:
+                wrong.append(f"{file}: {terminal.phone.hex()}: {len(terminal.recorded)} recorded, {least} accepted,"
+                             f" {len(stored)} stored")
+        return wrong + [f"{file}: rows of {phone.hex()}, which no terminal has" for phone in rows]
 
-    def sum_up(self, wrong):
-        waits = sorted(self.waits)
-        print(f"waits of {len(waits)} answers: median {statistics.median(waits) * 1000:.1f} ms, 99th percentile"
-              f" {waits[len(waits) * 99 // 100] * 1000:.0f} ms, longest {waits[-1]:.2f} s; over 2 s:"
-              f" {sum(it > 2 for it in waits)}; longest fdatasync beside {max(self.syncs):.2f} s")
-        half = self.memories[len(self.memories) // 2:]
-        print(f"resident memory: {self.memories[0]} KB after a minute, {half[0]} KB at half, {half[-1]} KB at the end")
-        print(f"{self.kills} kills, {self.losses} links lost; wrong terminals: {wrong} of {len(self.terminals)}")
+    def unexplained(self, times, limit):
+        """How often something took too long at neither a stall of the disk nor one of the tool."""
+        stalls = Times()
+        stalls.all = self.syncs.above(STALL) + self.lates.above(STALL)
+        return sum(not stalls.overlaps(began, it) for began, it in times.above(limit))
+
+    def sum_up(self):
+        print(f"{len(self.waits.all)} answers: {self.waits.text()}; above {LONG_WAIT} s: {len(self.waits.above(LONG_WAIT))}, at no"
+              f" stall: {self.unexplained(self.waits, LONG_WAIT)}")
+        print(f"{len(self.let_in.all)} times a terminal that dialled was let in: {self.let_in.text()}; above {LONG_DIAL} s:"
+              f" {len(self.let_in.above(LONG_DIAL))}, at no stall: {self.unexplained(self.let_in, LONG_DIAL)}")
+        print(f"fdatasync beside: {self.syncs.text()}; the tool was late: {self.lates.text()}")
+        memories = self.memories or [0]
+        last = memories[-LAST - 1:]
+        print(f"resident memory: {memories[0]} KB after a minute, {last[0]} KB {len(last) - 1} minutes before the end, {last[-1]} KB"
+              f" at the end")
+        print(f"{self.kills} kills, {self.copies} sound copies, {self.losses} links lost, {len(self.terminals)} terminals")
+        if not self.words.kills:
+            for times, limit, what in ((self.waits, LONG_WAIT, "answer"), (self.let_in, LONG_DIAL, "let in")):
+                if self.unexplained(times, limit):
+                    self.faults.append(f"{what}: above {limit} s, at no stall")
+            if len(memories) >= 2 * LAST - 1 and last[-1] - last[0] >= RISE:
+                self.faults.append(f"resident memory rose by {last[-1] - last[0]} KB")
 
     def go(self):
         self.ended = False
-        self.program = Program(os.path.abspath(self.words.program), self.folder, self.port)
+        self.program = Program(os.path.abspath(self.words.program), self.folder, self.port, self.words.links)
         timer = threading.Thread(target=self.time_syncs)
         timer.start()
         try:
@@ -351,13 +442,21 @@ class Trial:
         finally:
             self.ended = True
             timer.join()
+            began = time.monotonic()
             status = self.program.end()
-        print(f"the program ended with status {status}")
-        wrong = self.judge()
-        self.sum_up(wrong)
-        if not wrong:
-            shutil.rmtree(self.folder)
-        return 1 if wrong or status else 0
+        print(f"the program ended with status {status}, {time.monotonic() - began:.1f} s after it was asked to")
+        if status:
+            self.faults.append(f"status {status}")
+        self.faults += self.wrong_in(f"{self.folder}/platform.db", [it.accepted for it in self.terminals])
+        self.sum_up()
+        for fault in self.faults:
+            print(f"WRONG: {fault}")
+        if self.faults:
+            print(f"the files are in {self.folder}")
+            return 1
+        shutil.rmtree(self.folder)
+        print("all is as it has to be")
+        return 0
 
 
 def main():
@@ -365,8 +464,10 @@ def main():
     words.add_argument("program")
     words.add_argument("--minutes", type=float, default=30)
     words.add_argument("--terminals", type=int, default=1000)
+    words.add_argument("--links", type=int, default=2000)
     words.add_argument("--kills", type=int, default=0)
     words.add_argument("--strangers", type=int, default=0)
+    words.add_argument("--copies", type=int, default=0)
     words.add_argument("--one-address", action="store_true")
     resource.setrlimit(resource.RLIMIT_NOFILE, (8192, min(65536, resource.getrlimit(resource.RLIMIT_NOFILE)[1])))
     return Trial(words.parse_args()).go()

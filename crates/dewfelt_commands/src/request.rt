@@ -31,16 +31,21 @@ fn put_pair(text: &mut String, octet: u8) -> Result<(), AllocError>
     Ok(())
 }
 
+fn put_octets(text: &mut String, octets: &[u8]) -> Result<(), AllocError>
+    ensures { OnOk result (string_bytes text.new ≡ string_bytes text.old ++ digits_text octets.now) }
+{
+    for octet in octets {
+        put_pair(text, *octet)?;
+    }
+    Ok(())
+}
+
 /// Puts the twenty digits of a phone.
 pub(crate) fn put_digits(text: &mut String, phone: &Phone) -> Result<(), AllocError>
     ensures { OnOk result (string_bytes text.new
         ≡ string_bytes text.old ++ digits_text phone.now.digits) }
 {
-    let digits = phone.digits;
-    for octet in &digits {
-        put_pair(text, *octet)?;
-    }
-    Ok(())
+    put_octets(text, phone.digits.as_slice())
 }
 
 #[tactic(auto, using(std::proofs::Common::append_assoc))]

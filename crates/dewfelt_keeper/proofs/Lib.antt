@@ -6,6 +6,7 @@
 -- is passed over and has nothing there.
 
 pub mod Binding
-pub mod Forgetting
+pub mod Calls
 pub mod Paging
+pub mod Removing
 pub mod Sweeping
