@@ -11,93 +11,32 @@ use jt_store::MemVault;
 use jt_terminal::Terminal;
 use jt_value::{Edition, Memory, Octets, Seq};
 use std::alloc::Global;
-use terminal_tests::settings;
+use terminal_tests::{frames_in, settings};
 
-/// The terminal's registration, of serial 0.
-const REGISTRATION: &[u8] =
-    b"\x7e\x01\x00\x00\x2a\x01\x39\x12\x34\x56\x78\x00\x00\x00\x00\x00\x00\x00\x00\x00\x00\x00\x00\x00\x00\x00\x00\x00\x00\x00\x00\x00\x00\x00\x00\x00\x00\x00\x00\x00\x00\x00\x31\x32\x33\x34\x35\x36\x37\x01\x4a\x54\x38\x30\x38\x04\x7e";
-
-/// Its authentication behind that, of serial 1.
-const AUTHENTICATION: &[u8] =
-    b"\x7e\x01\x02\x00\x02\x01\x39\x12\x34\x56\x78\x00\x01\x41\x42\x33\x7e";
-
-/// Its unit behind that, of serial 2: one fix.
-const UNIT: &[u8] =
-    b"\x7e\x02\x00\x00\x1c\x01\x39\x12\x34\x56\x78\x00\x02\x00\x00\x00\x00\x00\x00\x00\x03\x00\x00\x00\x01\x06\xbc\x3e\x40\x00\x00\x00\x00\x00\x00\x24\x01\x01\x00\x00\x00\xce\x7e";
-
-/// Its registration on another line, of serial 1.
-const SECOND_REGISTRATION: &[u8] =
-    b"\x7e\x01\x00\x00\x2a\x01\x39\x12\x34\x56\x78\x00\x01\x00\x00\x00\x00\x00\x00\x00\x00\x00\x00\x00\x00\x00\x00\x00\x00\x00\x00\x00\x00\x00\x00\x00\x00\x00\x00\x00\x00\x00\x31\x32\x33\x34\x35\x36\x37\x01\x4a\x54\x38\x30\x38\x05\x7e";
-
-/// Its authentication behind that, of serial 2.
-const SECOND_AUTHENTICATION: &[u8] =
-    b"\x7e\x01\x02\x00\x02\x01\x39\x12\x34\x56\x78\x00\x02\x41\x42\x30\x7e";
-
-/// Its unit behind that, of serial 3.
-const SECOND_UNIT: &[u8] =
-    b"\x7e\x02\x00\x00\x1c\x01\x39\x12\x34\x56\x78\x00\x03\x00\x00\x00\x00\x00\x00\x00\x03\x00\x00\x00\x01\x06\xbc\x3e\x40\x00\x00\x00\x00\x00\x00\x24\x01\x01\x00\x00\x00\xcf\x7e";
-
-/// The platform's reply to the registration, with the code 4142.
-const REGISTERED: &[u8] =
-    b"\x7e\x81\x00\x00\x05\x01\x39\x12\x34\x56\x78\x00\x00\x00\x00\x00\x41\x42\xb7\x7e";
-
-/// Its response to the authentication.
-const LET_IN: &[u8] =
-    b"\x7e\x80\x01\x00\x05\x01\x39\x12\x34\x56\x78\x00\x01\x00\x01\x01\x02\x00\xb7\x7e";
-
-/// Its acceptance of the unit.
-const ACCEPTED: &[u8] =
-    b"\x7e\x80\x01\x00\x05\x01\x39\x12\x34\x56\x78\x00\x02\x00\x02\x02\x00\x00\xb6\x7e";
-
-/// The same three on the other line.
-const SECOND_REGISTERED: &[u8] =
-    b"\x7e\x81\x00\x00\x05\x01\x39\x12\x34\x56\x78\x00\x00\x00\x01\x00\x41\x42\xb6\x7e";
-
-const SECOND_LET_IN: &[u8] =
-    b"\x7e\x80\x01\x00\x05\x01\x39\x12\x34\x56\x78\x00\x01\x00\x02\x01\x02\x00\xb4\x7e";
-
-const SECOND_ACCEPTED: &[u8] =
-    b"\x7e\x80\x01\x00\x05\x01\x39\x12\x34\x56\x78\x00\x02\x00\x03\x02\x00\x00\xb7\x7e";
-
-/// The platform's refusal of the registration, of the authentication and of the unit.
-const NOT_REGISTERED: &[u8] =
-    b"\x7e\x81\x00\x00\x03\x01\x39\x12\x34\x56\x78\x00\x00\x00\x00\x01\xb3\x7e";
-
-const NOT_LET_IN: &[u8] =
-    b"\x7e\x80\x01\x00\x05\x01\x39\x12\x34\x56\x78\x00\x01\x00\x01\x01\x02\x01\xb6\x7e";
-
-const NOT_ACCEPTED: &[u8] =
-    b"\x7e\x80\x01\x00\x05\x01\x39\x12\x34\x56\x78\x00\x02\x00\x02\x02\x00\x01\xb7\x7e";
-
-// The frame of a letter, by which tables name it: capitals are the terminal's.
-fn frame(letter: u8) -> &'static [u8] {
-    match letter {
-        b'R' => REGISTRATION,
-        b'A' => AUTHENTICATION,
-        b'U' => UNIT,
-        b'S' => SECOND_REGISTRATION,
-        b'B' => SECOND_AUTHENTICATION,
-        b'V' => SECOND_UNIT,
-        b'r' => REGISTERED,
-        b'a' => LET_IN,
-        b'u' => ACCEPTED,
-        b's' => SECOND_REGISTERED,
-        b'b' => SECOND_LET_IN,
-        b'v' => SECOND_ACCEPTED,
-        b'x' => NOT_REGISTERED,
-        b'y' => NOT_LET_IN,
-        b'z' => NOT_ACCEPTED,
-        _ => b"?",
-    }
-}
+/// Frames, three words each: the letter by which tables name it (capitals are the terminal's), what it is, and its octets.
+///
+/// The terminal's registration, authentication and unit of one fix have the serials 0, 1 and 2, and on another line 1, 2 and 3. The
+/// platform's reply to the registration gives the code 4142.
+const FRAMES: &str = "
+    R registration          7e0100002a0139123456780000000000000000000000000000000000000000000000000000000000000031323334353637014a54383038047e
+    A authentication        7e0102000201391234567800014142337e
+    U unit                  7e0200001c013912345678000200000000000000030000000106bc3e40000000000000240101000000ce7e
+    S second_registration   7e0100002a0139123456780001000000000000000000000000000000000000000000000000000000000031323334353637014a54383038057e
+    B second_authentication 7e0102000201391234567800024142307e
+    V second_unit           7e0200001c013912345678000300000000000000030000000106bc3e40000000000000240101000000cf7e
+    r registered            7e8100000501391234567800000000004142b77e
+    a let_in                7e8001000501391234567800010001010200b77e
+    u accepted              7e8001000501391234567800020002020000b67e
+    s second_registered     7e8100000501391234567800000001004142b67e
+    b second_let_in         7e8001000501391234567800010002010200b47e
+    v second_accepted       7e8001000501391234567800020003020000b77e
+    x not_registered        7e810000030139123456780000000001b37e
+    y not_let_in            7e8001000501391234567800010001010201b67e
+    z not_accepted          7e8001000501391234567800020002020001b77e";
 
 /// The octets of these letters' frames, one behind the other.
 pub fn frames(alloc: Global, letters: &[u8]) -> Result<Vec<u8>, Memory> {
-    let mut whole = Vec::new(alloc);
-    for letter in letters {
-        whole.extend_from_slice(frame(*letter))?;
-    }
-    Ok(whole)
+    frames_in(alloc, FRAMES, letters)
 }
 
 /// A link that gives the frames of these letters, and whose call of this number fails.

@@ -1,143 +1,95 @@
-//! Lives over stores in files, each of which is opened anew for each life, and anew to see what it has then.
+//! Lives over stores in files, each of which is opened anew for each life, and anew to see what it has then. All is generic in
+//! the store.
 
 use crate::{platform, terminal};
 use jt_sql::{SqlKeeper, SqlVault};
 use jt_store::{Keeper, Vault};
 use jt_value::{Edition, Memory};
 use std::alloc::Global;
-use std::{fs, io};
 
-/// Makes a folder with nothing in it.
-pub fn make_folder(rt: &HostRuntime, folder: &str) -> io::Result<()> {
-    let _ = fs::remove_dir_all(rt, folder);
-    fs::create_dir(rt, folder)
+/// A store in a file.
+pub trait InFile: Drop {
+    /// The store in this file.
+    fn at(rt: &HostRuntime, path: &str) -> Result<Self, Memory>;
 }
 
-/// Removes a folder and what is in it.
-pub fn remove_folder(rt: &HostRuntime, folder: &str) -> io::Result<()> {
-    fs::remove_dir_all(rt, folder)
-}
-
-fn keeper(rt: &HostRuntime, path: &str) -> Result<SqlKeeper<HostRuntime>, Memory> {
-    SqlKeeper::at(rt.clone()?, path)
-}
-
-/// A vault in this file.
-pub fn vault(rt: &HostRuntime, path: &str) -> Result<SqlVault<HostRuntime>, Memory> {
-    SqlVault::at(rt.clone()?, path)
-}
-
-// The place of the first talk that goes otherwise over a keeper, which is then let go of.
-fn wrong_over<K: Keeper + Drop>(
-    alloc: Global,
-    keeper: K,
-    talks: &[platform::Talk],
-) -> Option<usize> {
-    match platform::live(alloc, keeper, talks) {
-        Ok(left) => {
-            drop(left);
-            None
-        }
-        Err(place) => Some(place),
+impl InFile for SqlKeeper<HostRuntime> {
+    fn at(rt: &HostRuntime, path: &str) -> Result<SqlKeeper<HostRuntime>, Memory> {
+        SqlKeeper::at(rt.clone()?, path)
     }
 }
 
-// The place of the first talk that goes otherwise over the file.
-fn wrong_talk(rt: &HostRuntime, path: &str, talks: &[platform::Talk]) -> Option<usize> {
-    match keeper(rt, path) {
-        Ok(keeper) => wrong_over(rt.alloc(), keeper, talks),
-        Err(Memory) => Some(0),
+impl InFile for SqlVault<HostRuntime> {
+    fn at(rt: &HostRuntime, path: &str) -> Result<SqlVault<HostRuntime>, Memory> {
+        SqlVault::at(rt.clone()?, path)
     }
 }
 
-// The place of the first moment that goes otherwise over a vault, which is then let go of.
-fn wrong_with<V: Vault + Drop>(
-    alloc: Global,
-    edition: Edition,
-    vault: V,
-    moments: &[terminal::Moment],
-) -> Option<usize> {
-    match terminal::live(alloc, edition, vault, moments) {
-        Ok(left) => {
-            drop(left);
-            None
-        }
-        Err(place) => Some(place),
-    }
-}
-
-// The place of the first moment that goes otherwise over the file.
-fn wrong_moment(
-    rt: &HostRuntime,
-    path: &str,
-    edition: Edition,
-    moments: &[terminal::Moment],
-) -> Option<usize> {
-    match vault(rt, path) {
-        Ok(vault) => wrong_with(rt.alloc(), edition, vault, moments),
-        Err(Memory) => Some(0),
-    }
+// Whether all talks go so over a keeper, which is then let go of.
+fn go_over<K: Keeper + Drop>(alloc: Global, keeper: K, talks: &[platform::Talk]) -> bool {
+    platform::live(alloc, keeper, talks).is_ok()
 }
 
 // Whether a keeper has this. It is then let go of.
 fn has<K: Keeper + Drop>(alloc: Global, mut keeper: K, text: &str) -> bool {
-    let is_so = platform::keeps(alloc, &mut keeper, text);
-    drop(keeper);
-    is_so
+    platform::keeps(alloc, &mut keeper, text)
 }
 
-// Whether a keeper over the file has this.
-fn keeps(rt: &HostRuntime, path: &str, text: &str) -> bool {
-    match keeper(rt, path) {
-        Ok(keeper) => has(rt.alloc(), keeper, text),
-        Err(Memory) => false,
+// Whether a platform lives so over the file.
+fn is_life<K: Keeper + InFile>(rt: &HostRuntime, path: &str, life: &platform::Life) -> bool {
+    let (talks, text) = *life;
+    match (K::at(rt, path), K::at(rt, path)) {
+        (Ok(first), Ok(second)) => {
+            go_over(rt.alloc(), first, talks) && has(rt.alloc(), second, text)
+        }
+        _ => false,
     }
 }
 
-// Whether a vault has this. It is then let go of.
-fn contains<V: Vault + Drop>(alloc: Global, mut vault: V, text: &str) -> bool {
-    let is_so = terminal::holds(alloc, &mut vault, text);
-    drop(vault);
-    is_so
-}
-
-// Whether a vault over the file holds this.
-fn holds(rt: &HostRuntime, path: &str, text: &str) -> bool {
-    match vault(rt, path) {
-        Ok(vault) => contains(rt.alloc(), vault, text),
-        Err(Memory) => false,
-    }
-}
-
-/// The first life of a platform over the file that goes otherwise, and the place in it; or none.
-pub fn first_platform(
+/// The first life of a platform over the file that goes otherwise.
+pub fn first_platform<K: Keeper + InFile>(
     rt: &HostRuntime,
     path: &str,
     lives: &[platform::Life],
-) -> Option<(usize, usize)> {
-    for (life, (talks, text)) in lives.iter().enumerate() {
-        if let Some(place) = wrong_talk(rt, path, talks) {
-            return Some((life, place));
-        }
-        if !keeps(rt, path, text) {
-            return Some((life, talks.len()));
+) -> Option<usize> {
+    for (place, life) in lives.iter().enumerate() {
+        if !is_life::<K>(rt, path, life) {
+            return Some(place);
         }
     }
     None
 }
 
-/// The first life of a terminal over the file that goes otherwise, and the place in it; or none.
-pub fn first_terminal(
+// Whether all moments go so over a vault, which is then let go of.
+fn go_with<V: Vault + Drop>(alloc: Global, edition: Edition, vault: V, moments: &str) -> bool {
+    terminal::live(alloc, edition, vault, moments).is_some()
+}
+
+// Whether a vault has this. It is then let go of.
+fn contains<V: Vault + Drop>(alloc: Global, mut vault: V, text: &str) -> bool {
+    terminal::holds(alloc, &mut vault, text)
+}
+
+// Whether a terminal lives so over the file.
+fn is_lived<V: Vault + InFile>(rt: &HostRuntime, path: &str, life: &terminal::Life) -> bool {
+    let (edition, moments, text) = *life;
+    match (V::at(rt, path), V::at(rt, path)) {
+        (Ok(first), Ok(second)) => {
+            go_with(rt.alloc(), edition, first, moments) && contains(rt.alloc(), second, text)
+        }
+        _ => false,
+    }
+}
+
+/// The first life of a terminal over the file that goes otherwise.
+pub fn first_terminal<V: Vault + InFile>(
     rt: &HostRuntime,
     path: &str,
     lives: &[terminal::Life],
-) -> Option<(usize, usize)> {
-    for (life, (edition, moments, text)) in lives.iter().enumerate() {
-        if let Some(place) = wrong_moment(rt, path, *edition, moments) {
-            return Some((life, place));
-        }
-        if !holds(rt, path, text) {
-            return Some((life, moments.len()));
+) -> Option<usize> {
+    for (place, life) in lives.iter().enumerate() {
+        if !is_lived::<V>(rt, path, life) {
+            return Some(place);
         }
     }
     None

@@ -3,200 +3,69 @@
 
 use jt_value::Memory;
 use std::alloc::Global;
+use terminal_tests::frames_in;
 
-/// The terminal's registration, of serial 0.
-const REGISTRATION: &[u8] =
-    b"\x7e\x01\x00\x00\x2a\x01\x39\x12\x34\x56\x78\x00\x00\x00\x00\x00\x00\x00\x00\x00\x00\x00\x00\x00\x00\x00\x00\x00\x00\x00\x00\x00\x00\x00\x00\x00\x00\x00\x00\x00\x00\x00\x31\x32\x33\x34\x35\x36\x37\x01\x4a\x54\x38\x30\x38\x04\x7e";
-
-/// Its authentication of serial 1, and those of serials 3 and 5.
-const AUTHENTICATION: &[u8] =
-    b"\x7e\x01\x02\x00\x10\x01\x39\x12\x34\x56\x78\x00\x01\x33\x31\x61\x39\x39\x62\x38\x34\x65\x34\x63\x30\x38\x65\x65\x30\x25\x7e";
-
-const AUTHENTICATION_3: &[u8] =
-    b"\x7e\x01\x02\x00\x10\x01\x39\x12\x34\x56\x78\x00\x03\x33\x31\x61\x39\x39\x62\x38\x34\x65\x34\x63\x30\x38\x65\x65\x30\x27\x7e";
-
-const AUTHENTICATION_5: &[u8] =
-    b"\x7e\x01\x02\x00\x10\x01\x39\x12\x34\x56\x78\x00\x05\x33\x31\x61\x39\x39\x62\x38\x34\x65\x34\x63\x30\x38\x65\x65\x30\x21\x7e";
-
-/// Its units of serials 2, 3 and 4, with fixes at the latitudes 0, 1 and 2.
-const UNIT_2: &[u8] =
-    b"\x7e\x02\x00\x00\x1c\x01\x39\x12\x34\x56\x78\x00\x02\x00\x00\x00\x00\x00\x00\x00\x03\x00\x00\x00\x00\x06\xbc\x3e\x40\x00\x00\x00\x00\x00\x00\x24\x01\x01\x00\x00\x00\xcf\x7e";
-
-const UNIT_3: &[u8] =
-    b"\x7e\x02\x00\x00\x1c\x01\x39\x12\x34\x56\x78\x00\x03\x00\x00\x00\x00\x00\x00\x00\x03\x00\x00\x00\x01\x06\xbc\x3e\x40\x00\x00\x00\x00\x00\x00\x24\x01\x01\x00\x00\x00\xcf\x7e";
-
-const UNIT_4: &[u8] =
-    b"\x7e\x02\x00\x00\x1c\x01\x39\x12\x34\x56\x78\x00\x04\x00\x00\x00\x00\x00\x00\x00\x03\x00\x00\x00\x02\x06\xbc\x3e\x40\x00\x00\x00\x00\x00\x00\x24\x01\x01\x00\x00\x00\xcb\x7e";
-
-/// A unit of serial 2 with a fix at another latitude, 9.
-const OTHER_UNIT_2: &[u8] =
-    b"\x7e\x02\x00\x00\x1c\x01\x39\x12\x34\x56\x78\x00\x02\x00\x00\x00\x00\x00\x00\x00\x03\x00\x00\x00\x09\x06\xbc\x3e\x40\x00\x00\x00\x00\x00\x00\x24\x01\x01\x00\x00\x00\xc6\x7e";
-
-/// A batch of serial 2 with the fixes of those three units.
-const BATCH_2: &[u8] =
-    b"\x7e\x07\x04\x00\x5d\x01\x39\x12\x34\x56\x78\x00\x02\x00\x03\x01\x00\x1c\x00\x00\x00\x00\x00\x00\x00\x03\x00\x00\x00\x00\x06\xbc\x3e\x40\x00\x00\x00\x00\x00\x00\x24\x01\x01\x00\x00\x00\x00\x1c\x00\x00\x00\x00\x00\x00\x00\x03\x00\x00\x00\x01\x06\xbc\x3e\x40\x00\x00\x00\x00\x00\x00\x24\x01\x01\x00\x00\x00\x00\x1c\x00\x00\x00\x00\x00\x00\x00\x03\x00\x00\x00\x02\x06\xbc\x3e\x40\x00\x00\x00\x00\x00\x00\x24\x01\x01\x00\x00\x00\x92\x7e";
-
-/// Its deregistration, of serial 3.
-const DEREGISTRATION: &[u8] = b"\x7e\x00\x03\x00\x00\x01\x39\x12\x34\x56\x78\x00\x03\x30\x7e";
-
-/// The registration of phone 013912345679 with the same plate and terminal id.
-const STRANGE_REGISTRATION: &[u8] =
-    b"\x7e\x01\x00\x00\x2a\x01\x39\x12\x34\x56\x79\x00\x00\x00\x00\x00\x00\x00\x00\x00\x00\x00\x00\x00\x00\x00\x00\x00\x00\x00\x00\x00\x00\x00\x00\x00\x00\x00\x00\x00\x00\x00\x31\x32\x33\x34\x35\x36\x37\x01\x4a\x54\x38\x30\x38\x05\x7e";
-
-/// That phone's authentication, of serial 1, by the other phone's code.
-const STRANGE_AUTHENTICATION: &[u8] =
-    b"\x7e\x01\x02\x00\x10\x01\x39\x12\x34\x56\x79\x00\x01\x33\x31\x61\x39\x39\x62\x38\x34\x65\x34\x63\x30\x38\x65\x65\x30\x24\x7e";
-
-/// Frames of the same phone in the edition of 2019: its authentication by the code of 2013, of serial 3; its registration, of
-/// serial 4; its authentication by the code of 2019, of serial 5; and its unit 2.
-const OTHER_EDITION_AUTHENTICATION: &[u8] =
-    b"\x7e\x01\x02\x40\x34\x01\x00\x00\x00\x00\x01\x39\x12\x34\x56\x78\x00\x03\x10\x33\x31\x61\x39\x39\x62\x38\x34\x65\x34\x63\x30\x38\x65\x65\x30\x00\x00\x00\x00\x00\x00\x00\x00\x00\x00\x00\x00\x00\x00\x00\x00\x00\x00\x00\x00\x00\x00\x00\x00\x00\x00\x00\x00\x00\x00\x00\x00\x00\x00\x00\x52\x7e";
-
-const REGISTRATION_2019: &[u8] =
-    b"\x7e\x01\x00\x40\x51\x01\x00\x00\x00\x00\x01\x39\x12\x34\x56\x78\x00\x04\x00\x00\x00\x00\x00\x00\x00\x00\x00\x00\x00\x00\x00\x00\x00\x00\x00\x00\x00\x00\x00\x00\x00\x00\x00\x00\x00\x00\x00\x00\x00\x00\x00\x00\x00\x00\x00\x00\x00\x00\x00\x00\x00\x00\x00\x31\x32\x33\x34\x35\x36\x37\x00\x00\x00\x00\x00\x00\x00\x00\x00\x00\x00\x00\x00\x00\x00\x00\x00\x00\x00\x00\x00\x00\x00\x01\x4a\x54\x38\x30\x38\x3a\x7e";
-
-const AUTHENTICATION_2019: &[u8] =
-    b"\x7e\x01\x02\x40\x34\x01\x00\x00\x00\x00\x01\x39\x12\x34\x56\x78\x00\x05\x10\x30\x37\x30\x66\x37\x65\x38\x33\x33\x64\x64\x34\x36\x37\x65\x65\x00\x00\x00\x00\x00\x00\x00\x00\x00\x00\x00\x00\x00\x00\x00\x00\x00\x00\x00\x00\x00\x00\x00\x00\x00\x00\x00\x00\x00\x00\x00\x00\x00\x00\x00\x5d\x7e";
-
-const UNIT_2019: &[u8] =
-    b"\x7e\x02\x00\x40\x1c\x01\x00\x00\x00\x00\x01\x39\x12\x34\x56\x78\x00\x02\x00\x00\x00\x00\x00\x00\x00\x03\x00\x00\x00\x00\x06\xbc\x3e\x40\x00\x00\x00\x00\x00\x00\x24\x01\x01\x00\x00\x00\x8e\x7e";
-
-/// The platform's reply to the registration. Its frames have a connection's serials, from 0 on.
-const REGISTERED: &[u8] =
-    b"\x7e\x81\x00\x00\x13\x01\x39\x12\x34\x56\x78\x00\x00\x00\x00\x00\x33\x31\x61\x39\x39\x62\x38\x34\x65\x34\x63\x30\x38\x65\x65\x30\xa5\x7e";
-
-/// Its responses behind that: to the authentication of serial 1, and to the units of serials 2, 3 and 4.
-const LET_IN: &[u8] =
-    b"\x7e\x80\x01\x00\x05\x01\x39\x12\x34\x56\x78\x00\x01\x00\x01\x01\x02\x00\xb7\x7e";
-
-const ACCEPTED_2: &[u8] =
-    b"\x7e\x80\x01\x00\x05\x01\x39\x12\x34\x56\x78\x00\x02\x00\x02\x02\x00\x00\xb6\x7e";
-
-const ACCEPTED_3: &[u8] =
-    b"\x7e\x80\x01\x00\x05\x01\x39\x12\x34\x56\x78\x00\x03\x00\x03\x02\x00\x00\xb6\x7e";
-
-const ACCEPTED_4: &[u8] =
-    b"\x7e\x80\x01\x00\x05\x01\x39\x12\x34\x56\x78\x00\x04\x00\x04\x02\x00\x00\xb6\x7e";
-
-/// Its response to the batch of serial 2, there and behind the response to an authentication of another connection; and its
-/// response there to the unit of serial 4.
-const ACCEPTED_BATCH: &[u8] =
-    b"\x7e\x80\x01\x00\x05\x01\x39\x12\x34\x56\x78\x00\x02\x00\x02\x07\x04\x00\xb7\x7e";
-
-const REPEATED_BATCH: &[u8] =
-    b"\x7e\x80\x01\x00\x05\x01\x39\x12\x34\x56\x78\x00\x01\x00\x02\x07\x04\x00\xb4\x7e";
-
-const ACCEPTED_4_SECOND: &[u8] =
-    b"\x7e\x80\x01\x00\x05\x01\x39\x12\x34\x56\x78\x00\x01\x00\x04\x02\x00\x00\xb3\x7e";
-
-/// Its responses to the deregistration of serial 3, and to the unit of serial 4 that comes behind that.
-const GIVEN_UP: &[u8] =
-    b"\x7e\x80\x01\x00\x05\x01\x39\x12\x34\x56\x78\x00\x02\x00\x03\x00\x03\x00\xb6\x7e";
-
-const NOT_LIVE: &[u8] =
-    b"\x7e\x80\x01\x00\x05\x01\x39\x12\x34\x56\x78\x00\x03\x00\x04\x02\x00\x01\xb0\x7e";
-
-/// Its responses on another connection: to the authentication of serial 3 and the unit of serial 2.
-const LET_IN_3: &[u8] =
-    b"\x7e\x80\x01\x00\x05\x01\x39\x12\x34\x56\x78\x00\x00\x00\x03\x01\x02\x00\xb4\x7e";
-
-const REPEATED_2: &[u8] =
-    b"\x7e\x80\x01\x00\x05\x01\x39\x12\x34\x56\x78\x00\x01\x00\x02\x02\x00\x00\xb5\x7e";
-
-/// Its response to the authentication of serial 5, and those to the units of serials 3 and 4 behind unit 2.
-const LET_IN_5: &[u8] =
-    b"\x7e\x80\x01\x00\x05\x01\x39\x12\x34\x56\x78\x00\x00\x00\x05\x01\x02\x00\xb2\x7e";
-
-const REPEATED_3: &[u8] =
-    b"\x7e\x80\x01\x00\x05\x01\x39\x12\x34\x56\x78\x00\x02\x00\x03\x02\x00\x00\xb7\x7e";
-
-const REPEATED_4: &[u8] =
-    b"\x7e\x80\x01\x00\x05\x01\x39\x12\x34\x56\x78\x00\x03\x00\x04\x02\x00\x00\xb1\x7e";
-
-/// Its refusal of the unit of serial 2, as the first frame of a session.
-const FENCED_2: &[u8] =
-    b"\x7e\x80\x01\x00\x05\x01\x39\x12\x34\x56\x78\x00\x00\x00\x02\x02\x00\x01\xb5\x7e";
-
-/// Its acceptance of that unit, as such a first frame.
-const ACCEPTED_FIRST: &[u8] =
-    b"\x7e\x80\x01\x00\x05\x01\x39\x12\x34\x56\x78\x00\x00\x00\x02\x02\x00\x00\xb4\x7e";
-
-/// Its refusal of the authentication of serial 1.
-const NOT_LET_IN: &[u8] =
-    b"\x7e\x80\x01\x00\x05\x01\x39\x12\x34\x56\x78\x00\x00\x00\x01\x01\x02\x01\xb7\x7e";
-
-/// Its refusal of that other phone's registration, since the plate has an owner, and of its authentication.
-const STRANGE_REFUSED: &[u8] =
-    b"\x7e\x81\x00\x00\x03\x01\x39\x12\x34\x56\x79\x00\x00\x00\x00\x01\xb2\x7e";
-
-const STRANGE_NOT_LET_IN: &[u8] =
-    b"\x7e\x80\x01\x00\x05\x01\x39\x12\x34\x56\x79\x00\x00\x00\x01\x01\x02\x01\xb6\x7e";
-
-/// What answers those of 2019.
-const OTHER_EDITION_NOT_LET_IN: &[u8] =
-    b"\x7e\x80\x01\x40\x05\x01\x00\x00\x00\x00\x01\x39\x12\x34\x56\x78\x00\x00\x00\x03\x01\x02\x01\xf4\x7e";
-
-const REGISTERED_2019: &[u8] =
-    b"\x7e\x81\x00\x40\x13\x01\x00\x00\x00\x00\x01\x39\x12\x34\x56\x78\x00\x00\x00\x04\x00\x30\x37\x30\x66\x37\x65\x38\x33\x33\x64\x64\x34\x36\x37\x65\x65\xe9\x7e";
-
-const LET_IN_2019: &[u8] =
-    b"\x7e\x80\x01\x40\x05\x01\x00\x00\x00\x00\x01\x39\x12\x34\x56\x78\x00\x01\x00\x05\x01\x02\x00\xf2\x7e";
-
-const REPEATED_2019: &[u8] =
-    b"\x7e\x80\x01\x40\x05\x01\x00\x00\x00\x00\x01\x39\x12\x34\x56\x78\x00\x02\x00\x02\x02\x00\x00\xf7\x7e";
-
-// The frame of a letter, by which rows name it: capitals are the terminal's.
-fn frame(letter: u8) -> &'static [u8] {
-    match letter {
-        b'R' => REGISTRATION,
-        b'A' => AUTHENTICATION,
-        b'B' => AUTHENTICATION_3,
-        b'C' => AUTHENTICATION_5,
-        b'U' => UNIT_2,
-        b'V' => UNIT_3,
-        b'W' => UNIT_4,
-        b'X' => OTHER_UNIT_2,
-        b'E' => BATCH_2,
-        b'D' => DEREGISTRATION,
-        b'S' => STRANGE_REGISTRATION,
-        b'T' => STRANGE_AUTHENTICATION,
-        b'G' => OTHER_EDITION_AUTHENTICATION,
-        b'H' => REGISTRATION_2019,
-        b'I' => AUTHENTICATION_2019,
-        b'J' => UNIT_2019,
-        b'r' => REGISTERED,
-        b'a' => LET_IN,
-        b'u' => ACCEPTED_2,
-        b'v' => ACCEPTED_3,
-        b'w' => ACCEPTED_4,
-        b'e' => ACCEPTED_BATCH,
-        b'm' => REPEATED_BATCH,
-        b'l' => ACCEPTED_4_SECOND,
-        b'd' => GIVEN_UP,
-        b'n' => NOT_LIVE,
-        b'b' => LET_IN_3,
-        b'p' => REPEATED_2,
-        b'c' => LET_IN_5,
-        b'q' => REPEATED_3,
-        b'k' => REPEATED_4,
-        b'f' => FENCED_2,
-        b'o' => ACCEPTED_FIRST,
-        b'x' => NOT_LET_IN,
-        b's' => STRANGE_REFUSED,
-        b't' => STRANGE_NOT_LET_IN,
-        b'g' => OTHER_EDITION_NOT_LET_IN,
-        b'h' => REGISTERED_2019,
-        b'i' => LET_IN_2019,
-        b'j' => REPEATED_2019,
-        _ => b"?",
-    }
-}
+/// Frames, three words each: the letter by which rows name it (capitals are the terminal's), what it is, and its octets.
+///
+/// The terminal's registration has serial 0 and its first authentication serial 1; the others have their serials behind them, as
+/// units have. The units 2, 3 and 4 have fixes at the latitudes 0, 1 and 2, `other_unit_2` one at the latitude 9, and the batch
+/// those of the three. The strange ones are of phone 013912345679, with the plate and terminal id of the other phone, and with its
+/// code. Of 2019 are an authentication by the code of 2013, of serial 3, a registration of serial 4, an authentication of serial 5
+/// and the unit 2.
+///
+/// The platform's frames have a connection's serials, from 0 on. `let_in` answers the authentication of serial 1 behind the reply
+/// to the registration, and `accepted_2` to `accepted_4` the units behind that. `accepted_batch` stands there, `repeated_batch`
+/// and `accepted_4_second` behind the response to an authentication of another connection. `given_up` answers the deregistration,
+/// and `not_live` the unit 4 that comes behind that. `let_in_3` and `repeated_2`, and `let_in_5`, `repeated_3` and `repeated_4`,
+/// are on other connections. `fenced_2` refuses the unit 2 as the first frame of a session, and `accepted_first` accepts it so.
+const FRAMES: &str = "
+    R registration                 7e0100002a0139123456780000000000000000000000000000000000000000000000000000000000000031323334353637014a54383038047e
+    A authentication               7e01020010013912345678000133316139396238346534633038656530257e
+    B authentication_3             7e01020010013912345678000333316139396238346534633038656530277e
+    C authentication_5             7e01020010013912345678000533316139396238346534633038656530217e
+    U unit_2                       7e0200001c013912345678000200000000000000030000000006bc3e40000000000000240101000000cf7e
+    V unit_3                       7e0200001c013912345678000300000000000000030000000106bc3e40000000000000240101000000cf7e
+    W unit_4                       7e0200001c013912345678000400000000000000030000000206bc3e40000000000000240101000000cb7e
+    X other_unit_2                 7e0200001c013912345678000200000000000000030000000906bc3e40000000000000240101000000c67e
+    E batch_2                      7e0704005d0139123456780002000301001c00000000000000030000000006bc3e40000000000000240101000000001c00000000000000030000000106bc3e40000000000000240101000000001c00000000000000030000000206bc3e40000000000000240101000000927e
+    D deregistration               7e000300000139123456780003307e
+    S strange_registration         7e0100002a0139123456790000000000000000000000000000000000000000000000000000000000000031323334353637014a54383038057e
+    T strange_authentication       7e01020010013912345679000133316139396238346534633038656530247e
+    G other_edition_authentication 7e010240340100000000013912345678000310333161393962383465346330386565300000000000000000000000000000000000000000000000000000000000000000000000527e
+    H registration_2019            7e0100405101000000000139123456780004000000000000000000000000000000000000000000000000000000000000000000000000000000000000000000313233343536370000000000000000000000000000000000000000000000014a543830383a7e
+    I authentication_2019          7e0102403401000000000139123456780005103037306637653833336464343637656500000000000000000000000000000000000000000000000000000000000000000000005d7e
+    J unit_2019                    7e0200401c0100000000013912345678000200000000000000030000000006bc3e400000000000002401010000008e7e
+    r registered                   7e81000013013912345678000000000033316139396238346534633038656530a57e
+    a let_in                       7e8001000501391234567800010001010200b77e
+    u accepted_2                   7e8001000501391234567800020002020000b67e
+    v accepted_3                   7e8001000501391234567800030003020000b67e
+    w accepted_4                   7e8001000501391234567800040004020000b67e
+    e accepted_batch               7e8001000501391234567800020002070400b77e
+    m repeated_batch               7e8001000501391234567800010002070400b47e
+    l accepted_4_second            7e8001000501391234567800010004020000b37e
+    d given_up                     7e8001000501391234567800020003000300b67e
+    n not_live                     7e8001000501391234567800030004020001b07e
+    b let_in_3                     7e8001000501391234567800000003010200b47e
+    p repeated_2                   7e8001000501391234567800010002020000b57e
+    c let_in_5                     7e8001000501391234567800000005010200b27e
+    q repeated_3                   7e8001000501391234567800020003020000b77e
+    k repeated_4                   7e8001000501391234567800030004020000b17e
+    f fenced_2                     7e8001000501391234567800000002020001b57e
+    o accepted_first               7e8001000501391234567800000002020000b47e
+    x not_let_in                   7e8001000501391234567800000001010201b77e
+    s strange_refused              7e810000030139123456790000000001b27e
+    t strange_not_let_in           7e8001000501391234567900000001010201b67e
+    g other_edition_not_let_in     7e80014005010000000001391234567800000003010201f47e
+    h registered_2019              7e810040130100000000013912345678000000040030373066376538333364643436376565e97e
+    i let_in_2019                  7e80014005010000000001391234567800010005010200f27e
+    j repeated_2019                7e80014005010000000001391234567800020002020000f77e";
 
 /// The octets of these letters' frames, one behind the other.
 pub fn frames(alloc: Global, letters: &[u8]) -> Result<Vec<u8>, Memory> {
-    let mut whole = Vec::new(alloc);
-    for letter in letters {
-        whole.extend_from_slice(frame(*letter))?;
-    }
-    Ok(whole)
+    frames_in(alloc, FRAMES, letters)
+}
+
+/// The letters of a word; `-` is none.
+pub fn letters_in(word: &str) -> &[u8] {
+    if word == "-" { b"" } else { word.as_bytes() }
 }

@@ -20,16 +20,16 @@ pub fn first_platform(alloc: Global, lives: &[platform::Life]) -> Option<(usize,
     None
 }
 
-/// The first life of a terminal that goes otherwise, where each begins anew over the same vault, and the place in it; or none.
-pub fn first_terminal(alloc: Global, lives: &[terminal::Life]) -> Option<(usize, usize)> {
+/// The first life of a terminal that goes otherwise, where each begins anew over the same vault; or none.
+pub fn first_terminal(alloc: Global, lives: &[terminal::Life]) -> Option<usize> {
     let mut vault = MemVault::new(alloc, 100_000, Seq::new(alloc));
-    for (life, (edition, moments, text)) in lives.iter().enumerate() {
+    for (place, (edition, moments, text)) in lives.iter().enumerate() {
         match terminal::live(alloc, *edition, vault, moments) {
-            Ok(left) => vault = left,
-            Err(place) => return Some((life, place)),
+            Some(left) => vault = left,
+            None => return Some(place),
         }
         if !terminal::holds(alloc, &mut vault, text) {
-            return Some((life, moments.len()));
+            return Some(place);
         }
     }
     None

@@ -1,10 +1,12 @@
 //! Two runs of `report` by their words, over one file.
 
-use crate::files::{make_folder, remove_folder, vault};
-use jt_cli::{Ended, Outside, Status, run};
+use crate::files::InFile;
+use jt_cli::{Ended, Outside, Status, run_bare};
 use jt_outside::{MemSink, MemSource, ScriptClock, ScriptDial, ScriptListen};
+use jt_sql::SqlVault;
 use jt_store::{MemKeeper, Vault};
 use jt_value::{Memory, Octets, Seq};
+use sql_tests::files::{make_folder, remove_folder};
 use std::alloc::Global;
 use std::sync::Wait;
 use std::test::Fail;
@@ -57,7 +59,7 @@ fn is_so<V: Vault>(ended: &AllEnded<V>, status: Status, printed: &[u8]) -> bool 
     ended.status == status && ended.outside.sink.octets() == printed
 }
 
-// A run over a vault, and whether it ended so and printed this.
+// Whether a run over a vault ended so and printed this.
 fn ends<R: Threads + Wait + Sync, V: Vault + Drop>(
     rt: &R,
     alloc: Global,
@@ -68,10 +70,23 @@ fn ends<R: Threads + Wait + Sync, V: Vault + Drop>(
 ) -> Result<bool, Memory> {
     let words = words(alloc)?;
     let outside = outside(alloc, text, vault)?;
-    let ended = run(rt, alloc, &words, outside);
+    let ended = run_bare(rt, alloc, &words, outside);
     let is_so = is_so(&ended, status, printed);
     drop(ended);
     Ok(is_so)
+}
+
+// The same over the vault in a file.
+fn ends_over<R: Threads + Wait + Sync, V: Vault + InFile>(
+    rt: &R,
+    files: &HostRuntime,
+    path: &str,
+    text: &str,
+    status: Status,
+    printed: &[u8],
+) -> Result<bool, Memory> {
+    let vault = V::at(files, path)?;
+    ends(rt, files.alloc(), vault, text, status, printed)
 }
 
 // What the first run recorded is in the file that the second one opens.
@@ -80,10 +95,11 @@ fn two_runs_of_report_over_one_file(rt: HostRuntime) -> Result<(), Fail> {
     make_folder(&rt, "report_test")?;
     let path = "report_test/terminal.db";
     let printed = b"try 1 dial\ntry 2 dial\naccepted=0 of 1\n".as_slice();
-    let first = vault(&rt, path).expect(&rt, "there is memory");
-    assert!(rt; ends(&rt, rt.alloc(), first, FIX, Status::Unsent, printed)?);
-    let second = vault(&rt, path).expect(&rt, "there is memory");
-    assert!(rt; ends(&rt, rt.alloc(), second, "", Status::Unsent, printed)?);
+    for text in [FIX, ""] {
+        assert!(rt;
+            ends_over::<_, SqlVault<HostRuntime>>(&rt, &rt, path, text, Status::Unsent, printed)?
+        );
+    }
     remove_folder(&rt, "report_test")?;
     Ok(())
 }

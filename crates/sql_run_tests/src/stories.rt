@@ -1,8 +1,10 @@
 //! What both ends do, over stores in memory and in files.
 
-use crate::files::{first_platform, first_terminal, make_folder, remove_folder};
+use crate::files::{first_platform, first_terminal};
 use crate::{memory, platform, terminal};
+use jt_sql::{SqlKeeper, SqlVault};
 use jt_value::Edition;
+use sql_tests::files::{make_folder, remove_folder};
 use std::test::Fail;
 
 /// Lives of a platform and of a terminal, each with what its store has then.
@@ -47,22 +49,13 @@ const LOST_ANSWER: Story = Story {
     terminal: &[
         (
             Edition::E2013,
-            &[
-                (b'F', 0, b"", b""),
-                (b'O', 0, b"", b"R"),
-                (b'D', 0, b"r", b"A"),
-                (b'D', 0, b"a", b"U"),
-            ],
+            "F 0 - -  O 0 - R  D 0 r A  D 0 a U",
             "recorded=1 accepted=0 mark=65535 next=3 code=33316139396238346534633038656530\n\
              unit 2 0200 1 00000000000000030000000006bc3e40000000000000240101000000\n",
         ),
         (
             Edition::E2013,
-            &[
-                (b'O', 0, b"", b"B"),
-                (b'D', 0, b"b", b"U"),
-                (b'D', 0, b"p", b""),
-            ],
+            "O 0 - B  D 0 b U  D 0 p -",
             "recorded=1 accepted=1 mark=2 next=3 code=33316139396238346534633038656530\n",
         ),
     ],
@@ -81,17 +74,7 @@ const TERMINAL_ANEW: Story = Story {
     terminal: &[
         (
             Edition::E2013,
-            &[
-                (b'O', 0, b"", b"R"),
-                (b'D', 0, b"r", b"A"),
-                (b'D', 0, b"a", b""),
-                (b'F', 0, b"", b""),
-                (b'T', 0, b"", b"U"),
-                (b'F', 1, b"", b""),
-                (b'T', 0, b"", b"V"),
-                (b'F', 2, b"", b""),
-                (b'T', 0, b"", b"W"),
-            ],
+            "O 0 - R  D 0 r A  D 0 a -  F 0 - -  T 0 - U  F 1 - -  T 0 - V  F 2 - -  T 0 - W",
             "recorded=3 accepted=0 mark=65535 next=5 code=33316139396238346534633038656530\n\
              unit 2 0200 1 00000000000000030000000006bc3e40000000000000240101000000\n\
              unit 3 0200 1 00000000000000030000000106bc3e40000000000000240101000000\n\
@@ -99,12 +82,7 @@ const TERMINAL_ANEW: Story = Story {
         ),
         (
             Edition::E2013,
-            &[
-                (b'O', 0, b"", b"C"),
-                (b'D', 0, b"c", b"UVW"),
-                (b'D', 0, b"pq", b""),
-                (b'D', 0, b"k", b""),
-            ],
+            "O 0 - C  D 0 c UVW  D 0 pq -  D 0 k -",
             "recorded=3 accepted=3 mark=4 next=5 code=33316139396238346534633038656530\n",
         ),
     ],
@@ -125,18 +103,7 @@ const LATE_UNIT: Story = Story {
     )],
     terminal: &[(
         Edition::E2013,
-        &[
-            (b'O', 0, b"", b"R"),
-            (b'D', 0, b"r", b"A"),
-            (b'D', 0, b"a", b""),
-            (b'F', 0, b"", b""),
-            (b'T', 0, b"", b"U"),
-            (b'L', 0, b"", b""),
-            (b'O', 0, b"", b"B"),
-            (b'D', 0, b"b", b"U"),
-            (b'D', 0, b"p", b""),
-            (b'F', 1, b"", b""),
-        ],
+        "O 0 - R  D 0 r A  D 0 a -  F 0 - -  T 0 - U  L 0 - -  O 0 - B  D 0 b U  D 0 p -  F 1 - -",
         "recorded=2 accepted=1 mark=2 next=3 code=33316139396238346534633038656530\n\
          fix 00000000000000030000000106bc3e40000000000000240101000000\n",
     )],
@@ -153,25 +120,13 @@ const OTHER_EDITION: Story = Story {
     terminal: &[
         (
             Edition::E2013,
-            &[
-                (b'F', 0, b"", b""),
-                (b'O', 0, b"", b"R"),
-                (b'D', 0, b"r", b"A"),
-                (b'D', 0, b"a", b"U"),
-            ],
+            "F 0 - -  O 0 - R  D 0 r A  D 0 a U",
             "recorded=1 accepted=0 mark=65535 next=3 code=33316139396238346534633038656530\n\
              unit 2 0200 1 00000000000000030000000006bc3e40000000000000240101000000\n",
         ),
         (
             Edition::E2019,
-            &[
-                (b'O', 0, b"", b"G"),
-                (b'D', 0, b"g", b""),
-                (b'O', 0, b"", b"H"),
-                (b'D', 0, b"h", b"I"),
-                (b'D', 0, b"i", b"J"),
-                (b'D', 0, b"j", b""),
-            ],
+            "O 0 - G  D 0 g -  O 0 - H  D 0 h I  D 0 i J  D 0 j -",
             "recorded=1 accepted=1 mark=2 next=3 code=30373066376538333364643436376565\n",
         ),
     ],
@@ -204,34 +159,18 @@ const SEVERAL_FIXES: Story = Story {
     terminal: &[
         (
             Edition::E2013,
-            &[
-                (b'F', 0, b"", b""),
-                (b'F', 1, b"", b""),
-                (b'F', 2, b"", b""),
-                (b'O', 0, b"", b"R"),
-                (b'D', 0, b"r", b"A"),
-                (b'D', 0, b"a", b"E"),
-            ],
+            "F 0 - -  F 1 - -  F 2 - -  O 0 - R  D 0 r A  D 0 a E",
             "recorded=3 accepted=0 mark=65535 next=3 code=33316139396238346534633038656530\n\
              unit 2 0704 3 000301001c00000000000000030000000006bc3e40000000000000240101000000001c00000000000000030000000106bc3e40000000000000240101000000001c00000000000000030000000206bc3e40000000000000240101000000\n",
         ),
         (
             Edition::E2013,
-            &[
-                (b'O', 0, b"", b"B"),
-                (b'D', 0, b"b", b"E"),
-                (b'D', 0, b"m", b""),
-            ],
+            "O 0 - B  D 0 b E  D 0 m -",
             "recorded=3 accepted=3 mark=2 next=3 code=33316139396238346534633038656530\n",
         ),
         (
             Edition::E2013,
-            &[
-                (b'F', 2, b"", b""),
-                (b'O', 0, b"", b"B"),
-                (b'D', 0, b"b", b"W"),
-                (b'D', 0, b"l", b""),
-            ],
+            "F 2 - -  O 0 - B  D 0 b W  D 0 l -",
             "recorded=4 accepted=4 mark=4 next=5 code=33316139396238346534633038656530\n",
         ),
     ],
@@ -252,47 +191,43 @@ fn both_ends_over_stores_in_memory(rt: HostRuntime) -> Result<(), Fail> {
     Ok(())
 }
 
+// Whether a story goes so over stores in files of a folder, which is made for it.
+fn goes_in_files(rt: &HostRuntime, folder: &str, story: &Story) -> Result<bool, Fail> {
+    make_folder(rt, folder)?;
+    let of_platform = format!(in rt.alloc(); "{folder}/p.db")?;
+    let of_terminal = format!(in rt.alloc(); "{folder}/t.db")?;
+    let platform = first_platform::<SqlKeeper<HostRuntime>>(rt, &of_platform, story.platform);
+    let terminal = first_terminal::<SqlVault<HostRuntime>>(rt, &of_terminal, story.terminal);
+    remove_folder(rt, folder)?;
+    Ok(platform == None && terminal == None)
+}
+
 #[test]
 fn a_lost_answer_over_stores_in_files(rt: HostRuntime) -> Result<(), Fail> {
-    make_folder(&rt, "lost_answer_test")?;
-    assert!(rt; first_platform(&rt, "lost_answer_test/p.db", LOST_ANSWER.platform) == None);
-    assert!(rt; first_terminal(&rt, "lost_answer_test/t.db", LOST_ANSWER.terminal) == None);
-    remove_folder(&rt, "lost_answer_test")?;
+    assert!(rt; goes_in_files(&rt, "lost_answer_test", &LOST_ANSWER)?);
     Ok(())
 }
 
 #[test]
 fn a_terminal_anew_over_stores_in_files(rt: HostRuntime) -> Result<(), Fail> {
-    make_folder(&rt, "terminal_anew_test")?;
-    assert!(rt; first_platform(&rt, "terminal_anew_test/p.db", TERMINAL_ANEW.platform) == None);
-    assert!(rt; first_terminal(&rt, "terminal_anew_test/t.db", TERMINAL_ANEW.terminal) == None);
-    remove_folder(&rt, "terminal_anew_test")?;
+    assert!(rt; goes_in_files(&rt, "terminal_anew_test", &TERMINAL_ANEW)?);
     Ok(())
 }
 
 #[test]
 fn a_late_unit_over_stores_in_files(rt: HostRuntime) -> Result<(), Fail> {
-    make_folder(&rt, "late_unit_test")?;
-    assert!(rt; first_platform(&rt, "late_unit_test/p.db", LATE_UNIT.platform) == None);
-    assert!(rt; first_terminal(&rt, "late_unit_test/t.db", LATE_UNIT.terminal) == None);
-    remove_folder(&rt, "late_unit_test")?;
+    assert!(rt; goes_in_files(&rt, "late_unit_test", &LATE_UNIT)?);
     Ok(())
 }
 
 #[test]
 fn another_edition_over_stores_in_files(rt: HostRuntime) -> Result<(), Fail> {
-    make_folder(&rt, "other_edition_test")?;
-    assert!(rt; first_platform(&rt, "other_edition_test/p.db", OTHER_EDITION.platform) == None);
-    assert!(rt; first_terminal(&rt, "other_edition_test/t.db", OTHER_EDITION.terminal) == None);
-    remove_folder(&rt, "other_edition_test")?;
+    assert!(rt; goes_in_files(&rt, "other_edition_test", &OTHER_EDITION)?);
     Ok(())
 }
 
 #[test]
 fn several_fixes_over_stores_in_files(rt: HostRuntime) -> Result<(), Fail> {
-    make_folder(&rt, "several_fixes_test")?;
-    assert!(rt; first_platform(&rt, "several_fixes_test/p.db", SEVERAL_FIXES.platform) == None);
-    assert!(rt; first_terminal(&rt, "several_fixes_test/t.db", SEVERAL_FIXES.terminal) == None);
-    remove_folder(&rt, "several_fixes_test")?;
+    assert!(rt; goes_in_files(&rt, "several_fixes_test", &SEVERAL_FIXES)?);
     Ok(())
 }

@@ -2,7 +2,7 @@
 
 ghost use Rattle.std.specs.Prelude.{◌≡◌, IfSome};
 
-use crate::frames::frames;
+use crate::frames::{frames, letters_in};
 use crate::platform::push_octets;
 use jt_position::Fix;
 use jt_store::{Loaded, StoreError, Unit, Vault};
@@ -10,14 +10,13 @@ use jt_terminal::{Actions, Event, Terminal, TerminalError, TerminalLine};
 use jt_value::{Edition, Memory, Octets};
 use std::alloc::{AllocError, Global};
 use std::fmt::Write;
-use terminal_tests::settings;
+use terminal_tests::{settings, words_of};
 
-/// What happens: a connection begins (O) or is lost (L), a fix at this latitude is recorded (F), the clock is looked at, which
-/// stands (T), or frames of these letters come from the platform (D). Then the letters of the frames that the terminal writes.
-pub type Moment = (u8, u32, &'static [u8], &'static [u8]);
-
-/// The edition of a terminal, its moments from its start on, and what its vault holds then.
-pub type Life = (Edition, &'static [Moment], &'static str);
+/// The edition of a terminal, its moments from its start on, and what its vault holds then. A moment is four words. First what
+/// happens: a connection begins (O) or is lost (L), a fix at a latitude is recorded (F), the clock is looked at, which stands (T),
+/// or frames come from the platform (D). Then the latitude, the letters of the frames that come, and those of the frames that the
+/// terminal writes; `-` is none.
+pub type Life = (Edition, &'static str, &'static str);
 
 /// The most octets that come at once.
 const MOST: usize = 100_000;
@@ -102,76 +101,70 @@ fn hear<V: Vault>(
 fn happens<V: Vault>(
     alloc: Global,
     terminal: &mut Terminal<V>,
-    what: u8,
-    lat: u32,
+    what: &str,
+    lat: &str,
     given: &[u8],
 ) -> Result<Vec<u8>, Memory>
     requires { terminal.old.state.time ≡ 0 }
     ensures { terminal.new.state.time ≡ 0 }
 {
     match what {
-        b'O' => open(alloc, terminal),
-        b'L' => lose(alloc, terminal),
-        b'F' => note(alloc, terminal, lat),
-        b'T' => tick(alloc, terminal),
+        "O" => open(alloc, terminal),
+        "L" => lose(alloc, terminal),
+        "F" => note(alloc, terminal, lat.parse().unwrap_or(0)),
+        "T" => tick(alloc, terminal),
         _ => hear(alloc, terminal, given),
     }
 }
 
+// Whether the terminal writes at a moment what stands there.
 fn goes<V: Vault>(
     alloc: Global,
     terminal: &mut Terminal<V>,
-    moment: &Moment,
+    moment: &[&str],
 ) -> Result<bool, Memory>
     requires { terminal.old.state.time ≡ 0 }
     ensures { terminal.new.state.time ≡ 0 }
 {
-    let (what, lat, given, wanted) = *moment;
-    let said = happens(alloc, terminal, what, lat, given)?;
-    let wanted = frames(alloc, wanted)?;
+    let [what, lat, given, wanted] = moment else {
+        return Ok(false);
+    };
+    let said = happens(alloc, terminal, what, lat, letters_in(given))?;
+    let wanted = frames(alloc, letters_in(wanted))?;
     Ok(said.as_slice() == wanted.as_slice())
 }
 
-// The place of the first moment at which something else is sent.
-fn first_wrong<V: Vault>(
-    alloc: Global,
-    terminal: &mut Terminal<V>,
-    moments: &[Moment],
-) -> Option<usize>
+// Whether all moments go so.
+fn go<V: Vault>(alloc: Global, terminal: &mut Terminal<V>, moments: &str) -> Result<bool, Memory>
     requires { terminal.old.state.time ≡ 0 }
     ensures { terminal.new.state.time ≡ 0 }
 {
-    for (place, moment) in moments.iter().enumerate() {
-        match goes(alloc, terminal, moment) {
-            Ok(true) => {}
-            _ => return Some(place),
+    let words = words_of(alloc, moments)?;
+    for moment in words.as_slice().chunks(4) {
+        if !goes(alloc, terminal, moment)? {
+            return Ok(false);
         }
     }
-    None
+    Ok(true)
 }
 
-/// The vault that a terminal of this edition has once it has lived through these moments, or the place of the first at which it
-/// sends something else.
+/// The vault that a terminal of this edition has once it has lived through these moments; None where it writes something else at
+/// one of them.
 pub fn live<V: Vault + Drop>(
     alloc: Global,
     edition: Edition,
     vault: V,
-    moments: &[Moment],
-) -> Result<V, usize> {
-    let Some(mut terminal) = started(alloc, edition, vault) else {
-        return Err(moments.len());
-    };
-    let wrong = first_wrong(alloc, &mut terminal, moments);
-    left(terminal, wrong)
+    moments: &str,
+) -> Option<V> {
+    let mut terminal = started(alloc, edition, vault)?;
+    let is_so = go(alloc, &mut terminal, moments) == Ok(true);
+    left(terminal, is_so)
 }
 
-// What is left of a terminal: its vault, or the place of a wrong moment.
-fn left<V: Vault + Drop>(terminal: Terminal<V>, wrong: Option<usize>) -> Result<V, usize> {
+// What is left of a terminal that lived so: its vault.
+fn left<V: Vault + Drop>(terminal: Terminal<V>, is_so: bool) -> Option<V> {
     let vault = terminal.into_vault();
-    match wrong {
-        None => Ok(vault),
-        Some(place) => Err(place),
-    }
+    if is_so { Some(vault) } else { None }
 }
 
 fn push_counts(text: &mut String, loaded: &Loaded) -> Result<(), AllocError> {

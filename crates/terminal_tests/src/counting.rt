@@ -1,14 +1,16 @@
 ghost use Rattle.std.specs.Prelude.{◌≡◌};
 ghost use Rattle.jt_terminal_rule.specs.Messages.{AreSettings};
 
+use crate::said::said_by;
 use crate::scene::started;
 use crate::starting::settings;
-use crate::talking::{beat, wrong_row};
+use crate::talking::{Row, beat, wrong_row};
 use jt_position::Fix;
 use jt_store::{MemVault, StoreError, Vault};
 use jt_terminal::{Settings, Terminal};
 use jt_value::{Edition, Seq};
 use std::alloc::Global;
+use std::process::Abort;
 
 // Records a fix. Whether it was recorded, how many are recorded and accepted then, and whether all is done.
 fn recorded(alloc: Global, terminal: &mut Terminal<MemVault>) -> (bool, (u64, u64), bool) {
@@ -68,9 +70,9 @@ fn talk(
     alloc: Global,
     terminal: &mut Terminal<MemVault>,
     edition: Edition,
-    begin: &[(u8, u32, u16, u8, &[u8], &[u8])],
+    begin: &[Row],
     heartbeat: &[u8],
-    last: &[(u8, u32, u16, u8, &[u8], &[u8])],
+    last: &[Row],
 ) -> (usize, (u32, bool), usize)
     requires { terminal.old.state.time ≡ 0 }
 {
@@ -85,59 +87,39 @@ fn talk(
 fn talked(
     alloc: Global,
     edition: Edition,
-    begin: &[(u8, u32, u16, u8, &[u8], &[u8])],
+    begin: &[Row],
     heartbeat: &[u8],
-    last: &[(u8, u32, u16, u8, &[u8], &[u8])],
+    last: &[Row],
 ) -> Option<(usize, (u32, bool), usize)> {
     let mut terminal = started(alloc, edition, Seq::new(alloc))?;
     Some(talk(alloc, &mut terminal, edition, begin, heartbeat, last))
 }
 
+// Whether in this edition 40,000 heartbeats leave the last serial to a unit.
+fn is_left_to_a_unit(rt: &impl Abort, alloc: Global, edition: Edition) -> bool {
+    let begin: &[Row] = &[
+        (b'O', 0, 0, 0, b"", "registration_0"),
+        (b'R', 0, 0, 0, b"AB", "authentication_1"),
+        (b'A', 1, 0x0102, 0, b"", "-"),
+    ];
+    let last: &[Row] = &[
+        (b'F', 1, 0, 0, b"", "-"),
+        (b'T', 0, 0, 0, b"", "unit_last"),
+        (b'F', 2, 0, 0, b"", "-"),
+        (b'T', 0, 0, 0, b"", "-"),
+    ];
+    let heartbeat = said_by(alloc, edition, "heartbeat_last").expect(rt, "a frame");
+    talked(alloc, edition, begin, heartbeat.as_slice(), last) == Some((3, (40_000, true), 4))
+}
+
 #[test]
 fn heartbeats_leave_the_last_serial_to_a_unit_in_2013(rt: HostRuntime) {
-    const REGISTRATION: &[u8] =
-        b"~\x01\x00\x00*\x019\x124Vx\x00\x00\x00\x00\x00\x00\x00\x00\x00\x00\x00\x00\x00\x00\x00\x00\x00\x00\x00\x00\x00\x00\x00\x00\x00\x00\x00\x00\x00\x00\x001234567\x01JT808\x04~";
-    const AUTHENTICATION: &[u8] = b"~\x01\x02\x00\x02\x019\x124Vx\x00\x01AB3~";
-    let heartbeat: &[u8] = b"~\x00\x02\x00\x00\x019\x124Vx\x7f\xfd\xb0~";
-    const UNIT: &[u8] =
-        b"~\x02\x00\x00\x1c\x019\x124Vx\x7f\xfd\x00\x00\x00\x00\x00\x00\x00\x03\x00\x00\x00\x01\x06\xbc>@\x00\x00\x00\x00\x00\x00$\x01\x01\x00\x00\x00N~";
-    let begin: &[(u8, u32, u16, u8, &[u8], &[u8])] = &[
-        (b'O', 0, 0, 0, b"", REGISTRATION),
-        (b'R', 0, 0, 0, b"AB", AUTHENTICATION),
-        (b'A', 1, 0x0102, 0, b"", b""),
-    ];
-    let last: &[(u8, u32, u16, u8, &[u8], &[u8])] = &[
-        (b'F', 1, 0, 0, b"", b""),
-        (b'T', 0, 0, 0, b"", UNIT),
-        (b'F', 2, 0, 0, b"", b""),
-        (b'T', 0, 0, 0, b"", b""),
-    ];
-    let said = talked(rt.alloc(), Edition::E2013, begin, heartbeat, last);
-    assert!(rt; said == Some((3, (40_000, true), 4)));
+    assert!(rt; is_left_to_a_unit(&rt, rt.alloc(), Edition::E2013));
 }
 
 #[test]
 fn heartbeats_leave_the_last_serial_to_a_unit_in_2019(rt: HostRuntime) {
-    const REGISTRATION: &[u8] =
-        b"~\x01\x00@Q\x01\x00\x00\x00\x00\x019\x124Vx\x00\x00\x00\x00\x00\x00\x00\x00\x00\x00\x00\x00\x00\x00\x00\x00\x00\x00\x00\x00\x00\x00\x00\x00\x00\x00\x00\x00\x00\x00\x00\x00\x00\x00\x00\x00\x00\x00\x00\x00\x00\x00\x00\x00\x00\x00\x001234567\x00\x00\x00\x00\x00\x00\x00\x00\x00\x00\x00\x00\x00\x00\x00\x00\x00\x00\x00\x00\x00\x00\x00\x01JT808>~";
-    const AUTHENTICATION: &[u8] =
-        b"~\x01\x02@&\x01\x00\x00\x00\x00\x019\x124Vx\x00\x01\x02AB\x00\x00\x00\x00\x00\x00\x00\x00\x00\x00\x00\x00\x00\x00\x00\x00\x00\x00\x00\x00\x00\x00\x00\x00\x00\x00\x00\x00\x00\x00\x00\x00\x00\x00\x00T~";
-    let heartbeat: &[u8] = b"~\x00\x02@\x00\x01\x00\x00\x00\x00\x019\x124Vx\x7f\xfd\xf1~";
-    const UNIT: &[u8] =
-        b"~\x02\x00@\x1c\x01\x00\x00\x00\x00\x019\x124Vx\x7f\xfd\x00\x00\x00\x00\x00\x00\x00\x03\x00\x00\x00\x01\x06\xbc>@\x00\x00\x00\x00\x00\x00$\x01\x01\x00\x00\x00\x0f~";
-    let begin: &[(u8, u32, u16, u8, &[u8], &[u8])] = &[
-        (b'O', 0, 0, 0, b"", REGISTRATION),
-        (b'R', 0, 0, 0, b"AB", AUTHENTICATION),
-        (b'A', 1, 0x0102, 0, b"", b""),
-    ];
-    let last: &[(u8, u32, u16, u8, &[u8], &[u8])] = &[
-        (b'F', 1, 0, 0, b"", b""),
-        (b'T', 0, 0, 0, b"", UNIT),
-        (b'F', 2, 0, 0, b"", b""),
-        (b'T', 0, 0, 0, b"", b""),
-    ];
-    let said = talked(rt.alloc(), Edition::E2019, begin, heartbeat, last);
-    assert!(rt; said == Some((3, (40_000, true), 4)));
+    assert!(rt; is_left_to_a_unit(&rt, rt.alloc(), Edition::E2019));
 }
 
 fn holds_nothing(alloc: Global, vault: &mut MemVault) -> bool {

@@ -3,7 +3,7 @@
 ghost use Rattle.std.specs.Prelude.{◌≡◌, IfSome};
 
 use crate::starting::settings;
-use crate::talking::{first_wrong, wrong_row};
+use crate::talking::{Row, first_wrong, wrong_row};
 use jt_position::{Fix, law_fixes};
 use jt_store::{MemVault, StoreError, Unit, Vault};
 use jt_terminal::Terminal;
@@ -65,11 +65,7 @@ fn opened(alloc: Global, count: u32) -> Option<Terminal<MemVault>>
 }
 
 // The first wrong row of a terminal over that vault, or their number, and how many fixes are recorded and accepted then.
-fn followed(
-    alloc: Global,
-    count: u32,
-    rows: &[(u8, u32, u16, u8, &[u8], &[u8])],
-) -> Option<(usize, (u64, u64))> {
+fn followed(alloc: Global, count: u32, rows: &[Row]) -> Option<(usize, (u64, u64))> {
     let mut terminal = opened(alloc, count)?;
     let mut time = 0;
     let place = wrong_row(alloc, &mut terminal, &mut time, Edition::E2013, rows);
@@ -78,142 +74,90 @@ fn followed(
 
 #[test]
 fn twenty_units_that_were_pending_are_sent_in_order(rt: HostRuntime) {
-    const REGISTRATION: &[u8] =
-        b"~\x01\x00\x00*\x019\x124Vx\x00\x14\x00\x00\x00\x00\x00\x00\x00\x00\x00\x00\x00\x00\x00\x00\x00\x00\x00\x00\x00\x00\x00\x00\x00\x00\x00\x00\x00\x00\x001234567\x01JT808\x10~";
-    const AUTHENTICATION: &[u8] = b"~\x01\x02\x00\x02\x019\x124Vx\x00\x15AB'~";
-    const FIRST_SIXTEEN: &[u8] =
-        b"~\x02\x00\x00\x1c\x019\x124Vx\x00\x00\x00\x00\x00\x00\x00\x00\x00\x03\x00\x00\x00\x01\x06\xbc>@\x00\x00\x00\x00\x00\x00$\x01\x01\x00\x00\x00\xcc~~\x02\x00\x00\x1c\x019\x124Vx\x00\x01\x00\x00\x00\x00\x00\x00\x00\x03\x00\x00\x00\x02\x06\xbc>@\x00\x00\x00\x00\x00\x00$\x01\x01\x00\x00\x00\xce~~\x02\x00\x00\x1c\x019\x124Vx\x00\x02\x00\x00\x00\x00\x00\x00\x00\x03\x00\x00\x00\x03\x06\xbc>@\x00\x00\x00\x00\x00\x00$\x01\x01\x00\x00\x00\xcc~~\x02\x00\x00\x1c\x019\x124Vx\x00\x03\x00\x00\x00\x00\x00\x00\x00\x03\x00\x00\x00\x04\x06\xbc>@\x00\x00\x00\x00\x00\x00$\x01\x01\x00\x00\x00\xca~~\x02\x00\x00\x1c\x019\x124Vx\x00\x04\x00\x00\x00\x00\x00\x00\x00\x03\x00\x00\x00\x05\x06\xbc>@\x00\x00\x00\x00\x00\x00$\x01\x01\x00\x00\x00\xcc~~\x02\x00\x00\x1c\x019\x124Vx\x00\x05\x00\x00\x00\x00\x00\x00\x00\x03\x00\x00\x00\x06\x06\xbc>@\x00\x00\x00\x00\x00\x00$\x01\x01\x00\x00\x00\xce~~\x02\x00\x00\x1c\x019\x124Vx\x00\x06\x00\x00\x00\x00\x00\x00\x00\x03\x00\x00\x00\x07\x06\xbc>@\x00\x00\x00\x00\x00\x00$\x01\x01\x00\x00\x00\xcc~~\x02\x00\x00\x1c\x019\x124Vx\x00\x07\x00\x00\x00\x00\x00\x00\x00\x03\x00\x00\x00\x08\x06\xbc>@\x00\x00\x00\x00\x00\x00$\x01\x01\x00\x00\x00\xc2~~\x02\x00\x00\x1c\x019\x124Vx\x00\x08\x00\x00\x00\x00\x00\x00\x00\x03\x00\x00\x00\x09\x06\xbc>@\x00\x00\x00\x00\x00\x00$\x01\x01\x00\x00\x00\xcc~~\x02\x00\x00\x1c\x019\x124Vx\x00\x09\x00\x00\x00\x00\x00\x00\x00\x03\x00\x00\x00\x0a\x06\xbc>@\x00\x00\x00\x00\x00\x00$\x01\x01\x00\x00\x00\xce~~\x02\x00\x00\x1c\x019\x124Vx\x00\x0a\x00\x00\x00\x00\x00\x00\x00\x03\x00\x00\x00\x0b\x06\xbc>@\x00\x00\x00\x00\x00\x00$\x01\x01\x00\x00\x00\xcc~~\x02\x00\x00\x1c\x019\x124Vx\x00\x0b\x00\x00\x00\x00\x00\x00\x00\x03\x00\x00\x00\x0c\x06\xbc>@\x00\x00\x00\x00\x00\x00$\x01\x01\x00\x00\x00\xca~~\x02\x00\x00\x1c\x019\x124Vx\x00\x0c\x00\x00\x00\x00\x00\x00\x00\x03\x00\x00\x00\x0d\x06\xbc>@\x00\x00\x00\x00\x00\x00$\x01\x01\x00\x00\x00\xcc~~\x02\x00\x00\x1c\x019\x124Vx\x00\x0d\x00\x00\x00\x00\x00\x00\x00\x03\x00\x00\x00\x0e\x06\xbc>@\x00\x00\x00\x00\x00\x00$\x01\x01\x00\x00\x00\xce~~\x02\x00\x00\x1c\x019\x124Vx\x00\x0e\x00\x00\x00\x00\x00\x00\x00\x03\x00\x00\x00\x0f\x06\xbc>@\x00\x00\x00\x00\x00\x00$\x01\x01\x00\x00\x00\xcc~~\x02\x00\x00\x1c\x019\x124Vx\x00\x0f\x00\x00\x00\x00\x00\x00\x00\x03\x00\x00\x00\x10\x06\xbc>@\x00\x00\x00\x00\x00\x00$\x01\x01\x00\x00\x00\xd2~";
-    const NEXT_0: &[u8] =
-        b"~\x02\x00\x00\x1c\x019\x124Vx\x00\x10\x00\x00\x00\x00\x00\x00\x00\x03\x00\x00\x00\x11\x06\xbc>@\x00\x00\x00\x00\x00\x00$\x01\x01\x00\x00\x00\xcc~told \x00\x00\x00\x00\x00\x00\x00\x00";
-    const NEXT_1: &[u8] =
-        b"~\x02\x00\x00\x1c\x019\x124Vx\x00\x11\x00\x00\x00\x00\x00\x00\x00\x03\x00\x00\x00\x12\x06\xbc>@\x00\x00\x00\x00\x00\x00$\x01\x01\x00\x00\x00\xce~told \x00\x00\x00\x00\x00\x00\x00\x00";
-    const NEXT_2: &[u8] =
-        b"~\x02\x00\x00\x1c\x019\x124Vx\x00\x12\x00\x00\x00\x00\x00\x00\x00\x03\x00\x00\x00\x13\x06\xbc>@\x00\x00\x00\x00\x00\x00$\x01\x01\x00\x00\x00\xcc~told \x00\x00\x00\x00\x00\x00\x00\x00";
-    const NEXT_3: &[u8] =
-        b"~\x02\x00\x00\x1c\x019\x124Vx\x00\x13\x00\x00\x00\x00\x00\x00\x00\x03\x00\x00\x00\x14\x06\xbc>@\x00\x00\x00\x00\x00\x00$\x01\x01\x00\x00\x00\xca~told \x00\x00\x00\x00\x00\x00\x00\x00";
-    const TOLD: &[u8] = b"told \x00\x00\x00\x00\x00\x00\x00\x00";
-    let rows: &[(u8, u32, u16, u8, &[u8], &[u8])] = &[
-        (b'O', 0, 0x0000, 0, b"", REGISTRATION),
-        (b'R', 20, 0x0000, 0, b"AB", AUTHENTICATION),
-        (b'A', 21, 0x0102, 0, b"", FIRST_SIXTEEN),
-        (b'A', 0, 0x0200, 0, b"", NEXT_0),
-        (b'A', 1, 0x0200, 0, b"", NEXT_1),
-        (b'A', 2, 0x0200, 0, b"", NEXT_2),
-        (b'A', 3, 0x0200, 0, b"", NEXT_3),
-        (b'A', 4, 0x0200, 0, b"", TOLD),
-        (b'A', 5, 0x0200, 0, b"", TOLD),
-        (b'A', 6, 0x0200, 0, b"", TOLD),
-        (b'A', 7, 0x0200, 0, b"", TOLD),
-        (b'A', 8, 0x0200, 0, b"", TOLD),
-        (b'A', 9, 0x0200, 0, b"", TOLD),
-        (b'A', 10, 0x0200, 0, b"", TOLD),
-        (b'A', 11, 0x0200, 0, b"", TOLD),
-        (b'A', 12, 0x0200, 0, b"", TOLD),
-        (b'A', 13, 0x0200, 0, b"", TOLD),
-        (b'A', 14, 0x0200, 0, b"", TOLD),
-        (b'A', 15, 0x0200, 0, b"", TOLD),
-        (b'A', 16, 0x0200, 0, b"", TOLD),
-        (b'A', 17, 0x0200, 0, b"", TOLD),
-        (b'A', 18, 0x0200, 0, b"", TOLD),
-        (b'A', 19, 0x0200, 0, b"", TOLD),
+    let rows: &[Row] = &[
+        (b'O', 0, 0x0000, 0, b"", "pending_registration"),
+        (b'R', 20, 0x0000, 0, b"AB", "pending_authentication"),
+        (b'A', 21, 0x0102, 0, b"", "pending_first_sixteen"),
+        (b'A', 0, 0x0200, 0, b"", "pending_next_0"),
+        (b'A', 1, 0x0200, 0, b"", "pending_next_1"),
+        (b'A', 2, 0x0200, 0, b"", "pending_next_2"),
+        (b'A', 3, 0x0200, 0, b"", "pending_next_3"),
+        (b'A', 4, 0x0200, 0, b"", "told"),
+        (b'A', 5, 0x0200, 0, b"", "told"),
+        (b'A', 6, 0x0200, 0, b"", "told"),
+        (b'A', 7, 0x0200, 0, b"", "told"),
+        (b'A', 8, 0x0200, 0, b"", "told"),
+        (b'A', 9, 0x0200, 0, b"", "told"),
+        (b'A', 10, 0x0200, 0, b"", "told"),
+        (b'A', 11, 0x0200, 0, b"", "told"),
+        (b'A', 12, 0x0200, 0, b"", "told"),
+        (b'A', 13, 0x0200, 0, b"", "told"),
+        (b'A', 14, 0x0200, 0, b"", "told"),
+        (b'A', 15, 0x0200, 0, b"", "told"),
+        (b'A', 16, 0x0200, 0, b"", "told"),
+        (b'A', 17, 0x0200, 0, b"", "told"),
+        (b'A', 18, 0x0200, 0, b"", "told"),
+        (b'A', 19, 0x0200, 0, b"", "told"),
     ];
     assert!(rt; followed(rt.alloc(), 20, rows) == Some((23, (20, 20))));
 }
 
 #[test]
 fn sixteen_units_in_flight_are_accepted_in_order(rt: HostRuntime) {
-    const REGISTRATION: &[u8] =
-        b"~\x01\x00\x00*\x019\x124Vx\x00\x00\x00\x00\x00\x00\x00\x00\x00\x00\x00\x00\x00\x00\x00\x00\x00\x00\x00\x00\x00\x00\x00\x00\x00\x00\x00\x00\x00\x00\x001234567\x01JT808\x04~";
-    const AUTHENTICATION: &[u8] = b"~\x01\x02\x00\x02\x019\x124Vx\x00\x01AB3~";
-    const UNIT_0: &[u8] =
-        b"~\x02\x00\x00\x1c\x019\x124Vx\x00\x02\x00\x00\x00\x00\x00\x00\x00\x03\x00\x00\x00\x01\x06\xbc>@\x00\x00\x00\x00\x00\x00$\x01\x01\x00\x00\x00\xce~";
-    const UNIT_1: &[u8] =
-        b"~\x02\x00\x00\x1c\x019\x124Vx\x00\x03\x00\x00\x00\x00\x00\x00\x00\x03\x00\x00\x00\x02\x06\xbc>@\x00\x00\x00\x00\x00\x00$\x01\x01\x00\x00\x00\xcc~";
-    const UNIT_2: &[u8] =
-        b"~\x02\x00\x00\x1c\x019\x124Vx\x00\x04\x00\x00\x00\x00\x00\x00\x00\x03\x00\x00\x00\x03\x06\xbc>@\x00\x00\x00\x00\x00\x00$\x01\x01\x00\x00\x00\xca~";
-    const UNIT_3: &[u8] =
-        b"~\x02\x00\x00\x1c\x019\x124Vx\x00\x05\x00\x00\x00\x00\x00\x00\x00\x03\x00\x00\x00\x04\x06\xbc>@\x00\x00\x00\x00\x00\x00$\x01\x01\x00\x00\x00\xcc~";
-    const UNIT_4: &[u8] =
-        b"~\x02\x00\x00\x1c\x019\x124Vx\x00\x06\x00\x00\x00\x00\x00\x00\x00\x03\x00\x00\x00\x05\x06\xbc>@\x00\x00\x00\x00\x00\x00$\x01\x01\x00\x00\x00\xce~";
-    const UNIT_5: &[u8] =
-        b"~\x02\x00\x00\x1c\x019\x124Vx\x00\x07\x00\x00\x00\x00\x00\x00\x00\x03\x00\x00\x00\x06\x06\xbc>@\x00\x00\x00\x00\x00\x00$\x01\x01\x00\x00\x00\xcc~";
-    const UNIT_6: &[u8] =
-        b"~\x02\x00\x00\x1c\x019\x124Vx\x00\x08\x00\x00\x00\x00\x00\x00\x00\x03\x00\x00\x00\x07\x06\xbc>@\x00\x00\x00\x00\x00\x00$\x01\x01\x00\x00\x00\xc2~";
-    const UNIT_7: &[u8] =
-        b"~\x02\x00\x00\x1c\x019\x124Vx\x00\x09\x00\x00\x00\x00\x00\x00\x00\x03\x00\x00\x00\x08\x06\xbc>@\x00\x00\x00\x00\x00\x00$\x01\x01\x00\x00\x00\xcc~";
-    const UNIT_8: &[u8] =
-        b"~\x02\x00\x00\x1c\x019\x124Vx\x00\x0a\x00\x00\x00\x00\x00\x00\x00\x03\x00\x00\x00\x09\x06\xbc>@\x00\x00\x00\x00\x00\x00$\x01\x01\x00\x00\x00\xce~";
-    const UNIT_9: &[u8] =
-        b"~\x02\x00\x00\x1c\x019\x124Vx\x00\x0b\x00\x00\x00\x00\x00\x00\x00\x03\x00\x00\x00\x0a\x06\xbc>@\x00\x00\x00\x00\x00\x00$\x01\x01\x00\x00\x00\xcc~";
-    const UNIT_10: &[u8] =
-        b"~\x02\x00\x00\x1c\x019\x124Vx\x00\x0c\x00\x00\x00\x00\x00\x00\x00\x03\x00\x00\x00\x0b\x06\xbc>@\x00\x00\x00\x00\x00\x00$\x01\x01\x00\x00\x00\xca~";
-    const UNIT_11: &[u8] =
-        b"~\x02\x00\x00\x1c\x019\x124Vx\x00\x0d\x00\x00\x00\x00\x00\x00\x00\x03\x00\x00\x00\x0c\x06\xbc>@\x00\x00\x00\x00\x00\x00$\x01\x01\x00\x00\x00\xcc~";
-    const UNIT_12: &[u8] =
-        b"~\x02\x00\x00\x1c\x019\x124Vx\x00\x0e\x00\x00\x00\x00\x00\x00\x00\x03\x00\x00\x00\x0d\x06\xbc>@\x00\x00\x00\x00\x00\x00$\x01\x01\x00\x00\x00\xce~";
-    const UNIT_13: &[u8] =
-        b"~\x02\x00\x00\x1c\x019\x124Vx\x00\x0f\x00\x00\x00\x00\x00\x00\x00\x03\x00\x00\x00\x0e\x06\xbc>@\x00\x00\x00\x00\x00\x00$\x01\x01\x00\x00\x00\xcc~";
-    const UNIT_14: &[u8] =
-        b"~\x02\x00\x00\x1c\x019\x124Vx\x00\x10\x00\x00\x00\x00\x00\x00\x00\x03\x00\x00\x00\x0f\x06\xbc>@\x00\x00\x00\x00\x00\x00$\x01\x01\x00\x00\x00\xd2~";
-    const UNIT_15: &[u8] =
-        b"~\x02\x00\x00\x1c\x019\x124Vx\x00\x11\x00\x00\x00\x00\x00\x00\x00\x03\x00\x00\x00\x10\x06\xbc>@\x00\x00\x00\x00\x00\x00$\x01\x01\x00\x00\x00\xcc~";
-    const UNIT_16: &[u8] =
-        b"~\x02\x00\x00\x1c\x019\x124Vx\x00\x12\x00\x00\x00\x00\x00\x00\x00\x03\x00\x00\x00\x11\x06\xbc>@\x00\x00\x00\x00\x00\x00$\x01\x01\x00\x00\x00\xce~";
-    const TOLD: &[u8] = b"told \x00\x00\x00\x00\x00\x00\x00\x00";
-    let rows: &[(u8, u32, u16, u8, &[u8], &[u8])] = &[
-        (b'O', 0, 0x0000, 0, b"", REGISTRATION),
-        (b'R', 0, 0x0000, 0, b"AB", AUTHENTICATION),
-        (b'A', 1, 0x0102, 0, b"", b""),
-        (b'F', 1, 0x0000, 0, b"", b""),
-        (b'T', 0, 0x0000, 0, b"", UNIT_0),
-        (b'F', 2, 0x0000, 0, b"", b""),
-        (b'T', 0, 0x0000, 0, b"", UNIT_1),
-        (b'F', 3, 0x0000, 0, b"", b""),
-        (b'T', 0, 0x0000, 0, b"", UNIT_2),
-        (b'F', 4, 0x0000, 0, b"", b""),
-        (b'T', 0, 0x0000, 0, b"", UNIT_3),
-        (b'F', 5, 0x0000, 0, b"", b""),
-        (b'T', 0, 0x0000, 0, b"", UNIT_4),
-        (b'F', 6, 0x0000, 0, b"", b""),
-        (b'T', 0, 0x0000, 0, b"", UNIT_5),
-        (b'F', 7, 0x0000, 0, b"", b""),
-        (b'T', 0, 0x0000, 0, b"", UNIT_6),
-        (b'F', 8, 0x0000, 0, b"", b""),
-        (b'T', 0, 0x0000, 0, b"", UNIT_7),
-        (b'F', 9, 0x0000, 0, b"", b""),
-        (b'T', 0, 0x0000, 0, b"", UNIT_8),
-        (b'F', 10, 0x0000, 0, b"", b""),
-        (b'T', 0, 0x0000, 0, b"", UNIT_9),
-        (b'F', 11, 0x0000, 0, b"", b""),
-        (b'T', 0, 0x0000, 0, b"", UNIT_10),
-        (b'F', 12, 0x0000, 0, b"", b""),
-        (b'T', 0, 0x0000, 0, b"", UNIT_11),
-        (b'F', 13, 0x0000, 0, b"", b""),
-        (b'T', 0, 0x0000, 0, b"", UNIT_12),
-        (b'F', 14, 0x0000, 0, b"", b""),
-        (b'T', 0, 0x0000, 0, b"", UNIT_13),
-        (b'F', 15, 0x0000, 0, b"", b""),
-        (b'T', 0, 0x0000, 0, b"", UNIT_14),
-        (b'F', 16, 0x0000, 0, b"", b""),
-        (b'T', 0, 0x0000, 0, b"", UNIT_15),
-        (b'A', 2, 0x0200, 0, b"", TOLD),
-        (b'A', 3, 0x0200, 0, b"", TOLD),
-        (b'A', 4, 0x0200, 0, b"", TOLD),
-        (b'A', 5, 0x0200, 0, b"", TOLD),
-        (b'A', 6, 0x0200, 0, b"", TOLD),
-        (b'A', 7, 0x0200, 0, b"", TOLD),
-        (b'A', 8, 0x0200, 0, b"", TOLD),
-        (b'A', 9, 0x0200, 0, b"", TOLD),
-        (b'A', 10, 0x0200, 0, b"", TOLD),
-        (b'A', 11, 0x0200, 0, b"", TOLD),
-        (b'A', 12, 0x0200, 0, b"", TOLD),
-        (b'A', 13, 0x0200, 0, b"", TOLD),
-        (b'A', 14, 0x0200, 0, b"", TOLD),
-        (b'A', 15, 0x0200, 0, b"", TOLD),
-        (b'A', 16, 0x0200, 0, b"", TOLD),
-        (b'A', 17, 0x0200, 0, b"", TOLD),
-        (b'F', 17, 0x0000, 0, b"", b""),
-        (b'T', 0, 0x0000, 0, b"", UNIT_16),
+    let rows: &[Row] = &[
+        (b'O', 0, 0x0000, 0, b"", "registration_0"),
+        (b'R', 0, 0x0000, 0, b"AB", "authentication_1"),
+        (b'A', 1, 0x0102, 0, b"", "-"),
+        (b'F', 1, 0x0000, 0, b"", "-"),
+        (b'T', 0, 0x0000, 0, b"", "unit_2"),
+        (b'F', 2, 0x0000, 0, b"", "-"),
+        (b'T', 0, 0x0000, 0, b"", "unit_3"),
+        (b'F', 3, 0x0000, 0, b"", "-"),
+        (b'T', 0, 0x0000, 0, b"", "unit_4"),
+        (b'F', 4, 0x0000, 0, b"", "-"),
+        (b'T', 0, 0x0000, 0, b"", "unit_5"),
+        (b'F', 5, 0x0000, 0, b"", "-"),
+        (b'T', 0, 0x0000, 0, b"", "unit_6"),
+        (b'F', 6, 0x0000, 0, b"", "-"),
+        (b'T', 0, 0x0000, 0, b"", "unit_7"),
+        (b'F', 7, 0x0000, 0, b"", "-"),
+        (b'T', 0, 0x0000, 0, b"", "unit_8"),
+        (b'F', 8, 0x0000, 0, b"", "-"),
+        (b'T', 0, 0x0000, 0, b"", "unit_9"),
+        (b'F', 9, 0x0000, 0, b"", "-"),
+        (b'T', 0, 0x0000, 0, b"", "unit_10"),
+        (b'F', 10, 0x0000, 0, b"", "-"),
+        (b'T', 0, 0x0000, 0, b"", "unit_11"),
+        (b'F', 11, 0x0000, 0, b"", "-"),
+        (b'T', 0, 0x0000, 0, b"", "unit_12"),
+        (b'F', 12, 0x0000, 0, b"", "-"),
+        (b'T', 0, 0x0000, 0, b"", "unit_13"),
+        (b'F', 13, 0x0000, 0, b"", "-"),
+        (b'T', 0, 0x0000, 0, b"", "unit_14"),
+        (b'F', 14, 0x0000, 0, b"", "-"),
+        (b'T', 0, 0x0000, 0, b"", "unit_15"),
+        (b'F', 15, 0x0000, 0, b"", "-"),
+        (b'T', 0, 0x0000, 0, b"", "unit_16"),
+        (b'F', 16, 0x0000, 0, b"", "-"),
+        (b'T', 0, 0x0000, 0, b"", "unit_17"),
+        (b'A', 2, 0x0200, 0, b"", "told"),
+        (b'A', 3, 0x0200, 0, b"", "told"),
+        (b'A', 4, 0x0200, 0, b"", "told"),
+        (b'A', 5, 0x0200, 0, b"", "told"),
+        (b'A', 6, 0x0200, 0, b"", "told"),
+        (b'A', 7, 0x0200, 0, b"", "told"),
+        (b'A', 8, 0x0200, 0, b"", "told"),
+        (b'A', 9, 0x0200, 0, b"", "told"),
+        (b'A', 10, 0x0200, 0, b"", "told"),
+        (b'A', 11, 0x0200, 0, b"", "told"),
+        (b'A', 12, 0x0200, 0, b"", "told"),
+        (b'A', 13, 0x0200, 0, b"", "told"),
+        (b'A', 14, 0x0200, 0, b"", "told"),
+        (b'A', 15, 0x0200, 0, b"", "told"),
+        (b'A', 16, 0x0200, 0, b"", "told"),
+        (b'A', 17, 0x0200, 0, b"", "told"),
+        (b'F', 17, 0x0000, 0, b"", "-"),
+        (b'T', 0, 0x0000, 0, b"", "unit_18"),
     ];
     let failing: [u64; 0] = [];
     assert!(rt; first_wrong(rt.alloc(), Edition::E2013, &failing, rows) == 53);

@@ -2,8 +2,10 @@
 #![tactic(auto)]
 
 mod starting;
+mod written;
 
 pub use starting::{octets, phone, settings};
+pub use written::{frames_in, octets_in, words_of};
 
 #[cfg(test)]
 mod answers;
@@ -17,6 +19,8 @@ mod in_flight;
 mod playing;
 #[cfg(test)]
 mod rows;
+#[cfg(test)]
+mod said;
 #[cfg(test)]
 mod scene;
 #[cfg(test)]

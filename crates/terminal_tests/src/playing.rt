@@ -4,6 +4,7 @@ ghost use Rattle.std.specs.Prelude.{◌≡◌, ◌≤◌};
 
 use crate::scene::{note, note_at, open, started, tick, transcript};
 use crate::starting::octets;
+use crate::written::{octets_in, words_of};
 use jt_position::{Fix, FixError};
 use jt_store::MemVault;
 use jt_terminal::{Terminal, TerminalLine};
@@ -123,6 +124,15 @@ fn hand(
     transcript(alloc, &result)
 }
 
+/// A row: what happens, a number, octets that come, and what is said then.
+#[derive(Drop)]
+pub struct Row {
+    what: u8,
+    number: u32,
+    given: Vec<u8>,
+    said: Vec<u8>,
+}
+
 // What a row says happens: a line is opened (O), a fix at this latitude (F) or of these octets (G) is recorded, octets of the
 // platform come (D), circles with ids from this number on come in packets (C), or it is this moment (T).
 fn happens(
@@ -131,16 +141,15 @@ fn happens(
     line: &mut TerminalLine,
     read: &mut u64,
     time: &mut u32,
-    what: u8,
-    number: u32,
-    given: &[u8],
+    row: &Row,
 ) -> Result<Octets, Memory>
     requires time { terminal.old.state.time ≤ time.old }
     requires place { line.old.stream.place ≤ read.old }
     ensures time { terminal.new.state.time ≤ time.new }
     ensures place { line.new.stream.place ≤ read.new }
 {
-    match what {
+    let (number, given) = (row.number, row.given.as_slice());
+    match row.what {
         b'O' => {
             *line = TerminalLine::new(alloc);
             open(alloc, terminal)
@@ -162,9 +171,8 @@ fn happens(
     }
 }
 
-/// The first row whose octets are not what the terminal said, or the number of rows. In a row stand what happens, a number,
-/// octets that come, and what is said then.
-pub fn first_wrong(alloc: Global, edition: Edition, rows: &[(u8, u32, &[u8], &[u8])]) -> usize {
+/// The first row whose octets are not what the terminal said, or the number of rows.
+fn first_wrong(alloc: Global, edition: Edition, rows: &[Row]) -> usize {
     let Some(mut terminal) = started(alloc, edition, Seq::new(alloc)) else {
         return 0;
     };
@@ -177,7 +185,7 @@ pub fn first_wrong(alloc: Global, edition: Edition, rows: &[(u8, u32, &[u8], &[u
 pub fn first_wrong_cut(
     alloc: Global,
     edition: Edition,
-    rows: &[(u8, u32, &[u8], &[u8])],
+    rows: &[Row],
     given: &[u8],
     said: &[u8],
 ) -> usize {
@@ -192,7 +200,7 @@ pub fn first_wrong_cut(
 fn cut_says(
     alloc: Global,
     edition: Edition,
-    rows: &[(u8, u32, &[u8], &[u8])],
+    rows: &[Row],
     first: &[u8],
     second: &[u8],
     said: &[u8],
@@ -209,7 +217,7 @@ fn says_in_two(
     alloc: Global,
     terminal: &mut Terminal<MemVault>,
     line: &mut TerminalLine,
-    rows: &[(u8, u32, &[u8], &[u8])],
+    rows: &[Row],
     first: &[u8],
     second: &[u8],
     said: &[u8],
@@ -250,7 +258,7 @@ fn wrong_row(
     terminal: &mut Terminal<MemVault>,
     line: &mut TerminalLine,
     read: &mut u64,
-    rows: &[(u8, u32, &[u8], &[u8])],
+    rows: &[Row],
 ) -> usize
     requires time { terminal.old.state.time ≡ 0 }
     requires place { line.old.stream.place ≤ read.old }
@@ -258,10 +266,9 @@ fn wrong_row(
 {
     let mut time = 0;
     for (place, row) in rows.iter().enumerate() {
-        let (what, number, given, said) = *row;
-        match happens(alloc, terminal, line, read, &mut time, what, number, given) {
+        match happens(alloc, terminal, line, read, &mut time, row) {
             Ok(octets) => {
-                if octets.as_slice() != said {
+                if octets.as_slice() != row.said.as_slice() {
                     return place;
                 }
             }
@@ -271,86 +278,77 @@ fn wrong_row(
     rows.len()
 }
 
-/// A row of both editions: the octets that come and what is said then, in 2013 and in 2019.
-pub type Both<'a> = (u8, u32, &'a [u8], &'a [u8], &'a [u8], &'a [u8]);
-
 // The terminal is let in: it registers, and authenticates itself.
-const LIVE: &[Both] = &[
-    (
-        b'O',
-        0,
-        b"",
-        b"\x7e\x01\x00\x00\x2a\x01\x39\x12\x34\x56\x78\x00\x00\x00\x00\x00\x00\x00\x00\x00\x00\x00\x00\x00\x00\x00\x00\x00\x00\x00\x00\x00\x00\x00\x00\x00\x00\x00\x00\x00\x00\x00\x31\x32\x33\x34\x35\x36\x37\x01\x4a\x54\x38\x30\x38\x04\x7e",
-        b"",
-        b"\x7e\x01\x00\x40\x51\x01\x00\x00\x00\x00\x01\x39\x12\x34\x56\x78\x00\x00\x00\x00\x00\x00\x00\x00\x00\x00\x00\x00\x00\x00\x00\x00\x00\x00\x00\x00\x00\x00\x00\x00\x00\x00\x00\x00\x00\x00\x00\x00\x00\x00\x00\x00\x00\x00\x00\x00\x00\x00\x00\x00\x00\x00\x00\x31\x32\x33\x34\x35\x36\x37\x00\x00\x00\x00\x00\x00\x00\x00\x00\x00\x00\x00\x00\x00\x00\x00\x00\x00\x00\x00\x00\x00\x00\x01\x4a\x54\x38\x30\x38\x3e\x7e",
-    ),
-    (
-        b'D',
-        0,
-        b"\x7e\x81\x00\x00\x05\x01\x39\x12\x34\x56\x78\x00\x00\x00\x00\x00\x41\x42\xb7\x7e",
-        b"\x7e\x01\x02\x00\x02\x01\x39\x12\x34\x56\x78\x00\x01\x41\x42\x33\x7e",
-        b"\x7e\x81\x00\x40\x05\x01\x00\x00\x00\x00\x01\x39\x12\x34\x56\x78\x00\x00\x00\x00\x00\x41\x42\xf6\x7e",
-        b"\x7e\x01\x02\x40\x26\x01\x00\x00\x00\x00\x01\x39\x12\x34\x56\x78\x00\x01\x02\x41\x42\x00\x00\x00\x00\x00\x00\x00\x00\x00\x00\x00\x00\x00\x00\x00\x00\x00\x00\x00\x00\x00\x00\x00\x00\x00\x00\x00\x00\x00\x00\x00\x00\x00\x00\x00\x54\x7e",
-    ),
-    (
-        b'D',
-        0,
-        b"\x7e\x80\x01\x00\x05\x01\x39\x12\x34\x56\x78\x00\x01\x00\x01\x01\x02\x00\xb7\x7e",
-        b"",
-        b"\x7e\x80\x01\x40\x05\x01\x00\x00\x00\x00\x01\x39\x12\x34\x56\x78\x00\x01\x00\x01\x01\x02\x00\xf6\x7e",
-        b"",
-    ),
-];
+const LIVE: &str = "
+    O 0 - 7e0100002a0139123456780000000000000000000000000000000000000000000000000000000000000031323334353637014a54383038047e
+        - 7e0100405101000000000139123456780000000000000000000000000000000000000000000000000000000000000000000000000000000000000000000000313233343536370000000000000000000000000000000000000000000000014a543830383e7e
+    D 0 7e8100000501391234567800000000004142b77e 7e0102000201391234567800014142337e
+        7e81004005010000000001391234567800000000004142f67e 7e01024026010000000001391234567800010241420000000000000000000000000000000000000000000000000000000000000000000000547e
+    D 0 7e8001000501391234567800010001010200b77e -
+        7e80014005010000000001391234567800010001010200f67e -";
 
-fn push_in<'a>(
+fn row_of(
     rt: &impl Abort,
-    edition: Edition,
-    rows: &[Both<'a>],
-    all: &mut Vec<(u8, u32, &'a [u8], &'a [u8])>,
-) {
-    for &(what, number, given_2013, said_2013, given_2019, said_2019) in rows {
-        let row = match edition {
-            Edition::E2013 => (what, number, given_2013, said_2013),
-            Edition::E2019 => (what, number, given_2019, said_2019),
-        };
-        all.push(row).expect(rt, "a row");
+    alloc: Global,
+    what: &str,
+    number: &str,
+    given: &str,
+    said: &str,
+) -> Row {
+    Row {
+        what: what.as_bytes().first().copied().unwrap_or(b'-'),
+        number: number.parse().expect(rt, "a number"),
+        given: octets_in(alloc, given).expect(rt, "octets"),
+        said: octets_in(alloc, said).expect(rt, "octets"),
     }
 }
 
-/// The rows of one edition that let the terminal in, and those that are given.
-pub fn live_in<'a>(
+// Puts the rows of a text behind others: four words each, or six, in which the octets of 2013 stand before those of 2019.
+fn push_rows(
     rt: &impl Abort,
     alloc: Global,
     edition: Edition,
-    rows: &[(u8, u32, &'a [u8], &'a [u8])],
-) -> Vec<(u8, u32, &'a [u8], &'a [u8])> {
-    let mut all = Vec::new(alloc);
-    push_in(rt, edition, LIVE, &mut all);
-    all.extend_from_slice(rows).expect(rt, "rows");
-    all
-}
-
-/// A terminal that is let in says in this edition what the rows say.
-pub fn expect_in(
-    rt: &impl Abort,
-    alloc: Global,
-    edition: Edition,
-    rows: &[(u8, u32, &[u8], &[u8])],
+    has_both: bool,
+    text: &str,
+    rows: &mut Vec<Row>,
 ) {
-    let all = live_in(rt, alloc, edition, rows);
-    assert!(rt; first_wrong(alloc, edition, all.as_slice()) == all.len());
+    let words = words_of(alloc, text).expect(rt, "words");
+    for row in words.as_slice().chunks(if has_both { 6 } else { 4 }) {
+        let (given, said) = if has_both && edition == Edition::E2019 {
+            (4, 5)
+        } else {
+            (2, 3)
+        };
+        assert!(rt; said < row.len());
+        rows.push(row_of(rt, alloc, row[0], row[1], row[given], row[said]))
+            .expect(rt, "a row");
+    }
 }
 
-/// In each edition the terminal says what the rows say, once it is let in or from its start.
-pub fn expect_both(rt: &impl Abort, alloc: Global, is_live: bool, rows: &[Both]) {
-    let live = &LIVE[..if is_live { LIVE.len() } else { 0 }];
-    expect_behind(rt, alloc, Edition::E2013, live, rows);
-    expect_behind(rt, alloc, Edition::E2019, live, rows);
+/// The rows of one edition that let the terminal in, and those of a text: four words each, which are what happens, a number, and
+/// in hexadecimal digits the octets that come and what is said then.
+pub fn live_in(rt: &impl Abort, alloc: Global, edition: Edition, text: &str) -> Vec<Row> {
+    let mut rows = Vec::new(alloc);
+    push_rows(rt, alloc, edition, true, LIVE, &mut rows);
+    push_rows(rt, alloc, edition, false, text, &mut rows);
+    rows
 }
 
-fn expect_behind(rt: &impl Abort, alloc: Global, edition: Edition, front: &[Both], rows: &[Both]) {
-    let mut all = Vec::new(alloc);
-    push_in(rt, edition, front, &mut all);
-    push_in(rt, edition, rows, &mut all);
-    assert!(rt; first_wrong(alloc, edition, all.as_slice()) == all.len());
+/// A terminal that is let in says in this edition what the rows of a text say.
+pub fn expect_in(rt: &impl Abort, alloc: Global, edition: Edition, text: &str) {
+    let rows = live_in(rt, alloc, edition, text);
+    assert!(rt; first_wrong(alloc, edition, rows.as_slice()) == rows.len());
+}
+
+/// In each edition the terminal says what the rows of a text say, once it is let in or from its start. Behind the octets of 2013
+/// stand those of 2019, so these are six words each.
+pub fn expect_both(rt: &impl Abort, alloc: Global, is_live: bool, text: &str) {
+    for edition in [Edition::E2013, Edition::E2019] {
+        let mut rows = Vec::new(alloc);
+        if is_live {
+            push_rows(rt, alloc, edition, true, LIVE, &mut rows);
+        }
+        push_rows(rt, alloc, edition, true, text, &mut rows);
+        assert!(rt; first_wrong(alloc, edition, rows.as_slice()) == rows.len());
+    }
 }

@@ -2,6 +2,7 @@
 
 ghost use Rattle.std.specs.Prelude.{◌≡◌, ◌≤◌};
 
+use crate::said::said_by;
 use crate::scene::{note_at, open, started, tick, transcript};
 use crate::starting::{octets, phone};
 use jt_codec::Message;
@@ -147,14 +148,11 @@ fn happens(
     }
 }
 
-/// The first row whose octets are not what the terminal said, or the number of rows. In a row stand what happens, a number, an
-/// id, a result, a code or octets, and what is said then. Of the vault these calls fail.
-pub fn first_wrong(
-    alloc: Global,
-    edition: Edition,
-    failing: &[u64],
-    rows: &[(u8, u32, u16, u8, &[u8], &[u8])],
-) -> usize {
+/// A row: what happens, a number, an id, a result, a code or octets, and the name of what is said then.
+pub type Row<'a> = (u8, u32, u16, u8, &'a [u8], &'a str);
+
+/// The first row whose octets are not what the terminal said, or the number of rows. Of the vault these calls fail.
+pub fn first_wrong(alloc: Global, edition: Edition, failing: &[u64], rows: &[Row]) -> usize {
     let Ok(failing) = Vec::from_slice(alloc, failing) else {
         return 0;
     };
@@ -165,59 +163,40 @@ pub fn first_wrong(
     wrong_row(alloc, &mut terminal, &mut time, edition, rows)
 }
 
+// Whether the octets are those of a name.
+fn is_said(alloc: Global, edition: Edition, octets: &Result<Octets, Memory>, name: &str) -> bool {
+    match (octets, &said_by(alloc, edition, name)) {
+        (Ok(octets), Ok(said)) => octets.as_slice() == said.as_slice(),
+        _ => false,
+    }
+}
+
 /// The same of a terminal that has begun, at this moment or before it.
 pub fn wrong_row(
     alloc: Global,
     terminal: &mut Terminal<MemVault>,
     time: &mut u32,
     edition: Edition,
-    rows: &[(u8, u32, u16, u8, &[u8], &[u8])],
+    rows: &[Row],
 ) -> usize
     requires { terminal.old.state.time ≤ time.old }
     ensures { terminal.new.state.time ≤ time.new }
 {
     for (place, row) in rows.iter().enumerate() {
         let (what, number, id, answer, code, said) = *row;
-        match happens(
+        let result = happens(
             alloc, terminal, time, edition, what, number, id, answer, code,
-        ) {
-            Ok(octets) => {
-                if octets.as_slice() != said {
-                    return place;
-                }
-            }
-            Err(Memory) => return place,
+        );
+        if !is_said(alloc, edition, &result, said) {
+            return place;
         }
     }
     rows.len()
 }
 
-/// A row of both editions: what is said in 2013 and in 2019 stands side by side.
-pub type Both<'a> = (u8, u32, u16, u8, &'a [u8], (&'a [u8], &'a [u8]));
-
-// The rows in one edition.
-fn rows_in<'a>(
-    rt: &impl Abort,
-    alloc: Global,
-    edition: Edition,
-    rows: &[Both<'a>],
-) -> Vec<(u8, u32, u16, u8, &'a [u8], &'a [u8])> {
-    let mut all = Vec::new(alloc);
-    for &(what, number, id, answer, code, (in_2013, in_2019)) in rows {
-        let said = match edition {
-            Edition::E2013 => in_2013,
-            Edition::E2019 => in_2019,
-        };
-        all.push((what, number, id, answer, code, said))
-            .expect(rt, "a row");
-    }
-    all
-}
-
 /// In each edition the terminal says what the rows say.
-pub fn expect_both(rt: &impl Abort, alloc: Global, rows: &[Both]) {
-    let in_2013 = rows_in(rt, alloc, Edition::E2013, rows);
-    assert!(rt; first_wrong(alloc, Edition::E2013, &[], in_2013.as_slice()) == rows.len());
-    let in_2019 = rows_in(rt, alloc, Edition::E2019, rows);
-    assert!(rt; first_wrong(alloc, Edition::E2019, &[], in_2019.as_slice()) == rows.len());
+pub fn expect_both(rt: &impl Abort, alloc: Global, rows: &[Row]) {
+    for edition in [Edition::E2013, Edition::E2019] {
+        assert!(rt; first_wrong(alloc, edition, &[], rows) == rows.len());
+    }
 }
