@@ -5,20 +5,27 @@ ghost use Rattle.jt_outside.specs.Sink.{TakesOctets, WriteHasCause};
 
 use crate::links::{TERMINAL, TestLink, peer};
 use crate::rows::{one, secret};
-use dewfelt_serve::{Chores, Flags, Ground, HasGround, Service, Status, Told, serve};
+use dewfelt_commands::Stores;
+use dewfelt_serve::{
+    Chores, Flags, Ground, HasGround, OverFolder, Service, Status, Told, clerk_of, read_fleet_of,
+    serve, serve_over,
+};
 use dewfelt_settings::{Choices, Count, Settings};
 use jt_outside::{Put, Sink};
 use jt_platform::Fleet;
 use jt_service::{Arrived, Door, Watch};
 use jt_store::{MemKeeper, StoreError};
-use jt_value::{Octets, Seq};
+use jt_value::{Memory, Octets, Seq};
 use std::alloc::Global;
+use std::fs::File;
 use std::marker::Model;
 use std::process::Abort;
+use std::rt::Files;
 use std::sync::atomic::{AtomicBool, Ordering};
 use std::sync::{Arc, Mutex, Wait};
 use std::thread::Threads;
 use std::time::Clock;
+use std::{fs, io};
 
 /// The lines of a service.
 #[derive(Drop)]
@@ -83,24 +90,32 @@ enum Act {
     Terminal,
     /// It waits until this text stands so often in the lines.
     Said(&'static str, usize),
+    /// The file of the fleet is written anew.
+    Fleet(&'static str),
     /// The service is stopped.
     Stops,
 }
 
 /// A door of these acts, behind which no link comes.
 #[derive(Drop)]
-struct Acts<'w, R> {
+struct Acts<'w, R, F> {
     rt: &'w R,
+    files: &'w F,
+    fleet: &'w str,
     lines: &'w Lines,
     stops: Arc<AtomicBool>,
     acts: &'static [Act],
 }
 
-impl<'w, R: Wait + Clock> Acts<'w, R> {
+impl<'w, R: Wait + Clock, F: Files> Acts<'w, R, F> {
     fn act(&mut self, act: Act) -> Arrived<TestLink<'w, R>> {
         match act {
             Act::Terminal => Arrived::Link(TestLink::slow(TERMINAL, self.rt), Some(peer())),
             Act::Said(_, _) => Arrived::Nobody,
+            Act::Fleet(text) => match fs::write(self.files, self.fleet, text) {
+                Ok(()) => Arrived::Nobody,
+                Err(_) => Arrived::Over,
+            },
             Act::Stops => {
                 self.stops.store(true, Ordering::SeqCst);
                 Arrived::Nobody
@@ -111,12 +126,12 @@ impl<'w, R: Wait + Clock> Acts<'w, R> {
     fn is_ready(&self, act: Act) -> bool {
         match act {
             Act::Said(text, count) => self.lines.count(self.rt, text) >= count,
-            Act::Terminal | Act::Stops => true,
+            Act::Terminal | Act::Fleet(_) | Act::Stops => true,
         }
     }
 }
 
-impl<'w, R: Wait + Clock> Door for Acts<'w, R> {
+impl<'w, R: Wait + Clock, F: Files> Door for Acts<'w, R, F> {
     type Link = TestLink<'w, R>;
 
     fn next(&mut self) -> Arrived<TestLink<'w, R>> {
@@ -211,9 +226,10 @@ fn settings() -> Settings {
 }
 
 // Serves by these acts over a store that opens so, and begins anew once this text is said. The lines are said meanwhile.
-fn serve_acts<R, T>(
+fn serve_acts<R, F, T>(
     rt: &R,
     alloc: Global,
+    files: &F,
     clock: T,
     lines: &Lines,
     acts: &'static [Act],
@@ -222,6 +238,7 @@ fn serve_acts<R, T>(
 ) -> Status
 where
     R: Threads + Wait + Clock + Sync + Abort,
+    F: Files,
     T: Clock + Send + Drop,
 {
     let flags = Flags {
@@ -232,6 +249,8 @@ where
     let service = Service {
         door: Acts {
             rt,
+            files,
+            fleet: "",
             lines,
             stops,
             acts,
@@ -259,10 +278,10 @@ where
     serve(rt, alloc, service, &settings(), flags)
 }
 
-fn served_so<R, T>(
+// Serves so. The lines have each text so often.
+fn served_so<R, F>(
     rt: &R,
-    alloc: Global,
-    clock: T,
+    files: F,
     acts: &'static [Act],
     openings: &'static [Opening],
     renews: &'static str,
@@ -270,12 +289,14 @@ fn served_so<R, T>(
 )
 where
     R: Threads + Wait + Clock + Sync + Abort,
-    T: Clock + Send + Drop,
+    F: Files + Clock + AllocGlobal + Clone + Send + Drop,
 {
+    let alloc = files.alloc();
     let lines = Lines {
         octets: Mutex::new(Vec::new(alloc)),
     };
-    let status = serve_acts(rt, alloc, clock, &lines, acts, openings, renews);
+    let clock = files.clone().expect(rt, "there is memory");
+    let status = serve_acts(rt, alloc, &files, clock, &lines, acts, openings, renews);
     assert!(rt; status.number() == 0);
     for (text, count) in wanted {
         assert!(rt; lines.count(rt, text) == *count);
@@ -307,8 +328,8 @@ fn a_store_is_tried_again(rt: HostRuntime) {
         (" end=stopped ", 1),
         (" event=end why=stopped\n", 1),
     ];
-    let clock = rt.clone().expect(&rt, "there is memory");
-    served_so(&rt, rt.alloc(), clock, acts, openings, "never", wanted);
+    let files = rt.clone().expect(&rt, "there is memory");
+    served_so(&rt, files, acts, openings, "never", wanted);
 }
 
 // A service begins anew beside its clerk, and sessions are counted on.
@@ -330,14 +351,142 @@ fn a_service_begins_anew(rt: HostRuntime) {
         (" event=let_in session=2 phone=333435363738\n", 1),
         (" end=stopped ", 1),
     ];
-    let clock = rt.clone().expect(&rt, "there is memory");
-    served_so(
-        &rt,
-        rt.alloc(),
-        clock,
+    let files = rt.clone().expect(&rt, "there is memory");
+    served_so(&rt, files, acts, openings, " event=let_in ", wanted);
+}
+
+/// Stores in memory, each of which is new.
+#[derive(Drop)]
+struct MemStores {
+    alloc: Global,
+}
+
+impl Stores for MemStores {
+    type Keeper = MemKeeper;
+
+    fn at(&self, _path: &str) -> Result<MemKeeper, Memory> {
+        Ok(MemKeeper::new(self.alloc, 1000, Seq::new(self.alloc)))
+    }
+}
+
+// A folder with the file of a fleet, whose path it gives.
+fn make_folder<F: Files + AllocGlobal>(files: &F, folder: &str, text: &str) -> io::Result<String> {
+    fs::create_dir(files, folder)?;
+    let path = format!(in files.alloc(); "{folder}/fleet")?;
+    fs::write(files, path.as_str(), text)?;
+    Ok(path)
+}
+
+// What a service over the folder is made of.
+fn over_folder<'w, R, F>(
+    rt: &'w R,
+    files: &'w F,
+    lines: &'w Lines,
+    folder: &'static str,
+    door: Acts<'w, R, F>,
+) -> OverFolder<'static, F, MemStores, Acts<'w, R, F>, Taker<'w, R>, F>
+where
+    R: Wait + Clock + Abort,
+    F: Files<File = File> + Clock + AllocGlobal + Clone + Drop,
+{
+    let alloc = files.alloc();
+    let (text, fleet) = read_fleet_of(files, folder)
+        .ok()
+        .expect(rt, "it is a fleet");
+    let clock = files.clone().expect(rt, "there is memory");
+    OverFolder {
+        folder,
+        files: files.clone().expect(rt, "there is memory"),
+        stores: MemStores { alloc },
+        text,
+        fleet,
+        clerk: clerk_of(files, folder).ok().expect(rt, "it is a folder"),
+        door,
+        sink: Taker {
+            rt,
+            lines,
+            faults: 0,
+        },
+        told: Told::new(alloc, clock).expect(rt, "there is memory"),
+    }
+}
+
+// Serves the folder by these acts. The lines have each text so often.
+fn served_over<R, F>(
+    rt: &R,
+    files: F,
+    folder: &'static str,
+    acts: &'static [Act],
+    wanted: &[(&str, usize)],
+)
+where
+    R: Threads + Wait + Clock + Sync + Send + Clone + Drop + Abort,
+    F: Files<File = File> + Clock + AllocGlobal + Clone + Send + Drop,
+{
+    let alloc = files.alloc();
+    let path = make_folder(&files, folder, BOUND).expect(rt, "it can be made");
+    let lines = Lines {
+        octets: Mutex::new(Vec::new(alloc)),
+    };
+    let flags = Flags {
+        stops: flag(rt, alloc),
+        ends: flag(rt, alloc),
+    };
+    let door = Acts {
+        rt,
+        files: &files,
+        fleet: path.as_str(),
+        lines: &lines,
+        stops: flags.stops.clone().expect(rt, "there is memory"),
         acts,
-        openings,
-        " event=let_in ",
-        wanted,
-    );
+    };
+    let over = over_folder(rt, &files, &lines, folder, door);
+    let status = serve_over(rt, alloc, over, &settings(), flags);
+    assert!(rt; status.number() == 0);
+    for (text, count) in wanted {
+        assert!(rt; lines.count(rt, text) == *count);
+    }
+}
+
+/// A fleet that binds the terminal's phone.
+const BOUND: &str = "secret 3132\nvehicle 41 31 333435363738\n";
+
+// A fleet changes while its service runs: a bad one is not taken, a new plate has the service begin anew, and one that is gone ends
+// its terminal's link.
+#[test]
+fn a_fleet_lives(rt: HostRuntime) {
+    let acts: &[Act] = &[
+        Act::Terminal,
+        Act::Said(" event=let_in ", 1),
+        Act::Fleet("secret 3132\nnonsense\n"),
+        Act::Said(" event=fleet result=bad line=2 text=nonsense ", 1),
+        Act::Fleet("secret 3132\nplate 41\nterminal 31\n"),
+        Act::Said(" event=renewed why=fleet\n", 1),
+        Act::Terminal,
+        Act::Said(" event=let_in ", 2),
+        Act::Fleet("secret 3132\nplate 41\n"),
+        Act::Said(" end=dismissed ", 1),
+        Act::Stops,
+    ];
+    let wanted: &[(&str, usize)] = &[
+        (
+            " event=opened vehicles=1 plates=0 terminals=0 forgotten=0 ",
+            1,
+        ),
+        (" event=let_in session=1 phone=333435363738\n", 1),
+        (
+            " vehicles=0 plates=1 terminals=1 forgotten=0 renews=yes\n",
+            1,
+        ),
+        (" phone=333435363738 end=renewed ", 1),
+        (" event=let_in session=2 phone=333435363738\n", 1),
+        (
+            " vehicles=0 plates=1 terminals=0 forgotten=1 renews=no\n",
+            1,
+        ),
+        (" phone=333435363738 end=dismissed ", 1),
+        (" event=end why=stopped\n", 1),
+    ];
+    let files = rt.clone().expect(&rt, "there is memory");
+    served_over(&rt, files, "a_fleet_lives", acts, wanted);
 }

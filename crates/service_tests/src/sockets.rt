@@ -49,10 +49,10 @@ fn fill<L: Link>(link: &mut L, octets: &[u8; PIECE]) -> bool {
 
 // What comes of a link: it says who is at its other end, gives what that sends, and is quiet then; a write that nobody reads ends
 // soon, since the flag is set.
-fn try_link<L: Link>(rt: &(impl Abort + Clock), mut link: L) {
+fn try_link<L: Link + Drop>(rt: &(impl Abort + Clock), mut link: L) {
     let mut octets = [0u8; 16];
     assert!(rt; link.read(&mut octets) == LinkGot::Bytes(2));
-    assert!(rt; octets[..2] == *b"ab");
+    assert!(rt; octets[0] == b'a' && octets[1] == b'b');
     assert!(rt; link.read(&mut octets) == LinkGot::Quiet);
     let began = moment(rt);
     assert!(rt; fill(&mut link, &[0; PIECE]));
