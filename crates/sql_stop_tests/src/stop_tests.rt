@@ -1,11 +1,9 @@
-use crate::stopped_files::{
-    Stopping, Stops, files_of, limits, open_new, open_synced, open_written,
-};
+use crate::stopped_files::{Stopping, Stops, Story, new_files, play_stopped};
 use jt_sql::{SqlKeeper, SqlVault};
 use jt_store::{Keeper, MemKeeper, MemVault, Vault};
 use jt_value::{Edition, Phone, Seq};
-use sqlite::{Alter, Connection, FileStore, Files};
-use sqlite_disk::Disk;
+use sqlite::{Alter, Connection, Files};
+use sqlite_disk::{Fuse, Memory};
 use std::alloc::Global;
 use std::test::Fail;
 use store_tests::keeper_calls::{self, Call as KeeperCall};
@@ -126,162 +124,91 @@ fn hold_the_same<V: Vault, W: Vault>(alloc: Global, vault: &mut V, wanted: &mut 
     true
 }
 
-// Makes the calls over a connection, and counts those that were not refused. What is left of its files.
-fn keep_over<D: Disk + Drop>(
-    alloc: Global,
-    connection: Connection<FileStore<D>>,
-) -> (usize, Files<D>) {
-    let mut keeper = SqlKeeper::over(connection);
-    let done = keep(alloc, &mut keeper);
-    (done, files_of(keeper.into_connection()))
-}
+/// A keeper's calls over new files.
+struct Keeping;
 
-fn hold_over<D: Disk + Drop>(
-    alloc: Global,
-    connection: Connection<FileStore<D>>,
-) -> (usize, Files<D>) {
-    let mut vault = SqlVault::over(connection);
-    let done = hold(alloc, &mut vault);
-    (done, files_of(vault.into_connection()))
-}
+impl Story for Keeping {
+    fn calls() -> usize {
+        KEPT.len()
+    }
 
-// Makes the calls on files that stop, and counts those that were not refused.
-fn keep_in(alloc: Global, log_calls: u64, db_calls: u64) -> (usize, Files<Stopping>) {
-    match open_new(alloc, log_calls, db_calls) {
-        Ok(connection) => keep_over(alloc, connection),
-        Err(left) => (0, left),
+    fn files<D: Stopping>(alloc: Global) -> Files<D> {
+        new_files(alloc, u64::MAX, u64::MAX)
+    }
+
+    fn play<S: Alter + Drop>(alloc: Global, connection: Connection<S>) -> (usize, Connection<S>) {
+        let mut keeper = SqlKeeper::over(connection);
+        let done = keep(alloc, &mut keeper);
+        (done, keeper.into_connection())
+    }
+
+    fn leaves<S: Alter + Drop>(alloc: Global, connection: Connection<S>, done: usize) -> bool {
+        let mut keeper = SqlKeeper::over(connection);
+        keeps(alloc, &mut keeper, done) || keeps(alloc, &mut keeper, done.saturating_add(1))
     }
 }
 
-fn hold_in(alloc: Global, log_calls: u64, db_calls: u64) -> (usize, Files<Stopping>) {
-    match open_new(alloc, log_calls, db_calls) {
-        Ok(connection) => hold_over(alloc, connection),
-        Err(left) => (0, left),
+/// A vault's calls over new files.
+struct Holding;
+
+impl Story for Holding {
+    fn calls() -> usize {
+        HELD.len()
+    }
+
+    fn files<D: Stopping>(alloc: Global) -> Files<D> {
+        new_files(alloc, u64::MAX, u64::MAX)
+    }
+
+    fn play<S: Alter + Drop>(alloc: Global, connection: Connection<S>) -> (usize, Connection<S>) {
+        let mut vault = SqlVault::over(connection);
+        let done = hold(alloc, &mut vault);
+        (done, vault.into_connection())
+    }
+
+    fn leaves<S: Alter + Drop>(alloc: Global, connection: Connection<S>, done: usize) -> bool {
+        let mut vault = SqlVault::over(connection);
+        holds(alloc, &mut vault, done) || holds(alloc, &mut vault, done.saturating_add(1))
     }
 }
 
-// Whether a keeper over the connection has what so many calls leave, or those and one more.
-fn keeps_some<S: Alter + Drop>(
-    alloc: Global,
-    connection: Option<Connection<S>>,
-    done: usize,
-) -> bool {
-    match connection {
-        Some(connection) => keeps_over(alloc, connection, done),
-        None => false,
-    }
-}
-
-fn keeps_over<S: Alter + Drop>(alloc: Global, connection: Connection<S>, done: usize) -> bool {
-    let mut keeper = SqlKeeper::over(connection);
-    let is_kept = keeps(alloc, &mut keeper, done)
-        || keeps(alloc, &mut keeper, done.saturating_add(1));
-    drop(keeper);
-    is_kept
-}
-
-fn holds_some<S: Alter + Drop>(
-    alloc: Global,
-    connection: Option<Connection<S>>,
-    done: usize,
-) -> bool {
-    match connection {
-        Some(connection) => holds_over(alloc, connection, done),
-        None => false,
-    }
-}
-
-fn holds_over<S: Alter + Drop>(alloc: Global, connection: Connection<S>, done: usize) -> bool {
-    let mut vault = SqlVault::over(connection);
-    let is_kept = holds(alloc, &mut vault, done)
-        || holds(alloc, &mut vault, done.saturating_add(1));
-    drop(vault);
-    is_kept
-}
-
-// Whether the files, opened again after a stop of the process and after one of the machine, have what the calls left that were
-// not refused, or those and the one that was; and how many were not.
-fn keeper_stops(alloc: Global, log_calls: u64, db_calls: u64) -> (usize, bool) {
-    let (done, left) = keep_in(alloc, log_calls, db_calls);
-    let killed = open_written(alloc, &left);
-    let whole = keeps_some(alloc, killed, done);
-    (
-        done,
-        whole && keeps_some(alloc, open_synced(alloc, left), done),
-    )
-}
-
-fn vault_stops(alloc: Global, log_calls: u64, db_calls: u64) -> (usize, bool) {
-    let (done, left) = hold_in(alloc, log_calls, db_calls);
-    let killed = open_written(alloc, &left);
-    let whole = holds_some(alloc, killed, done);
-    (
-        done,
-        whole && holds_some(alloc, open_synced(alloc, left), done),
-    )
-}
-
-// What a keeper has that stops after each number of calls in a range, up to one that is enough for all.
-fn stops_of_keeper(alloc: Global, in_log: bool, from: u64, to: u64) -> Stops {
-    for calls in from..to {
-        let (log_calls, db_calls) = limits(in_log, calls);
-        let (done, whole) = keeper_stops(alloc, log_calls, db_calls);
-        if !whole {
-            return Stops::Torn(calls);
-        }
-        if done == KEPT.len() {
-            return Stops::Ended;
-        }
-    }
-    Stops::Whole
-}
-
-fn stops_of_vault(alloc: Global, in_log: bool, from: u64, to: u64) -> Stops {
-    for calls in from..to {
-        let (log_calls, db_calls) = limits(in_log, calls);
-        let (done, whole) = vault_stops(alloc, log_calls, db_calls);
-        if !whole {
-            return Stops::Torn(calls);
-        }
-        if done == HELD.len() {
-            return Stops::Ended;
-        }
-    }
-    Stops::Whole
+/// What stops of a story leave, on files in memory.
+fn stops_of<T: Story>(rt: &HostRuntime, in_log: bool, from: u64, to: u64) -> Stops {
+    play_stopped::<T, Fuse<Memory>>(rt.alloc(), in_log, from, to)
 }
 
 #[test]
 fn a_keeper_stopped_early_in_its_log_has_whole_calls(rt: HostRuntime) -> Result<(), Fail> {
-    assert_eq!(rt; stops_of_keeper(rt.alloc(), true, 0, 20), Stops::Whole);
+    assert!(rt; stops_of::<Keeping>(&rt, true, 0, 20) == Stops::Whole);
     Ok(())
 }
 
 #[test]
 fn a_keeper_stopped_late_in_its_log_has_whole_calls(rt: HostRuntime) -> Result<(), Fail> {
-    assert_eq!(rt; stops_of_keeper(rt.alloc(), true, 20, 400), Stops::Ended);
+    assert!(rt; stops_of::<Keeping>(&rt, true, 20, 400) == Stops::Ended);
     Ok(())
 }
 
 #[test]
 fn a_keeper_stopped_in_its_database_has_whole_calls(rt: HostRuntime) -> Result<(), Fail> {
-    assert_eq!(rt; stops_of_keeper(rt.alloc(), false, 0, 400), Stops::Ended);
+    assert!(rt; stops_of::<Keeping>(&rt, false, 0, 400) == Stops::Ended);
     Ok(())
 }
 
 #[test]
 fn a_vault_stopped_early_in_its_log_has_whole_calls(rt: HostRuntime) -> Result<(), Fail> {
-    assert_eq!(rt; stops_of_vault(rt.alloc(), true, 0, 20), Stops::Whole);
+    assert!(rt; stops_of::<Holding>(&rt, true, 0, 20) == Stops::Whole);
     Ok(())
 }
 
 #[test]
 fn a_vault_stopped_late_in_its_log_has_whole_calls(rt: HostRuntime) -> Result<(), Fail> {
-    assert_eq!(rt; stops_of_vault(rt.alloc(), true, 20, 400), Stops::Ended);
+    assert!(rt; stops_of::<Holding>(&rt, true, 20, 400) == Stops::Ended);
     Ok(())
 }
 
 #[test]
 fn a_vault_stopped_in_its_database_has_whole_calls(rt: HostRuntime) -> Result<(), Fail> {
-    assert_eq!(rt; stops_of_vault(rt.alloc(), false, 0, 400), Stops::Ended);
+    assert!(rt; stops_of::<Holding>(&rt, false, 0, 400) == Stops::Ended);
     Ok(())
 }

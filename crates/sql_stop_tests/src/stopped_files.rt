@@ -1,9 +1,6 @@
-//! Files in memory that stop at some call.
+//! Stores over files in memory that stop at some call. All is generic in the files.
 
-ghost use Rattle.std.specs.Prelude.{IsTrue};
-ghost use Rattle.sqlite_disk.specs.Memory.{memory_is_usable};
-
-use sqlite::{Connection, FileStore, Files, Options};
+use sqlite::{Alter, Connection, FileStore, Files, Options};
 use sqlite_disk::{Crash, Disk, Fuse, Memory};
 use std::alloc::Global;
 
@@ -16,7 +13,43 @@ const OPTIONS: Options = Options {
 };
 
 /// A file in memory that fails from some call on.
-pub type Stopping = Fuse<Memory>;
+pub trait Stopping: Crash + Drop {
+    /// A new one, which fails after so many calls.
+    fn stopping(alloc: Global, calls: u64) -> Self;
+
+    /// One with all that was written to this one, and nothing more to be synced, which fails after so many calls. It lacks some
+    /// of it where memory was refused.
+    fn copied(&self, alloc: Global, calls: u64) -> Self;
+}
+
+impl Stopping for Fuse<Memory> {
+    fn stopping(alloc: Global, calls: u64) -> Fuse<Memory> {
+        Fuse::new(Memory::new(alloc), calls)
+    }
+
+    fn copied(&self, alloc: Global, calls: u64) -> Fuse<Memory> {
+        let mut copy = Memory::new(alloc);
+        let _ = copy.write_at(0, self.inner().bytes());
+        let _ = copy.sync();
+        copy.crash();
+        Fuse::new(copy, calls)
+    }
+}
+
+/// Calls of a store, which may stop at each call on its files.
+pub trait Story {
+    /// How many calls there are.
+    fn calls() -> usize;
+
+    /// The files before the first of them.
+    fn files<D: Stopping>(alloc: Global) -> Files<D>;
+
+    /// Makes the calls up to the first that is refused, and counts those before it.
+    fn play<S: Alter + Drop>(alloc: Global, connection: Connection<S>) -> (usize, Connection<S>);
+
+    /// Whether a store over the connection has what so many of the calls leave, or those and one more.
+    fn leaves<S: Alter + Drop>(alloc: Global, connection: Connection<S>, done: usize) -> bool;
+}
 
 /// What stops after each number of calls in a range leave.
 #[derive(Clone, Copy, Debug, PartialEq, Eq)]
@@ -29,26 +62,30 @@ pub enum Stops {
     Ended,
 }
 
-/// How many calls the log and the database take before they fail, where one of them fails after so many.
-pub fn limits(in_log: bool, calls: u64) -> (u64, u64) {
-    if in_log {
-        (calls, u64::MAX)
-    } else {
-        (u64::MAX, calls)
+/// Two new files, of which the log fails after so many calls and the database after so many.
+pub fn new_files<D: Stopping>(alloc: Global, log_calls: u64, db_calls: u64) -> Files<D> {
+    Files {
+        log: D::stopping(alloc, log_calls),
+        db: D::stopping(alloc, db_calls),
     }
 }
 
-/// Opens two new files, of which the log fails after so many calls and the database after so many. Where that is refused
-/// already, what is left of them.
-pub fn open_new(
+// Copies of files, of which the log fails after so many calls and the database after so many.
+fn copies<D: Stopping>(alloc: Global, files: &Files<D>, log_calls: u64, db_calls: u64) -> Files<D> {
+    Files {
+        log: files.log.copied(alloc, log_calls),
+        db: files.db.copied(alloc, db_calls),
+    }
+}
+
+/// Opens files. Where that is refused, what is left of them.
+pub fn open<D: Stopping>(
     alloc: Global,
-    log_calls: u64,
-    db_calls: u64,
-) -> Result<Connection<FileStore<Stopping>>, Files<Stopping>> {
-    let files = Files {
-        log: Fuse::new(Memory::new(alloc), log_calls),
-        db: Fuse::new(Memory::new(alloc), db_calls),
-    };
+    files: Files<D>,
+) -> Result<Connection<FileStore<D>>, Files<D>> {
+    if !files.log.may_be_used() || !files.db.may_be_used() {
+        return Err(files);
+    }
     match Connection::open_files(alloc, files, OPTIONS) {
         Ok(connection) => Ok(connection),
         Err((_, left)) => Err(left.into_files()),
@@ -60,63 +97,69 @@ pub fn files_of<D: Disk + Drop>(connection: Connection<FileStore<D>>) -> Files<D
     connection.into_store().close()
 }
 
-/// Opens files again after the machine stopped: what was not synced is lost. They fail no more.
-pub fn open_synced(
+// Makes the calls on copies of files that stop, and counts those that were not refused. What is left of the copies.
+fn play_on<T: Story, D: Stopping>(
     alloc: Global,
-    mut files: Files<Stopping>,
-) -> Option<Connection<FileStore<Stopping>>> {
-    files.log.crash();
-    files.db.crash();
-    match Connection::open_files(alloc, files, OPTIONS) {
-        Ok(connection) => Some(connection),
-        Err(_) => None,
-    }
-}
-
-// A file with all that was written to this one.
-fn written(alloc: Global, file: &Stopping) -> Option<Stopping> {
-    let mut copy = Fuse::new(Memory::new(alloc), u64::MAX);
-    if copy.write_at(0, file.inner().bytes()).is_err() || copy.sync().is_err() {
-        return None;
-    }
-    Some(copy)
-}
-
-// A file with all that was written to this one, and nothing more to be synced. It lacks some of it where memory was refused.
-fn copied(alloc: Global, file: &Stopping) -> Memory
-    ensures { IsTrue (memory_is_usable result) }
-{
-    let mut copy = Memory::new(alloc);
-    let _ = copy.write_at(0, file.inner().bytes());
-    let _ = copy.sync();
-    copy.crash();
-    copy
-}
-
-/// Opens copies of files, of which the log fails after so many calls and the database after so many. Where that is refused
-/// already, what is left of them.
-pub fn open_again(
-    alloc: Global,
-    files: &Files<Stopping>,
+    files: &Files<D>,
     log_calls: u64,
     db_calls: u64,
-) -> Result<Connection<FileStore<Stopping>>, Files<Stopping>> {
-    let copies = Files {
-        log: Fuse::new(copied(alloc, &files.log), log_calls),
-        db: Fuse::new(copied(alloc, &files.db), db_calls),
-    };
-    match Connection::open_files(alloc, copies, OPTIONS) {
-        Ok(connection) => Ok(connection),
-        Err((_, left)) => Err(left.into_files()),
+) -> (usize, Files<D>) {
+    match open(alloc, copies(alloc, files, log_calls, db_calls)) {
+        Ok(connection) => {
+            let (done, connection) = T::play(alloc, connection);
+            (done, files_of(connection))
+        }
+        Err(left) => (0, left),
     }
 }
 
-/// Opens copies of files as they are after the process was killed: what was written stays. They fail no more.
-pub fn open_written(
+// Whether the files, opened again, have what so many calls leave, or those and one more.
+fn is_whole<T: Story, D: Stopping>(alloc: Global, files: Files<D>, done: usize) -> bool {
+    match open(alloc, files) {
+        Ok(connection) => T::leaves(alloc, connection, done),
+        Err(_) => false,
+    }
+}
+
+// How many calls were not refused on files that stop, and whether the files, opened again after a stop of the process and after
+// one of the machine, have what these left, or those and the one that was refused. A process that is killed leaves what was
+// written, a machine what was synced.
+fn stop_after<T: Story, D: Stopping>(
     alloc: Global,
-    files: &Files<Stopping>,
-) -> Option<Connection<FileStore<Stopping>>> {
-    let log = written(alloc, &files.log)?;
-    let db = written(alloc, &files.db)?;
-    open_synced(alloc, Files { log, db })
+    files: &Files<D>,
+    log_calls: u64,
+    db_calls: u64,
+) -> (usize, bool) {
+    let (done, mut left) = play_on::<T, D>(alloc, files, log_calls, db_calls);
+    let killed = copies(alloc, &left, u64::MAX, u64::MAX);
+    left.log.crash();
+    left.db.crash();
+    let is_whole = is_whole::<T, D>(alloc, killed, done) && is_whole::<T, D>(alloc, left, done);
+    (done, is_whole)
+}
+
+/// What a story leaves that stops after each number of calls in a range, on the log or on the database, up to one that is enough
+/// for all.
+pub fn play_stopped<T: Story, D: Stopping>(
+    alloc: Global,
+    in_log: bool,
+    from: u64,
+    to: u64,
+) -> Stops {
+    let files = T::files::<D>(alloc);
+    for calls in from..to {
+        let (log_calls, db_calls) = if in_log {
+            (calls, u64::MAX)
+        } else {
+            (u64::MAX, calls)
+        };
+        let (done, is_whole) = stop_after::<T, D>(alloc, &files, log_calls, db_calls);
+        if !is_whole {
+            return Stops::Torn(calls);
+        }
+        if done == T::calls() {
+            return Stops::Ended;
+        }
+    }
+    Stops::Whole
 }
