@@ -19,11 +19,13 @@ pub enum Ending {
     StrangerOctets,
     Replaced,
     Dismissed,
+    Renewed,
+    StoreFailed,
 }
 
 impl Ending {
     /// How many there are.
-    pub const COUNT: usize = 13;
+    pub const COUNT: usize = 15;
 
     /// All of them.
     pub const ALL: [Ending; Ending::COUNT] = [
@@ -40,6 +42,8 @@ impl Ending {
         Ending::StrangerOctets,
         Ending::Replaced,
         Ending::Dismissed,
+        Ending::Renewed,
+        Ending::StoreFailed,
     ];
 
     /// Why a session ended, by its report, or by why the service ended it.
@@ -57,6 +61,8 @@ impl Ending {
             Cut::StrangerOctets => Ending::StrangerOctets,
             Cut::Replaced => Ending::Replaced,
             Cut::Dismissed => Ending::Dismissed,
+            Cut::Renewed => Ending::Renewed,
+            Cut::StoreFailed => Ending::StoreFailed,
         }
     }
 
@@ -89,6 +95,8 @@ impl Ending {
             Ending::StrangerOctets => "stranger-octets",
             Ending::Replaced => "replaced",
             Ending::Dismissed => "dismissed",
+            Ending::Renewed => "renewed",
+            Ending::StoreFailed => "store-failed",
         }
     }
 }
