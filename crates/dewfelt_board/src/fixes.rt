@@ -1,0 +1,65 @@
+//! The last fix of a row.
+
+use jt_position::{Fixed, ItemView, PositionView, Positions, view_batch, view_position};
+use jt_value::ids;
+
+/// A fix that a row has.
+#[derive(Clone, Copy)]
+pub struct LastFix {
+    /// The number of the row.
+    pub number: u64,
+    /// The fix's place in the row, from 0 on.
+    pub at: u16,
+    pub fixed: Fixed,
+    /// The mileage in tenths of a kilometre, where the fix has one.
+    pub mileage: Option<u32>,
+}
+
+/// What a row has: its last fix, and how many fixes.
+#[derive(Clone, Copy)]
+pub struct Found {
+    pub fix: LastFix,
+    pub count: u16,
+}
+
+// The mileage among a position's items: the first that there is.
+fn mileage_of(view: PositionView<'_>) -> Option<u32> {
+    for item in view.items {
+        if let ItemView::Mileage(tenths) = item {
+            return Some(tenths);
+        }
+    }
+    None
+}
+
+fn take_fix(number: u64, at: u16, view: PositionView<'_>) -> Found {
+    Found {
+        fix: LastFix {
+            number,
+            at,
+            fixed: view.fixed,
+            mileage: mileage_of(view),
+        },
+        count: at.saturating_add(1),
+    }
+}
+
+// The last fix of a batch.
+fn last_of(number: u64, fixes: Positions<'_>) -> Option<Found> {
+    let mut last = None;
+    let mut at: u16 = 0;
+    for view in fixes {
+        last = Some(take_fix(number, at, view));
+        at = at.saturating_add(1);
+    }
+    last
+}
+
+/// The last fix of a row of this number, id and body. None where the body has no fix, or does not read as one of its id.
+pub fn last_fix(number: u64, id: u16, body: &[u8]) -> Option<Found> {
+    match id {
+        ids::POSITION => Some(take_fix(number, 0, view_position(body).ok()?)),
+        ids::BATCH => last_of(number, view_batch(body).ok()?.fixes),
+        _ => None,
+    }
+}
