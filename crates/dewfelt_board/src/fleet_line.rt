@@ -1,23 +1,15 @@
 //! The line of a fleet that lets a terminal in.
 
+use crate::digits::phone_text;
 use crate::name::Name;
 use crate::stranger::Stranger;
 use dewfelt_log::in_gbk;
 use std::alloc::{AllocError, Global};
 
-const HEX: &[u8; 16] = b"0123456789abcdef";
-
-fn push_digit(text: &mut String, number: u8) -> Result<(), AllocError> {
-    text.push(HEX[(number % 16) as usize] as char)
-}
-
-/// Puts two hexadecimal digits for each octet.
-pub(crate) fn push_hex(text: &mut String, octets: &[u8]) -> Result<(), AllocError> {
-    for octet in octets {
-        push_digit(text, *octet / 16)?;
-        push_digit(text, *octet % 16)?;
-    }
-    Ok(())
+// Puts two hexadecimal digits for each octet.
+fn push_hex(alloc: Global, text: &mut String, octets: &[u8]) -> Result<(), AllocError> {
+    let digits = hex::encode(alloc, octets)?;
+    text.push_str(digits.as_str())
 }
 
 // Whether a text stands between quotes as it is.
@@ -42,23 +34,15 @@ fn push_plate(alloc: Global, text: &mut String, plate: &[u8]) -> Result<(), Allo
     if is_plain(name.as_str()) {
         return push_quoted(text, name.as_str());
     }
-    push_hex(text, plate)
+    push_hex(alloc, text, plate)
 }
 
 // A terminal's id: its text, or digits where it is no ASCII.
-fn push_terminal(text: &mut String, terminal: &[u8]) -> Result<(), AllocError> {
+fn push_terminal(alloc: Global, text: &mut String, terminal: &[u8]) -> Result<(), AllocError> {
     match std::str::from_utf8(terminal) {
         Ok(name) if name.is_ascii() && is_plain(name) => push_quoted(text, name),
-        _ => push_hex(text, terminal),
+        _ => push_hex(alloc, text, terminal),
     }
-}
-
-// Twelve digits, or twenty where the first eight are not zeros.
-pub(crate) fn push_phone(text: &mut String, digits: &[u8; 10]) -> Result<(), AllocError> {
-    if digits.starts_with(&[0; 4]) {
-        return push_hex(text, &digits[4..]);
-    }
-    push_hex(text, digits)
 }
 
 fn has_line(name: &Name) -> bool {
@@ -74,8 +58,9 @@ pub fn vehicle_line(alloc: Global, stranger: &Stranger) -> Result<Option<String>
     let mut text = String::from_str(alloc, "vehicle ")?;
     push_plate(alloc, &mut text, stranger.plate.as_slice())?;
     text.push(' ')?;
-    push_terminal(&mut text, stranger.terminal.as_slice())?;
+    push_terminal(alloc, &mut text, stranger.terminal.as_slice())?;
     text.push(' ')?;
-    push_phone(&mut text, &stranger.digits)?;
+    let phone = phone_text(alloc, &stranger.digits)?;
+    text.push_str(phone.as_str())?;
     Ok(Some(text))
 }
