@@ -198,8 +198,11 @@ fn goes_in_files(rt: &HostRuntime, folder: &str, story: &Story) -> Result<bool, 
     let of_terminal = format!(in rt.alloc(); "{folder}/t.db")?;
     let platform = first_platform::<SqlKeeper<HostRuntime>>(rt, &of_platform, story.platform);
     let terminal = first_terminal::<SqlVault<HostRuntime>>(rt, &of_terminal, story.terminal);
-    remove_folder(rt, folder)?;
-    Ok(platform == None && terminal == None)
+    let goes = platform == None && terminal == None;
+    if goes {
+        remove_folder(rt, folder)?;
+    }
+    Ok(goes)
 }
 
 #[test]

@@ -111,7 +111,10 @@ fn happens<V: Vault>(
     match what {
         "O" => open(alloc, terminal),
         "L" => lose(alloc, terminal),
-        "F" => note(alloc, terminal, lat.parse().unwrap_or(0)),
+        "F" => match lat.parse() {
+            Ok(lat) => note(alloc, terminal, lat),
+            Err(_) => Ok(Vec::from_slice(alloc, b"no latitude")?),
+        },
         "T" => tick(alloc, terminal),
         _ => hear(alloc, terminal, given),
     }
