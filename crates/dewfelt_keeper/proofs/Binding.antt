@@ -12,7 +12,7 @@ use Rattle.jt_store.specs.Tables.{Tables, HasName, AreNamedOnce, MayRegister, pl
 use Rattle.dewfelt_fleet.specs.Fleets.{FleetValue, IsApart, is_allowed, is_allowed_by, is_same}
 use Rattle.dewfelt_fleet.specs.Names.{is_among}
 use Rattle.dewfelt_keeper.specs.Rules.{Becomes, IsApplied, IsOnTheWay, IsNamed, AreNamed, bound_or, kept_by, settled_by}
-use Rattle.dewfelt_keeper.specs.Sweeps.{AreAllowed, BindsAll, BindsNext, BindsSome, BindsUpTo, ForgetsAll, ForgetsSome, is_done, with_own, with_own_if, with_own_or}
+use Rattle.dewfelt_keeper.specs.Sweeps.{AreAllowed, BindsAll, BindsNext, BindsSome, BindsUpTo, ForgetsAll, ForgetsSome, Stays, is_done, with_own, with_own_if, with_own_or}
 use Rattle.dewfelt_keeper.proofs.Sweeping.{Place, behind_is, not_done, place_of, same_is, same_itself}
 
 -- ---- what the fleet allows
@@ -175,6 +175,17 @@ module _ (fleet : FleetValue) where
       by_case key true (Some own) is = own_allowed key own is
       by_case key true None is = allowed key
       by_case key false own is = allowed key
+
+  -- a registration that is there stays
+  pub binds_stays : (after : Option (List ℕ)) (old now : Tables) → AreAllowed fleet old → BindsUpTo fleet after old now → Stays old now
+  binds_stays after old now allowed upto = λ key. by_case key (is_done after key) (old.registered key) (bound key) refl refl (allowed key) (upto.registered key)
+    where
+      by_case : (key : List ℕ) (b : Bool) (was own : Option Registered) → old.registered key ≡ was → bound key ≡ own → IfSome was (λ r. is_allowed fleet key r ≡ true)
+          → now.registered key ≡ cond b (bound_or own was) was → IfSome was (λ r. now.registered key ≡ Some r)
+      by_case key b None own stood is allows stands = tt
+      by_case key true (Some r) (Some own) stood is allows stands = stands ∙ ap Some (sym (own_is key own r is allows))
+      by_case key true (Some r) None stood is allows stands = stands
+      by_case key false (Some r) own stood is allows stands = stands
 
   -- ---- both passes
 

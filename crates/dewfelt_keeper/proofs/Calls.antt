@@ -6,11 +6,13 @@ use Rattle.jt_value.specs.Sameness.{key_of, same_key}
 use Rattle.jt_store.specs.declared.error.StoreError.{StoreError}
 use Rattle.jt_store.specs.declared.error.StoreError.TheVariants.{Failed, Full, Memory}
 use Rattle.jt_store.specs.declared.row.Registered.{Registered}
-use Rattle.jt_store.specs.Tables.{Tables, FindsNext, WhereKnown, Writes, registered_set}
-use Rattle.dewfelt_fleet.specs.Fleets.{FleetValue, is_allowed}
-use Rattle.dewfelt_keeper.specs.Rules.{Becomes}
-use Rattle.dewfelt_keeper.specs.Sweeps.{ForgetsNext, Names, left_allowed, with_own, with_own_if, with_own_or}
-use Rattle.dewfelt_keeper.proofs.Removing.{becomes_same, names_one, names_same}
+use Rattle.jt_store.specs.Tables.{Tables, AreNamedOnce, FindsNext, MayRegister, WhereKnown, Writes, registered_set}
+use Rattle.dewfelt_fleet.specs.Fleets.{FleetValue, IsApart, is_allowed}
+use Rattle.jt_store.specs.Memory.{under}
+use Rattle.dewfelt_keeper.specs.Rules.{AreNamed, Becomes, IsApplied, IsOnTheWay}
+use Rattle.dewfelt_keeper.specs.Sweeps.{AreAllowed, BindsAll, BindsNext, BindsSome, BindsUpTo, ForgetsAll, ForgetsNext, ForgetsSome, ForgetsUpTo, Names, Stays, left_allowed, with_own, with_own_if, with_own_or}
+use Rattle.dewfelt_keeper.proofs.Removing.{becomes_by, becomes_same, becomes_then, forgets_all, forgets_more, forgets_none, forgets_some, names_one, names_same, names_then, still_named}
+use Rattle.dewfelt_keeper.proofs.Binding.{all_allowed, applied, binds_all, binds_more, binds_none, binds_some, binds_stays, may_register, on_the_way_first, on_the_way_second, still_allowed}
 
 pub told_by : (old new : Option Tables) (P : Tables → Type 0) → new ≡ old → WhereKnown old P → WhereKnown new P
 told_by old new P same told = subst (λ t. WhereKnown t P) (sym same) told
@@ -28,13 +30,13 @@ err_same old next new (Err (Full l)) is = absurd is
 -- ---- a registration that is allowed, or removed
 
 pub left_as_it_is : (fleet : FleetValue) (key : List ℕ) (r : Registered) (t : Option Tables) → is_allowed fleet key r ≡ true → Becomes t t (λ old now. now ≡ left_allowed fleet key r old)
-left_as_it_is fleet key r t yes = becomes_same t _ (λ x. sym (ap (λ b. cond b x (with_own key None x)) yes))
+left_as_it_is fleet key r t allowed = becomes_same t _ (λ x. sym (ap (λ b. cond b x (with_own key None x)) allowed))
 
 pub gone : {T : Type 0} (fleet : FleetValue) (key : List ℕ) (r : Registered) (old new : Option Tables) (result : Result T StoreError) → is_allowed fleet key r ≡ false → Writes old (registered_set key None old) new result
     → OnOk result (Becomes old new (λ a b. b ≡ left_allowed fleet key r a))
-gone fleet key r None new (Ok x) no is = subst (λ n. Becomes None n (λ a b. b ≡ left_allowed fleet key r a)) (sym is) tt
-gone fleet key r (Some t) new (Ok x) no is = subst (λ n. Becomes (Some t) n (λ a b. b ≡ left_allowed fleet key r a)) (sym is) (sym (ap (λ b. cond b t (with_own key None t)) no))
-gone fleet key r old new (Err e) no is = tt
+gone fleet key r None new (Ok x) refused is = subst (λ n. Becomes None n (λ a b. b ≡ left_allowed fleet key r a)) (sym is) tt
+gone fleet key r (Some t) new (Ok x) refused is = subst (λ n. Becomes (Some t) n (λ a b. b ≡ left_allowed fleet key r a)) (sym is) (sym (ap (λ b. cond b t (with_own key None t)) refused))
+gone fleet key r old new (Err e) refused is = tt
 
 named_same : (list : List Phone) (phone : Phone) (old new : Option Tables) → new ≡ old → Becomes old new (Names list (list ++ phone ∷ []))
 named_same list phone old new same = subst (λ n. Becomes old n (Names list (list ++ phone ∷ []))) (sym same) (becomes_same old _ (λ t. names_one list phone t t (λ q apart. refl)))
@@ -88,3 +90,90 @@ own_put key own a b c (Ok x) same told is = here a c told (is ∙ ap (registered
     here : (t n : Option Tables) → WhereKnown t (λ z. None ≡ z.registered key) → n ≡ registered_set key (Some own) t → Becomes t n (λ z y. y ≡ with_own_or key own z)
     here None n told is = subst (λ m. Becomes None m (λ z y. y ≡ with_own_or key own z)) (sym is) tt
     here (Some t) n told is = subst (λ m. Becomes (Some t) m (λ z y. y ≡ with_own_or key own z)) (sym is) (ap (λ o. with_own_if o key own t) told)
+
+-- ---- passes
+
+pub on_err : {T E : Type 0} (r : Result T E) (P : Type 0) → P → OnErr r P
+on_err (Ok x) P p = tt
+on_err (Err e) P p = p
+
+pub becomes_until : (a b c : Option Tables) (R : Tables → Tables → Type 0) → Becomes a b R → c ≡ b → Becomes a c R
+becomes_until a b c R r same = subst (λ t. Becomes a t R) (sym same) r
+
+pub names_join : (l m n : List Phone) (a b c : Option Tables) → Becomes a b (Names l m) → Becomes b c (Names m n) → Becomes a c (Names l n)
+names_join l m n a b c first second = becomes_then a b c (Names l m) (Names m n) (Names l n) (λ x y z r s. names_then l m n x y z r s) first second
+
+pub forget_start : (fleet : FleetValue) (t : Option Tables) → Becomes t t (ForgetsUpTo fleet None)
+forget_start fleet t = becomes_same t _ (λ x. forgets_none fleet x)
+
+pub forget_step : (fleet : FleetValue) (after : Option (List ℕ)) (phone : Phone) (a b c : Option Tables) → Becomes a b (ForgetsUpTo fleet after) → Becomes b c (ForgetsNext fleet after (Some phone))
+    → Becomes a c (ForgetsUpTo fleet (Some (key_of phone)))
+forget_step fleet after phone a b c upto one = becomes_then a b c _ _ (ForgetsUpTo fleet (Some (key_of phone))) (λ x y z r s. forgets_more fleet after phone x y z r s) upto one
+
+pub forget_end : (fleet : FleetValue) (after : Option (List ℕ)) (a b c : Option Tables) → Becomes a b (ForgetsUpTo fleet after) → Becomes b c (ForgetsNext fleet after None) → Becomes a c (ForgetsAll fleet)
+forget_end fleet after a b c upto last = becomes_then a b c _ _ (ForgetsAll fleet) (λ x y z r s. forgets_all fleet after x y z r s) upto last
+
+pub forget_part : (fleet : FleetValue) (after : Option (List ℕ)) (a b : Option Tables) → Becomes a b (ForgetsUpTo fleet after) → Becomes a b ForgetsSome
+forget_part fleet after a b upto = becomes_by a b _ ForgetsSome (λ x y r. forgets_some fleet after x y r) upto
+
+pub may_where : (fleet : FleetValue) (t : Option Tables) (key : List ℕ) (own : Registered) → AreNamedOnce (under fleet.bound) → IsApart (under fleet.bound) fleet.plates fleet.terminals
+    → WhereKnown t (AreAllowed fleet) → under fleet.bound key ≡ Some own → WhereKnown t (λ x. MayRegister x.registered key own)
+may_where fleet None key own once apart allowed is = tt
+may_where fleet (Some x) key own once apart allowed is = may_register fleet once apart x allowed key own is
+
+pub bind_start : (fleet : FleetValue) (t : Option Tables) → Becomes t t (BindsUpTo fleet None)
+bind_start fleet t = becomes_same t _ (λ x. binds_none fleet x)
+
+pub bind_allowed : (fleet : FleetValue) (after : Option (List ℕ)) (a b : Option Tables) → WhereKnown a (AreAllowed fleet) → Becomes a b (BindsUpTo fleet after) → WhereKnown b (AreAllowed fleet)
+bind_allowed fleet after None None allowed upto = tt
+bind_allowed fleet after None (Some y) allowed upto = absurd upto
+bind_allowed fleet after (Some x) None allowed upto = absurd upto
+bind_allowed fleet after (Some x) (Some y) allowed upto = still_allowed fleet after x y allowed upto
+
+pub bind_step : (fleet : FleetValue) (after : Option (List ℕ)) (phone : Phone) (a b c : Option Tables) → WhereKnown a (AreAllowed fleet) → Becomes a b (BindsUpTo fleet after)
+    → Becomes b c (BindsNext fleet after (Some phone)) → Becomes a c (BindsUpTo fleet (Some (key_of phone)))
+bind_step fleet after phone None None None allowed upto one = tt
+bind_step fleet after phone None None (Some z) allowed upto one = absurd one
+bind_step fleet after phone None (Some y) c allowed upto one = absurd upto
+bind_step fleet after phone (Some x) None c allowed upto one = absurd upto
+bind_step fleet after phone (Some x) (Some y) None allowed upto one = absurd one
+bind_step fleet after phone (Some x) (Some y) (Some z) allowed upto one = binds_more fleet after phone x y z allowed upto one
+
+pub bind_end : (fleet : FleetValue) (after : Option (List ℕ)) (a b c : Option Tables) → Becomes a b (BindsUpTo fleet after) → Becomes b c (BindsNext fleet after None) → Becomes a c (BindsAll fleet)
+bind_end fleet after a b c upto last = becomes_then a b c _ _ (BindsAll fleet) (λ x y z r s. binds_all fleet after x y z r s) upto last
+
+pub bind_part : (fleet : FleetValue) (after : Option (List ℕ)) (a b : Option Tables) → Becomes a b (BindsUpTo fleet after) → Becomes a b (BindsSome fleet)
+bind_part fleet after a b upto = becomes_by a b _ (BindsSome fleet) (λ x y r. binds_some fleet after x y r) upto
+
+pub all_where : (fleet : FleetValue) (a b : Option Tables) → Becomes a b (ForgetsAll fleet) → WhereKnown b (AreAllowed fleet)
+all_where fleet None None all = tt
+all_where fleet None (Some y) all = absurd all
+all_where fleet (Some x) None all = absurd all
+all_where fleet (Some x) (Some y) all = all_allowed fleet x y all
+
+pub both_applied : (fleet : FleetValue) (a b c : Option Tables) → Becomes a b (ForgetsAll fleet) → Becomes b c (BindsAll fleet) → Becomes a c (IsApplied fleet)
+both_applied fleet a b c gone there = becomes_then a b c _ _ (IsApplied fleet) (λ x y z r s. applied fleet x y z r s) gone there
+
+pub first_part : (fleet : FleetValue) (a b : Option Tables) → Becomes a b ForgetsSome → Becomes a b (IsOnTheWay fleet)
+first_part fleet a b some = becomes_by a b _ (IsOnTheWay fleet) (λ x y r. on_the_way_first fleet x y r) some
+
+pub second_part : (fleet : FleetValue) (a b c : Option Tables) → Becomes a b (ForgetsAll fleet) → Becomes b c (BindsSome fleet) → Becomes a c (IsOnTheWay fleet)
+second_part fleet a b c gone some = becomes_then a b c _ _ (IsOnTheWay fleet) (λ x y z r s. on_the_way_second fleet x y z r s) gone some
+
+pub named_first : (l m : List Phone) (a b : Option Tables) → Becomes a b (Names l m) → Becomes a b (AreNamed m)
+named_first l m a b names = becomes_by a b _ (AreNamed m) (λ x y r. r.lost) names
+
+pub none_same : (fleet : FleetValue) (after : Option (List ℕ)) (a b : Option Tables) → Becomes a b (BindsNext fleet after None) → b ≡ a
+none_same fleet after None None last = refl
+none_same fleet after None (Some y) last = absurd last
+none_same fleet after (Some x) None last = absurd last
+none_same fleet after (Some x) (Some y) last = ap Some last.1
+
+pub bind_stays : (fleet : FleetValue) (after : Option (List ℕ)) (a b : Option Tables) → WhereKnown a (AreAllowed fleet) → Becomes a b (BindsUpTo fleet after) → Becomes a b Stays
+bind_stays fleet after None None allowed upto = tt
+bind_stays fleet after None (Some y) allowed upto = upto
+bind_stays fleet after (Some x) None allowed upto = upto
+bind_stays fleet after (Some x) (Some y) allowed upto = binds_stays fleet after x y allowed upto
+
+pub named_still : (l m : List Phone) (a b c : Option Tables) → Becomes a b (Names l m) → Becomes b c Stays → Becomes a c (AreNamed m)
+named_still l m a b c names stays = becomes_then a b c (Names l m) Stays (AreNamed m) (λ x y z r s. still_named m x y z r.lost s) names stays

@@ -7,7 +7,7 @@ use Rattle.jt_store.specs.declared.row.Registered.{Registered}
 use Rattle.jt_store.specs.Tables.{Tables, FindsNext}
 use Rattle.dewfelt_fleet.specs.Fleets.{FleetValue, is_allowed}
 use Rattle.dewfelt_keeper.specs.Rules.{Becomes, IsNamed, AreNamed, kept_by}
-use Rattle.dewfelt_keeper.specs.Sweeps.{ForgetsAll, ForgetsNext, ForgetsSome, ForgetsUpTo, Names, is_done, with_own}
+use Rattle.dewfelt_keeper.specs.Sweeps.{ForgetsAll, ForgetsNext, ForgetsSome, ForgetsUpTo, Names, Stays, is_done, with_own}
 use Rattle.dewfelt_keeper.proofs.Sweeping.{Place, behind_is, not_done, place_of, same_is, same_itself}
 
 -- ---- tables that are told
@@ -82,7 +82,7 @@ kept_nothing fleet after key was now false e is none =
 
 -- behind the last one
 pub forgets_all : (fleet : FleetValue) (after : Option (List ℕ)) (old now next : Tables) → ForgetsUpTo fleet after old now → ForgetsNext fleet after None now next → ForgetsAll fleet old next
-forgets_all fleet after old now next upto end = record {
+forgets_all fleet after old now then_so upto end = record {
   registered = λ key. ap (λ (t : Tables). t.registered key) end.1
       ∙ kept_nothing fleet after key (old.registered key) (now.registered key) (is_done after key) refl (upto.registered key) (λ e. end.0 key (behind_is after key e));
   rows = ap (λ (t : Tables). t.rows) end.1 ∙ upto.rows;
@@ -90,7 +90,7 @@ forgets_all fleet after old now next upto end = record {
 
 -- the next one
 pub forgets_more : (fleet : FleetValue) (after : Option (List ℕ)) (phone : Phone) (old now next : Tables) → ForgetsUpTo fleet after old now → ForgetsNext fleet after (Some phone) now next → ForgetsUpTo fleet (Some (key_of phone)) old next
-forgets_more fleet after phone old now next upto one =
+forgets_more fleet after phone old now then_so upto one =
     subst (ForgetsUpTo fleet (Some (key_of phone)) old) (sym one.2) (forgets_next fleet after old now phone one.0 upto one.1)
 
 kept_some : (fleet : FleetValue) (key : List ℕ) (was : Option Registered) → IfSome (kept_by fleet key was) (λ r. was ≡ Some r)
@@ -156,3 +156,11 @@ names_then one two three a b c first second = record {
     by_case key (inl is) more = inl (second.more key is)
     by_case key (inr stays) (inl is) = inl is
     by_case key (inr stays) (inr more) = inr (both_kept (a.registered key) (b.registered key) (c.registered key) stays more)
+
+-- those that stayed stay on
+pub still_named : (phones : List Phone) (a b c : Tables) → AreNamed phones a b → Stays b c → AreNamed phones a c
+still_named phones a b c named stays = λ key. by_case key (named key)
+  where
+    by_case : (key : List ℕ) → IsNamed phones key ⊎ IfSome (a.registered key) (λ r. b.registered key ≡ Some r) → IsNamed phones key ⊎ IfSome (a.registered key) (λ r. c.registered key ≡ Some r)
+    by_case key (inl is) = inl is
+    by_case key (inr kept) = inr (both_kept (a.registered key) (b.registered key) (c.registered key) kept (stays key))

@@ -59,6 +59,10 @@ pub record Names (before now : List Phone) (old new : Tables) : Type 0 where
   pub more : (key : List ℕ) → IsNamed before key → IsNamed now key
   pub lost : AreNamed now old new
 
+-- each registration stays
+abbrev pub Stays : Tables → Tables → Type 0
+Stays old now = (key : List ℕ) → IfSome (old.registered key) (λ r. now.registered key ≡ Some r)
+
 -- ---- vehicles
 
 -- each registration is allowed

@@ -5,7 +5,7 @@ ghost use Rattle.std.specs.Prelude.{◌≡◌, IfOk, OnErr, OnOk};
 ghost use Rattle.jt_store.specs.Tables.{IsTrimmed, MayRegister, WhereKnown};
 ghost use Rattle.jt_value.specs.Sameness.{key_of};
 ghost use Rattle.dewfelt_keeper.specs.Rules.{AreNamed, Becomes, IsApplied, IsOnTheWay};
-ghost use Rattle.dewfelt_keeper.specs.Sweeps.{AreAllowed, BindsAll, BindsNext, BindsSome, ForgetsAll, ForgetsNext, ForgetsSome, Names, left_allowed, with_own_or};
+ghost use Rattle.dewfelt_keeper.specs.Sweeps.{AreAllowed, BindsAll, BindsNext, BindsSome, ForgetsAll, ForgetsNext, ForgetsSome, Names, Stays, left_allowed, with_own_or};
 
 use dewfelt_fleet::Fleet;
 use jt_store::{Keeper, Registered, Registrations, StoreError};
@@ -134,6 +134,7 @@ fn register_bound<K: Keeper>(alloc: Global, keeper: &mut K, fleet: &Fleet) -> Re
         (BindsAll fleet.now)) }
     ensures err { OnErr result (Becomes (K.tables keeper.old) (K.tables keeper.new)
         (BindsSome fleet.now)) }
+    ensures stays { Becomes (K.tables keeper.old) (K.tables keeper.new) Stays }
 {
     let mut after = None;
     for _ in 0..u64::MAX {
