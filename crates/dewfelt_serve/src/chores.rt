@@ -18,12 +18,13 @@ pub trait Chores<T> {
     fn look<R: Wait>(&mut self, rt: &R, watch: &Watch<Told<T>>);
 }
 
-/// Does the chores until the service is over.
+/// Does the chores until the service is over, and sets a flag then.
 pub(crate) fn do_chores<R: Wait + Clock, T, C: Chores<T> + Drop>(
     rt: &R,
     watch: &Watch<Told<T>>,
     mut chores: C,
     is_over: &AtomicBool,
+    is_done: &AtomicBool,
 ) {
     let mut pauses = 0;
     for _ in rt.forever() {
@@ -36,4 +37,5 @@ pub(crate) fn do_chores<R: Wait + Clock, T, C: Chores<T> + Drop>(
         pauses = if pauses >= PAUSES - 1 { 0 } else { pauses + 1 };
         thread::sleep(rt, Duration::from_millis(PAUSE));
     }
+    is_done.store(true, Ordering::SeqCst);
 }

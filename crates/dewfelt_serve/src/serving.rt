@@ -60,13 +60,11 @@ struct Parts<D, G, C> {
     chores: C,
 }
 
-// What the threads of a service look at to end.
+// What lines are written with.
 #[derive(Drop)]
-struct Ends {
-    // No link is served any more.
-    is_over: AtomicBool,
-    // All is done, and no line comes any more but the last ones.
-    is_done: AtomicBool,
+struct Writer<K> {
+    sink: K,
+    room: Vec<u8>,
 }
 
 // Starts the thread that writes lines. Tells whether it could be made.
@@ -88,13 +86,14 @@ where
         .is_ok()
 }
 
-// Starts the thread that does the chores. Tells whether it could be made.
+// Starts the thread that does the chores, behind which no line comes any more but the last ones. Tells whether it could be made.
 fn start_chores<'t, E, R, T, C>(
     scope: &'t Scope<'t, E>,
     rt: &'t R,
     watch: &'t Watch<Told<T>>,
     chores: C,
     is_over: &'t AtomicBool,
+    is_done: &'t AtomicBool,
 ) -> bool
 where
     R: Threads + Wait + Clock + Sync + 't,
@@ -102,52 +101,28 @@ where
     C: Chores<T> + Send + Drop + 't,
 {
     scope
-        .spawn(move || do_chores(rt, watch, chores, is_over))
+        .spawn(move || do_chores(rt, watch, chores, is_over, is_done))
         .is_ok()
 }
 
-// Serves while a thread does the chores.
-fn serve_and_do<R, D, G, C, T>(
-    run: Run<R, T>,
-    mut door: D,
-    ground: G,
-    chores: C,
-    is_over: &AtomicBool,
-) -> ServiceEnd
-where
-    R: Threads + Wait + Clock + Sync,
-    D: Door + Drop,
-    D::Link: Send,
-    G: HasGround + Drop,
-    G::Keeper: Send,
-    C: Chores<T> + Send + Drop,
-    T: Clock + Send + Drop,
-{
-    let rt = run.rt;
-    let watch = run.watch;
-    thread::scope(
-        thread::scope_env(),
-        rt,
-        move |scope| -> ServiceEnd
-            requires sync { IsSync R.row }
-        {
-            if !start_chores(scope, rt, watch, chores, is_over) {
-                return ServiceEnd::NoThread;
-            }
-            let end = run.serve(&mut door, ground);
-            is_over.store(true, Ordering::SeqCst);
-            end
-        },
-    )
+// The service ended so: whoever looks at the flag ends.
+fn finish<R: Wait, T: Clock + Drop>(
+    rt: &R,
+    watch: &Watch<Told<T>>,
+    end: ServiceEnd,
+    flag: &AtomicBool,
+) {
+    watch.told().lock(rt).end_with(end);
+    flag.store(true, Ordering::SeqCst);
 }
 
-// Serves while a thread writes lines.
-fn serve_and_write<R, D, G, C, T, K>(
+// Serves while a thread writes lines, and one does the chores.
+fn serve_beside<R, D, G, C, T, K>(
     run: Run<R, T>,
-    service: Parts<D, G, C>,
-    sink: K,
-    room: Vec<u8>,
-    ends: &Ends,
+    parts: Parts<D, G, C>,
+    writer: Writer<K>,
+    is_over: &AtomicBool,
+    is_done: &AtomicBool,
 ) -> ServiceEnd
 where
     R: Threads + Wait + Clock + Sync,
@@ -161,23 +136,27 @@ where
 {
     let rt = run.rt;
     let watch = run.watch;
+    let Parts {
+        mut door,
+        ground,
+        chores,
+    } = parts;
+    let Writer { sink, room } = writer;
     thread::scope(
         thread::scope_env(),
         rt,
         move |scope| -> ServiceEnd
             requires sync { IsSync R.row }
         {
-            if !start_writer(scope, rt, watch, sink, room, &ends.is_done) {
+            if !start_writer(scope, rt, watch, sink, room, is_done) {
                 return ServiceEnd::NoThread;
             }
-            let Parts {
-                door,
-                ground,
-                chores,
-            } = service;
-            let end = serve_and_do(run, door, ground, chores, &ends.is_over);
-            watch.told().lock(rt).end_with(end);
-            ends.is_done.store(true, Ordering::SeqCst);
+            if !start_chores(scope, rt, watch, chores, is_over, is_done) {
+                finish(rt, watch, ServiceEnd::NoThread, is_done);
+                return ServiceEnd::NoThread;
+            }
+            let end = run.serve(&mut door, ground);
+            finish(rt, watch, end, is_over);
             end
         },
     )
@@ -214,21 +193,20 @@ where
         mut told,
     } = service;
     say_start(&mut told, settings);
-    let ends = Ends {
-        is_over: AtomicBool::new(false),
-        is_done: AtomicBool::new(false),
-    };
+    let is_over = AtomicBool::new(false);
+    let is_done = AtomicBool::new(false);
     let watch = Watch::new(alloc, told, flags.stops, flags.ends);
+    let parts = Parts {
+        door,
+        ground,
+        chores,
+    };
+    let writer = Writer { sink, room };
     let run = Run {
         rt,
         alloc,
         watch: &watch,
         settings,
     };
-    let parts = Parts {
-        door,
-        ground,
-        chores,
-    };
-    status_of(serve_and_write(run, parts, sink, room, &ends))
+    status_of(serve_beside(run, parts, writer, &is_over, &is_done))
 }

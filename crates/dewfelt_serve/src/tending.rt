@@ -13,6 +13,7 @@ use jt_service::Watch;
 use jt_store::{Registrations, StoreError};
 use jt_value::{Phone, Seq};
 use std::alloc::AllocError;
+use std::io;
 use std::rt::Files;
 use std::sync::{Arc, Mutex, Wait};
 use std::time::Clock;
@@ -141,7 +142,11 @@ where
     }
 
     // Answers the commands that wait.
-    fn answer<R: Wait, T: Clock + Drop>(&mut self, rt: &R, watch: &Watch<Told<T>>) {
+    fn answer_all<'x, R: Wait, T: Clock + Drop>(
+        &'x self,
+        rt: &'x R,
+        watch: &'x Watch<Told<T>>,
+    ) -> io::Result<()> {
         let mut desk = Desk {
             rt,
             files: &self.files,
@@ -149,7 +154,12 @@ where
             present: &self.present,
             watch,
         };
-        match self.clerk.look(&self.files, &mut desk) {
+        self.clerk.look(&self.files, &mut desk)
+    }
+
+    // Answers the commands that wait, and says once that it can't.
+    fn answer<R: Wait, T: Clock + Drop>(&mut self, rt: &R, watch: &Watch<Told<T>>) {
+        match self.answer_all(rt, watch) {
             Ok(()) => self.is_folder_said = false,
             Err(error) => {
                 if !self.is_folder_said {
