@@ -1,5 +1,11 @@
 //! The last fix of a row.
 
+ghost use Rattle.std.specs.Prelude.{◌≡◌, IfSome};
+ghost use Rattle.jt_layout.specs.Layout.{Fills};
+ghost use Rattle.jt_position.specs.declared.position.Position.{Position as Told};
+ghost use Rattle.jt_position.specs.Positions.{position};
+ghost use Rattle.jt_value.specs.declared.ids.TheConstants.{POSITION};
+
 use jt_position::{Fixed, ItemView, PositionView, Positions, view_batch, view_position};
 use jt_value::ids;
 
@@ -32,12 +38,16 @@ fn mileage_of(view: PositionView<'_>) -> Option<u32> {
     None
 }
 
-fn take_fix(number: u64, at: u16, view: PositionView<'_>) -> Found {
+fn take_fix(number: u64, at: u16, view: PositionView<'_>) -> Found
+    ensures fixed { result.fix.fixed ≡ view.entry.fixed }
+    ensures number { result.fix.number ≡ number }
+{
+    let fixed = view.fixed;
     Found {
         fix: LastFix {
             number,
             at,
-            fixed: view.fixed,
+            fixed,
             mileage: mileage_of(view),
         },
         count: at.saturating_add(1),
@@ -45,7 +55,9 @@ fn take_fix(number: u64, at: u16, view: PositionView<'_>) -> Found {
 }
 
 // The last fix of a batch.
-fn last_of(number: u64, fixes: Positions<'_>) -> Option<Found> {
+fn last_of(number: u64, fixes: Positions<'_>) -> Option<Found>
+    ensures { IfSome result (λ found. found.fix.number ≡ number) }
+{
     let mut last = None;
     let mut at: u16 = 0;
     for view in fixes {
@@ -56,7 +68,12 @@ fn last_of(number: u64, fixes: Positions<'_>) -> Option<Found> {
 }
 
 /// The last fix of a row of this number, id and body. None where the body has no fix, or does not read as one of its id.
-pub fn last_fix(number: u64, id: u16, body: &[u8]) -> Option<Found> {
+pub fn last_fix(number: u64, id: u16, body: &[u8]) -> Option<Found>
+    ensures number { IfSome result (λ found. found.fix.number ≡ number) }
+    // What is shown of a position is what the row says.
+    ensures position { id ≡ POSITION → IfSome result (λ found. (p : Told)
+        × Fills position body.now 0 p × (found.fix.fixed ≡ p.fixed)) }
+{
     match id {
         ids::POSITION => Some(take_fix(number, 0, view_position(body).ok()?)),
         ids::BATCH => last_of(number, view_batch(body).ok()?.fixes),

@@ -1,0 +1,114 @@
+//! Problems: why a request is not answered as it asked (RFC 9457).
+
+ghost use Rattle.std.specs.Prelude.{◌≡◌, ◌≤◌};
+
+use crate::plain::{put_count, put_text};
+use http::StatusCode;
+use json::Writer;
+use std::alloc::{AllocError, Global};
+
+/// Why a request is not answered as it asked.
+#[derive(Drop)]
+pub struct Problem {
+    pub status: StatusCode,
+    /// What is wrong, and what to do.
+    pub detail: String,
+    /// The word of the query that is wrong, if one is.
+    pub parameter: Option<&'static str>,
+    /// The methods that the path answers, where it does not answer the one that was asked.
+    pub is_method: bool,
+    pub ghost refuses: { 400 ≤ status },
+}
+
+// The type and the title of a status.
+fn named(status: u16) -> (&'static str, &'static str) {
+    match status {
+        400 => (
+            "urn:dewfelt:problem:the-request-is-wrong",
+            "The request is wrong",
+        ),
+        401 => ("urn:dewfelt:problem:a-token-is-needed", "A token is needed"),
+        403 => ("urn:dewfelt:problem:not-allowed", "Not allowed"),
+        404 => ("urn:dewfelt:problem:not-here", "Not here"),
+        405 => ("urn:dewfelt:problem:not-this-method", "Not this method"),
+        421 => ("urn:dewfelt:problem:not-this-host", "Not this host"),
+        _ => ("urn:dewfelt:problem:not-ready", "Not ready"),
+    }
+}
+
+/// Why a call gives no answer.
+#[derive(Drop)]
+pub enum Refused {
+    /// The request is wrong.
+    Problem(Problem),
+    /// Memory was wanted and refused.
+    Memory,
+}
+
+impl From<AllocError> for Refused {
+    fn from(_: AllocError) -> Refused {
+        Refused::Memory
+    }
+}
+
+impl Problem {
+    /// A problem of this status, 400 at least.
+    pub fn new(alloc: Global, status: StatusCode, detail: &str) -> Refused
+        requires { 400 ≤ status }
+    {
+        match String::from_str(alloc, detail) {
+            Ok(detail) => Refused::Problem(Problem {
+                status,
+                detail,
+                parameter: None,
+                is_method: false,
+            }),
+            Err(_) => Refused::Memory,
+        }
+    }
+
+    /// A word of the query is wrong.
+    pub fn parameter(parameter: &'static str, detail: String) -> Refused {
+        Refused::Problem(Problem {
+            status: StatusCode::BAD_REQUEST,
+            detail,
+            parameter: Some(parameter),
+            is_method: false,
+        })
+    }
+
+    /// The path does not answer this method.
+    pub fn method(alloc: Global) -> Refused {
+        match String::from_str(alloc, "this method is not answered here") {
+            Ok(detail) => Refused::Problem(Problem {
+                status: StatusCode::METHOD_NOT_ALLOWED,
+                detail,
+                parameter: None,
+                is_method: true,
+            }),
+            Err(_) => Refused::Memory,
+        }
+    }
+
+    // The members, behind the type.
+    fn put_rest(&self, writer: &mut Writer) -> Result<(), AllocError> {
+        put_count(writer, "status", self.status.as_u16() as u64)?;
+        put_text(writer, "detail", self.detail.as_str())?;
+        if let Some(parameter) = self.parameter {
+            put_text(writer, "parameter", parameter)?;
+        }
+        Ok(())
+    }
+
+    /// The problem as JSON.
+    pub fn text(&self, alloc: Global) -> Result<Vec<u8>, AllocError> {
+        let mut writer = Writer::new(Vec::new(alloc));
+        let (kind, title) = named(self.status.as_u16());
+        writer.begin_object()?;
+        put_text(&mut writer, "type", kind)?;
+        put_text(&mut writer, "title", title)?;
+        self.put_rest(&mut writer)?;
+        writer.end_object()?;
+        Ok(writer.into_inner())
+    }
+}
