@@ -1,6 +1,6 @@
 -- The pass in which vehicles are registered.
-use Rattle.std.proofs.Common.{◌≡◌, ℕ, Bool, true, false, cond, List, [], ◌∷◌, Option, Some, None, refl, sym, ap, subst, ◌∙◌, inl, inr}
-use Rattle.std.specs.Prelude.{◌⊎◌, ◌&&◌, IfSome, IsSome, IsSomeAnd}
+use Rattle.std.proofs.Common.{◌≡◌, ℕ, Bool, true, false, cond, List, Option, Some, None, refl, sym, ap, subst, ◌∙◌, inl, inr}
+use Rattle.std.specs.Prelude.{◌⊎◌, ◌&&◌, IfSome, IsSomeAnd}
 use Rattle.std.specs.Str.{bytes_eq}
 use Rattle.std.proofs.lemmas.Bool.{true≢false}
 use Rattle.std.proofs.lemmas.Slice.Eq.{bytes_eq-Decides}
@@ -8,12 +8,12 @@ use Rattle.jt_value.specs.declared.phone.Phone.{Phone}
 use Rattle.jt_value.specs.Sameness.{key_of, same_key}
 use Rattle.jt_store.specs.declared.row.Registered.{Registered}
 use Rattle.jt_store.specs.Memory.{under}
-use Rattle.jt_store.specs.Tables.{Tables, HasName, AreNamedOnce, MayRegister, plates, terminals}
+use Rattle.jt_store.specs.Tables.{Tables, AreNamedOnce, MayRegister, plates, terminals}
 use Rattle.dewfelt_fleet.specs.Fleets.{FleetValue, IsApart, is_allowed, is_allowed_by, is_same}
 use Rattle.dewfelt_fleet.specs.Names.{is_among}
-use Rattle.dewfelt_keeper.specs.Rules.{Becomes, IsApplied, IsOnTheWay, IsNamed, AreNamed, bound_or, kept_by, settled_by}
-use Rattle.dewfelt_keeper.specs.Sweeps.{AreAllowed, BindsAll, BindsNext, BindsSome, BindsUpTo, ForgetsAll, ForgetsSome, Stays, is_done, with_own, with_own_if, with_own_or}
-use Rattle.dewfelt_keeper.proofs.Sweeping.{Place, behind_is, not_done, place_of, same_is, same_itself}
+use Rattle.dewfelt_keeper.specs.Rules.{IsApplied, IsOnTheWay, bound_or, kept_by, settled_by}
+use Rattle.dewfelt_keeper.specs.Sweeps.{AreAllowed, BindsAll, BindsNext, BindsSome, BindsUpTo, ForgetsAll, ForgetsSome, Stays, is_done, with_own_if}
+use Rattle.dewfelt_keeper.proofs.Sweeping.{Place, behind_is, not_done, place_of, same_itself}
 
 -- ---- what the fleet allows
 

@@ -1,8 +1,8 @@
 -- What one call of a keeper does for a fleet that is applied.
-use Rattle.std.proofs.Common.{◌≡◌, ℕ, Bool, true, false, cond, List, [], ◌∷◌, ◌++◌, Option, Some, None, refl, sym, ap, subst, ◌∙◌}
-use Rattle.std.specs.Prelude.{Result, Ok, Err, OnOk, OnErr, IfSome}
+use Rattle.std.proofs.Common.{◌≡◌, ℕ, true, false, cond, List, [], ◌∷◌, ◌++◌, Option, Some, None, refl, sym, ap, subst, ◌∙◌}
+use Rattle.std.specs.Prelude.{Result, Ok, Err, OnOk, OnErr}
 use Rattle.jt_value.specs.declared.phone.Phone.{Phone}
-use Rattle.jt_value.specs.Sameness.{key_of, same_key}
+use Rattle.jt_value.specs.Sameness.{key_of}
 use Rattle.jt_store.specs.declared.error.StoreError.{StoreError}
 use Rattle.jt_store.specs.declared.error.StoreError.TheVariants.{Failed, Full, Memory}
 use Rattle.jt_store.specs.declared.row.Registered.{Registered}

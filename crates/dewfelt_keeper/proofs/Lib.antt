@@ -7,6 +7,6 @@
 
 pub mod Binding
 pub mod Calls
-pub mod Paging
+pub mod Pages
 pub mod Removing
 pub mod Sweeping

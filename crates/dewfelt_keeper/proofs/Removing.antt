@@ -1,6 +1,6 @@
 -- The pass in which registrations go that the fleet does not allow.
 use Rattle.std.proofs.Common.{◌≡◌, ℕ, Bool, true, false, cond, List, [], ◌∷◌, ◌++◌, Option, Some, None, refl, sym, ap, subst, ◌∙◌, inl, inr}
-use Rattle.std.specs.Prelude.{◌⊎◌, IfSome, IsSome}
+use Rattle.std.specs.Prelude.{◌⊎◌, IfSome}
 use Rattle.jt_value.specs.declared.phone.Phone.{Phone}
 use Rattle.jt_value.specs.Sameness.{key_of, same_key}
 use Rattle.jt_store.specs.declared.row.Registered.{Registered}

@@ -1,8 +1,8 @@
 -- What a keeper under the rules of a fleet does (this project's own). To be believed.
-use Rattle.std.specs.Prelude.{◌≡◌, ◌⊎◌, ℕ, Bool, true, false, ◌&&◌, ◌||◌, not, List, [], ◌∷◌, Option, Some, None, IfSome, if◌then◌else◌}
+use Rattle.std.specs.Prelude.{◌≡◌, ◌⊎◌, ℕ, Bool, not, List, [], ◌∷◌, Option, Some, None, IfSome, if◌then◌else◌}
 use Rattle.std.specs.Str.{bytes_eq}
 use Rattle.jt_value.specs.declared.phone.Phone.{Phone}
-use Rattle.jt_value.specs.Sameness.{key_of, same_key}
+use Rattle.jt_value.specs.Sameness.{key_of}
 use Rattle.jt_store.specs.declared.row.Registered.{Registered}
 use Rattle.jt_store.specs.Memory.{under}
 use Rattle.jt_store.specs.Tables.{Tables}

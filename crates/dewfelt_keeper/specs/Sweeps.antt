@@ -1,7 +1,7 @@
 -- How far a fleet is applied. Step definitions for the proofs; no public clause cites them.
 use Rattle.std.specs.Cmp.Lexicographic.{slice_cmp}
 use Rattle.std.specs.Ordering.{is_gt, is_lt, nat_cmp}
-use Rattle.std.specs.Prelude.{◌≡◌, ◌⊎◌, ℕ, Bool, true, false, not, List, Option, Some, None, IfSome, IsSome, if◌then◌else◌}
+use Rattle.std.specs.Prelude.{◌≡◌, ◌⊎◌, ℕ, Bool, true, false, not, List, [], ◌∷◌, ◌++◌, Option, Some, None, IfSome, IsSome, if◌then◌else◌}
 use Rattle.jt_value.specs.declared.phone.Phone.{Phone}
 use Rattle.jt_value.specs.Sameness.{key_of, same_key}
 use Rattle.jt_store.specs.declared.row.Registered.{Registered}
@@ -90,3 +90,10 @@ pub record BindsAll (fleet : FleetValue) (old now : Tables) : Type 0 where
 pub record BindsSome (fleet : FleetValue) (old now : Tables) : Type 0 where
   pub registered : (key : List ℕ) → IfSome (now.registered key) (λ r. (old.registered key ≡ Some r) ⊎ (under fleet.bound key ≡ Some r))
   pub rows : now.rows ≡ old.rows
+
+-- ---- pages
+
+-- the registration behind these digits, put at the end of a page
+abbrev pub AddsNext : (List ℕ → Option Registered) → Option (List ℕ) → List (Phone × Registered) → List (Phone × Registered) → Option Phone → Type 0
+AddsNext registered after old now None = FindsNext registered after None × (now ≡ old)
+AddsNext registered after old now (Some phone) = (r : Registered) × FindsNext registered after (Some (phone, r)) × (now ≡ old ++ (phone, r) ∷ [])

@@ -2,6 +2,7 @@
 #![tactic(auto)]
 
 mod applying;
+mod paging;
 mod registry;
 mod shared;
 

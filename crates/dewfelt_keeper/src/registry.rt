@@ -5,10 +5,11 @@ ghost use Rattle.std.specs.Prelude.{◌≡◌, Ok, Some, false, true, IfOk, IsTr
 ghost use Rattle.jt_store.specs.Memory.{under};
 ghost use Rattle.jt_store.specs.Tables.{IsOwner, IsTrimmed, MayAppend, MayRegister, Reads, WhereKnown, Writes, plates, row_added, terminals};
 ghost use Rattle.jt_value.specs.Sameness.{key_of};
-ghost use Rattle.dewfelt_keeper.specs.Registries.{Forgets, IsRegisteredOr, left_by};
+ghost use Rattle.dewfelt_keeper.specs.Registries.{Forgets, IsPage, IsRegisteredOr, left_by};
 ghost use Rattle.dewfelt_keeper.specs.Rules.{AreNamed, Becomes, IsApplied, IsOnTheWay, is_barred, own_of};
 
 use crate::applying::settle;
+use crate::paging::page_of;
 use dewfelt_fleet::Fleet;
 use jt_store::{Keeper, Registered, Registrations, Row, StoreError};
 use jt_value::{Edition, Phone, Seq};
@@ -267,18 +268,12 @@ impl<K: Registrations> Registry<K> {
         alloc: Global,
         after: Option<&Phone>,
         most: usize,
-    ) -> Result<Seq<(Phone, Registered)>, StoreError> {
-        let mut page = Seq::new(alloc);
-        let mut last = after.copied();
-        while page.len() < most {
-            let Some((phone, registered)) = self.keeper.next_registered(alloc, last.as_ref())?
-            else {
-                return Ok(page);
-            };
-            last = Some(phone);
-            page.push((phone, registered))?;
-        }
-        Ok(page)
+    ) -> Result<Seq<(Phone, Registered)>, StoreError>
+        ensures answer { Reads (K.tables self.old.keeper) (K.tables self.new.keeper) (λ t page.
+            IsPage t.registered (option_map key_of (option_copied after.entry)) most page) result }
+        ensures fleet { self.new.fleet ≡ self.old.fleet }
+    {
+        page_of(alloc, &mut self.keeper, after, most)
     }
 
     /// Takes a new fleet, whose rules hold from now on, and brings the registrations in line with it: one that it does not allow is
