@@ -18,13 +18,15 @@ stop() {
 folder=$1
 trap stop HUP INT TERM
 
-while :; do
+while [ -z "$is_stopped" ]; do
     "$program" serve "$@" &
     run=$!
     wait "$run"
     status=$?
     # A signal ends the wait before the service has ended.
     while kill -0 "$run" 2>/dev/null; do
+        # (it may have come before the service could be asked)
+        [ -n "$is_stopped" ] && "$program" stop "$folder" >&2
         wait "$run"
         status=$?
     done
@@ -42,3 +44,4 @@ while :; do
         ;;
     esac
 done
+exit 0

@@ -1,6 +1,7 @@
 //! The service's side: requests that lie in its folder are answered.
 
 use crate::answer::head;
+use crate::copying::remove_store;
 use crate::listing::put_page;
 use crate::names::{Names, commands_in, letters_in};
 use crate::{Answer, Failed, Forgot, Office, Outcome, Request};
@@ -166,6 +167,8 @@ where
         Ok(()) => put_outcome(rt, names, Outcome::Done),
         Err(error) => {
             let path = names.copy.as_str();
+            // (its part would keep a full disk full)
+            remove_store(rt, path);
             let failed = Failed::of_error(rt.alloc(), Outcome::Store, path, &error);
             put_failed(rt, names, &failed)
         }

@@ -45,17 +45,11 @@ impl Expected {
             Expected::Secret => "secret and hexadecimal digits, two for each octet, or secret -",
             Expected::SecretFirst => "a line secret before all others",
             Expected::OneSecret => "no second line secret",
-            Expected::Plate => {
-                "plate and hexadecimal digits, two for each octet, or characters of GBK in double quotes"
-            }
+            Expected::Plate => "plate and pairs of hexadecimal digits, or quoted text of GBK",
             Expected::FreePlate => "a plate that stands in no line vehicle",
-            Expected::Terminal => {
-                "terminal and hexadecimal digits, two for each octet, or letters of ASCII in double quotes"
-            }
+            Expected::Terminal => "terminal and pairs of hexadecimal digits, or quoted ASCII",
             Expected::FreeTerminal => "a terminal id that stands in no line vehicle",
-            Expected::Vehicle => {
-                "vehicle, a plate and a terminal id as in their lines, and a phone of 1 to 20 digits"
-            }
+            Expected::Vehicle => "vehicle, a plate, a terminal id, and a phone of 1 to 20 digits",
             Expected::FreeVehicle =>
                 "a plate, a terminal id and a phone that stand in no other line",
         }
@@ -67,7 +61,8 @@ impl Expected {
 pub struct BadLine {
     /// Its number, from 1. A text that ends without a secret is bad at the line behind its last one.
     pub number: u64,
-    /// Its first 64 characters, with `?` for those that can't be printed; of a line that begins as a secret's no more than that word.
+    /// Its first 64 characters, with `?` for those that can't be printed, where its first word is plate, terminal or vehicle. Every other
+    /// line may hold the secret: of it that word alone, if it is of letters.
     pub text: String,
     pub expected: Expected,
 }
@@ -146,13 +141,40 @@ fn shown_octets(alloc: Global, octets: &[u8]) -> Result<String, AllocError> {
     Ok(shown)
 }
 
-// What is shown of a line.
-pub(crate) fn shown(alloc: Global, line: &[u8]) -> Result<String, AllocError> {
-    if line.starts_with(b"secret".as_slice()) {
-        return String::from_str(alloc, "secret");
+// The first word of a line.
+fn first_word(line: &[u8]) -> &[u8] {
+    let Some(begin) = line
+        .iter()
+        .position(|octet| *octet != b' ' && *octet != b'\t')
+    else {
+        return b"".as_slice();
+    };
+    let rest = &line[begin..];
+    match rest
+        .iter()
+        .position(|octet| *octet == b' ' || *octet == b'\t')
+    {
+        Some(end) => &rest[..end],
+        None => rest,
     }
-    match str::from_utf8(line) {
+}
+
+fn begins_open_line(word: &[u8]) -> bool {
+    word == b"plate".as_slice() || word == b"terminal".as_slice() || word == b"vehicle".as_slice()
+}
+
+// What is shown of a line: all of one that can hold no secret, and of another its first word, if that is of letters.
+pub(crate) fn shown(alloc: Global, line: &[u8]) -> Result<String, AllocError> {
+    let word = first_word(line);
+    let part = if begins_open_line(word) {
+        line
+    } else if word.iter().all(|octet| octet.is_ascii_alphabetic()) {
+        word
+    } else {
+        b"".as_slice()
+    };
+    match str::from_utf8(part) {
         Ok(text) => shown_text(alloc, text),
-        Err(_) => shown_octets(alloc, line),
+        Err(_) => shown_octets(alloc, part),
     }
 }

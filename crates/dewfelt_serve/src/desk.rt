@@ -6,7 +6,7 @@ use dewfelt_commands::{Forgot, Lists, Office, copy_store};
 use dewfelt_keeper::Forgetting;
 use jt_service::Watch;
 use jt_store::{Registered, Registrations, StoreError};
-use jt_value::Phone;
+use jt_value::{Phone, Seq};
 use std::alloc::Global;
 use std::io;
 use std::rt::Files;
@@ -20,6 +20,8 @@ pub(crate) struct Desk<'w, R, F, T, K> {
     pub(crate) files: &'w F,
     pub(crate) store: &'w str,
     pub(crate) present: &'w Mutex<Present<K>>,
+    // The phones that are forgotten, whose links are to be ended once more.
+    pub(crate) forgotten: &'w mut Seq<Phone>,
     pub(crate) watch: &'w Watch<Told<T>>,
 }
 
@@ -69,6 +71,7 @@ where
     fn forget(&mut self, alloc: Global, phone: &Phone) -> Result<Forgot, StoreError> {
         match self.forget_registered(alloc, phone)? {
             Forgetting::Done => {
+                self.forgotten.push(*phone)?;
                 self.watch.dismiss(self.rt, phone);
                 self.watch.told().lock(self.rt).say_forgot(phone);
                 Ok(Forgot::Gone)

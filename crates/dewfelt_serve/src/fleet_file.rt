@@ -46,7 +46,7 @@ impl FleetFile {
         self.read = None;
     }
 
-    /// Its octets, where it changed since it was read last and stays so. An error is what the system says of it, once.
+    /// Its octets, where it changed since it was read last and stays so. An error is what the system says of it, at each look.
     pub(crate) fn look<R: Files + AllocGlobal>(&mut self, rt: &R) -> Option<io::Result<Vec<u8>>> {
         let stamp = stamp_of(rt, self.path.as_str());
         let stays = stamp == self.seen;
@@ -54,7 +54,10 @@ impl FleetFile {
         if !stays || stamp == self.read {
             return None;
         }
-        self.read = stamp;
-        Some(fs::read(rt, self.path.as_str()))
+        let text = fs::read(rt, self.path.as_str());
+        if text.is_ok() {
+            self.read = stamp;
+        }
+        Some(text)
     }
 }

@@ -75,7 +75,8 @@ where
         watch: &Watch<Told<T>>,
         text: &[u8],
     ) -> bool {
-        let is_same = self.present.lock(rt).text() == text;
+        // (a fleet that could not be taken may be in force in part)
+        let is_same = !self.is_fault_said && self.present.lock(rt).text() == text;
         if is_same && self.has_read {
             watch.told().lock(rt).say("fleet", "result", "same");
         }
@@ -88,6 +89,19 @@ where
         self.fleet.forget();
         if !self.is_fault_said {
             watch.told().lock(rt).say("fleet", "result", "fault");
+        }
+        self.is_fault_said = true;
+    }
+
+    // The file could not be read: that is said once.
+    fn say_unread<R: Wait, T: Clock + Drop>(
+        &mut self,
+        rt: &R,
+        watch: &Watch<Told<T>>,
+        error: &io::Error,
+    ) {
+        if !self.is_fault_said {
+            watch.told().lock(rt).say_error("fleet", error);
         }
         self.is_fault_said = true;
     }
@@ -182,7 +196,7 @@ where
         self.forgotten = Seq::new(self.files.alloc());
         match self.fleet.look(&self.files) {
             Some(Ok(text)) => self.take_text(rt, watch, text),
-            Some(Err(error)) => watch.told().lock(rt).say_error("fleet", &error),
+            Some(Err(error)) => self.say_unread(rt, watch, &error),
             None => {}
         }
         self.answer(rt, watch);
