@@ -1,8 +1,9 @@
+use crate::connections::InMemory;
 use crate::files::{make_folder, remove_folder};
 use jt_sql::SqlKeeper;
 use jt_store::{Registrations, StoreError};
 use jt_value::{Edition, Memory, Phone};
-use sqlite::{Alter, Connection};
+use sqlite::MemStore;
 use std::alloc::Global;
 use std::test::Fail;
 use store_tests::keeper_calls::{Call, Said, first_wrong};
@@ -89,20 +90,16 @@ fn a_file_lists_registrations_by_their_digits(rt: HostRuntime) -> Result<(), Fai
     Ok(())
 }
 
-fn listing_over<S: Alter + Drop>(
-    alloc: Global,
-    connection: Connection<S>,
-) -> Result<u32, StoreError> {
-    let mut keeper = SqlKeeper::over(connection);
-    let wrong = wrong_listing(alloc, &mut keeper);
-    drop(keeper.into_connection());
-    wrong
+// The same of a keeper over a connection in memory.
+fn listing_over<S: InMemory>(alloc: Global) -> Result<u32, StoreError> {
+    match S::connection(alloc) {
+        Some(connection) => owned_listing(alloc, SqlKeeper::over(connection)),
+        None => Err(StoreError::Memory),
+    }
 }
 
 #[test]
 fn a_connection_lists_registrations_by_their_digits(rt: HostRuntime) -> Result<(), Fail> {
-    let connection = Connection::open_in_memory(rt.alloc()).expect(&rt, "memory");
-    let wrong = listing_over(rt.alloc(), connection);
-    assert!(rt; wrong == Ok(0));
+    assert!(rt; listing_over::<MemStore>(rt.alloc()) == Ok(0));
     Ok(())
 }
