@@ -43,10 +43,10 @@ fn copied(rt: &HostRuntime, folder: &str, file: &str) -> Result<String, Memory> 
 
 // How many files a folder has.
 fn count(rt: &HostRuntime, folder: &str) -> io::Result<usize> {
-    let mut count = 0;
+    let mut count: usize = 0;
     for entry in fs::read_dir(rt, folder)? {
         let _entry = entry?;
-        count += 1;
+        count = count.saturating_add(1);
     }
     Ok(count)
 }
