@@ -14,6 +14,7 @@ use jt_store::{Registrations, StoreError};
 use jt_value::{Phone, Seq};
 use std::alloc::AllocError;
 use std::io;
+use std::mem::replace;
 use std::rt::Files;
 use std::sync::{Arc, Mutex, Wait};
 use std::time::Clock;
@@ -155,17 +156,19 @@ where
         }
     }
 
-    // Answers the commands that wait.
+    // Answers the commands that wait. Phones that one of them wants to be forgotten are put behind those that are.
     fn answer_all<'x, R: Wait, T: Clock + Drop>(
         &'x self,
         rt: &'x R,
         watch: &'x Watch<Told<T>>,
+        forgotten: &'x mut Seq<Phone>,
     ) -> io::Result<()> {
         let mut desk = Desk {
             rt,
             files: &self.files,
             store: self.store.as_str(),
             present: &self.present,
+            forgotten,
             watch,
         };
         self.clerk.look(&self.files, &mut desk)
@@ -173,7 +176,10 @@ where
 
     // Answers the commands that wait, and says once that it can't.
     fn answer<R: Wait, T: Clock + Drop>(&mut self, rt: &R, watch: &Watch<Told<T>>) {
-        match self.answer_all(rt, watch) {
+        let mut forgotten = replace(&mut self.forgotten, Seq::new(self.files.alloc()));
+        let answered = self.answer_all(rt, watch, &mut forgotten);
+        self.forgotten = forgotten;
+        match answered {
             Ok(()) => self.is_folder_said = false,
             Err(error) => {
                 if !self.is_folder_said {
