@@ -115,7 +115,7 @@ pub fn send_problem(
     )
 }
 
-/// Answers that there is no 503's cause yet to be named: the service is not ready.
+/// Answers with this text that links of terminals are not served.
 pub fn send_not_ready(response: &mut Response, text: Vec<u8>) -> Result<(), AllocError>
     ensures status { OnOk result (response.new.status ≡ 503) }
 {
