@@ -6,6 +6,7 @@ use jt_service::ServiceListen;
 use std::io::{Read, Write};
 use std::net::{Net, SocketAddr, TcpStream};
 use std::process::Abort;
+use std::sync::Arc;
 use std::sync::atomic::{AtomicBool, Ordering};
 use std::thread;
 
@@ -30,7 +31,8 @@ fn is_answered<R: Abort + Net + AllocGlobal>(
 fn a_browser_is_answered(rt: HostRuntime) {
     let any = "127.0.0.1:0".parse().expect(&rt, "an address");
     let own = HostRuntime::clone(&rt).expect(&rt, "a runtime");
-    let door = ServiceListen::bind(own, any).expect(&rt, "a listener");
+    let ends = Arc::new(rt.alloc(), AtomicBool::new(false)).expect(&rt, "memory");
+    let door = ServiceListen::bind(own, any, ends).expect(&rt, "a listener");
     let address = door.address().expect(&rt, "an address");
     let board = board(&rt, rt.alloc());
     let site = site(&rt, rt.alloc());
