@@ -86,6 +86,8 @@ pub fn serve_over<R, F, S, D, K, T>(
 where
     R: Threads + Wait + Clock + Sync + Send + Clone + Drop,
     F: Files + AllocGlobal + Clone + Send + Drop,
+    F::File: Send,
+    F::Dir: Send,
     S: Stores + Drop,
     S::Keeper: Send,
     D: Door + Drop,

@@ -422,6 +422,7 @@ fn served_over<R, F>(
 where
     R: Threads + Wait + Clock + Sync + Send + Clone + Drop + Abort,
     F: Files<File = File> + Clock + AllocGlobal + Clone + Send + Drop,
+    F::Dir: Send,
 {
     let alloc = files.alloc();
     let path = make_folder(&files, folder, BOUND).expect(rt, "it can be made");
