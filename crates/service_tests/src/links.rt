@@ -66,29 +66,34 @@ impl<'w, R> Model for TestLink<'w, R> {
 }
 
 impl<'w, R: Clock> TestLink<'w, R> {
-    pub fn new(octets: &'static [u8], stays: bool) -> TestLink<'w, R> {
+    fn made(
+        octets: &'static [u8],
+        stays: bool,
+        deaf: Option<(&'w R, Arc<AtomicBool>)>,
+        slow: Option<&'w R>,
+    ) -> TestLink<'w, R> {
         TestLink {
             octets,
             stays,
-            deaf: None,
-            slow: None,
+            deaf,
+            slow,
             faults: 0,
             quiets: 0,
             run: 0,
         }
     }
 
+    pub fn new(octets: &'static [u8], stays: bool) -> TestLink<'w, R> {
+        TestLink::made(octets, stays, None, None)
+    }
+
     fn deaf(octets: &'static [u8], rt: &'w R, ends: Arc<AtomicBool>) -> TestLink<'w, R> {
-        let mut link = TestLink::new(octets, true);
-        link.deaf = Some((rt, ends));
-        link
+        TestLink::made(octets, true, Some((rt, ends)), None)
     }
 
     /// A link that gives octets, and is then quiet each tenth of a second.
     pub fn slow(octets: &'static [u8], rt: &'w R) -> TestLink<'w, R> {
-        let mut link = TestLink::new(octets, true);
-        link.slow = Some(rt);
-        link
+        TestLink::made(octets, true, None, Some(rt))
     }
 
     // Waits where it is deaf. Tells whether it was.
