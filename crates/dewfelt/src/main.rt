@@ -1,7 +1,12 @@
 //! The program `dewfelt`: it makes the real objects, and leaves all else to `dewfelt_serve`.
 #![tactic(auto)]
 
-use dewfelt_commands::{Clerk, Failed, Locked, Stores, copy, forget, registrations, stop};
+mod file_keeper;
+mod made;
+
+use crate::file_keeper::FileKeeper;
+use crate::made::{Made, MakesKeeper};
+use dewfelt_commands::{Clerk, Failed, Locked, copy, forget, registrations, stop};
 use dewfelt_fleet::Fleet;
 use dewfelt_serve::{
     Flags, OverFolder, Status, Told, Trouble, check, clerk_of, lock, read_fleet_of,
@@ -11,6 +16,7 @@ use dewfelt_settings::{Choices, Command, HELP, Settings, VERSION, read_command};
 use jt_outside::StdSink;
 use jt_service::{Door, ServiceListen};
 use jt_sql::SqlKeeper;
+use jt_store::Registrations;
 use jt_value::Memory;
 use std::alloc::{AllocError, Global};
 use std::env::Env;
@@ -71,18 +77,22 @@ fn wait_for_the_end(mut input: Stdin, ended: Arc<AtomicBool>) {
     ended.store(true, Ordering::SeqCst);
 }
 
-// The files of rows and registrations.
+// Who makes keepers of files.
 #[derive(Drop)]
 struct SqlFiles {
     rt: HostRuntime,
 }
 
-impl Stores for SqlFiles {
-    type Keeper = SqlKeeper<HostRuntime>;
-
-    fn at(&self, path: &str) -> Result<SqlKeeper<HostRuntime>, Memory> {
-        SqlKeeper::at(self.rt.clone()?, path)
+impl MakesKeeper<FileKeeper> for SqlFiles {
+    fn make(&self, path: &str) -> Result<FileKeeper, Memory> {
+        Ok(FileKeeper {
+            keeper: SqlKeeper::at(self.rt.clone()?, path)?,
+        })
     }
+}
+
+fn sql_files(rt: &HostRuntime) -> Result<SqlFiles, AllocError> {
+    Ok(SqlFiles { rt: rt.clone()? })
 }
 
 // What is read before a service is made, and the lock of the folder.
@@ -144,25 +154,28 @@ fn watch_input<R: Threads>(threads: &R, rt: &HostRuntime, flags: &Flags) -> Resu
     }
 }
 
-// What is made of the runtime: who is told, what reads the folder's files, and its stores.
-fn made_of(rt: &HostRuntime) -> Result<(Told<HostRuntime>, HostRuntime, SqlFiles), AllocError> {
+// Who is told, and what reads the folder's files.
+fn made_of(rt: &HostRuntime) -> Result<(Told<HostRuntime>, HostRuntime), AllocError> {
     let told = Told::new(rt.alloc(), rt.clone()?)?;
-    Ok((told, rt.clone()?, SqlFiles { rt: rt.clone()? }))
+    Ok((told, rt.clone()?))
 }
 
-// Serves over a door of any type. (the types of door and store at once are too much for one proof)
-fn serve_door<R, D>(
+// Serves over a door and keepers of any types.
+fn serve_over_both<R, D, K, M>(
     threads: &R,
     rt: &HostRuntime,
     folder: &str,
     prepared: Prepared,
     door: D,
+    maker: M,
     flags: Flags,
 ) -> Status
 where
     R: Threads + Wait + Clock + Sync + Send + Clone + Drop,
     D: Door + Drop,
     D::Link: Send,
+    K: Registrations + Send + Drop,
+    M: MakesKeeper<K> + Drop,
 {
     let Prepared {
         settings,
@@ -176,13 +189,13 @@ where
             return status;
         }
     }
-    let Ok((told, files, stores)) = made_of(rt) else {
+    let Ok((told, files)) = made_of(rt) else {
         return Status::Memory;
     };
     let over = OverFolder {
         folder,
         files,
-        stores,
+        stores: Made::<K, M>::by(maker),
         text,
         fleet,
         clerk,
@@ -195,9 +208,17 @@ where
     status
 }
 
-fn serve_folder<R>(threads: &R, rt: &HostRuntime, folder: &str, words: &Choices) -> Status
+fn serve_folder<R, K, M>(
+    threads: &R,
+    rt: &HostRuntime,
+    maker: M,
+    folder: &str,
+    words: &Choices,
+) -> Status
 where
     R: Threads + Wait + Clock + Sync + Send + Clone + Drop,
+    K: Registrations + Send + Drop,
+    M: MakesKeeper<K> + Drop,
 {
     let prepared = match prepare(rt, folder, words) {
         Ok(prepared) => prepared,
@@ -208,7 +229,9 @@ where
     };
     match door_of(rt, &prepared.settings, &flags) {
         Ok(door) => {
-            let status = serve_door(threads, rt, folder, prepared, door, flags);
+            let status = serve_over_both::<R, ServiceListen<HostRuntime>, K, M>(
+                threads, rt, folder, prepared, door, maker, flags,
+            );
             say_status(rt, folder, status)
         }
         Err(trouble) => say(rt, &trouble),
@@ -257,41 +280,42 @@ fn text_of(rt: &HostRuntime, said: Result<&'static str, Failed>) -> Result<Strin
 }
 
 // What a command beside a service prints.
-fn beside(rt: &HostRuntime, stores: &SqlFiles, command: Command) -> Result<String, Failed> {
+fn beside<K, M>(rt: &HostRuntime, maker: M, command: Command) -> Result<String, Failed>
+where
+    K: Registrations + Drop,
+    M: MakesKeeper<K> + Drop,
+{
+    let stores = Made::<K, M>::by(maker);
     let mut err = StdSink::new(rt.stderr());
     match command {
-        Command::Registrations(folder) => registrations(rt, stores, folder, &mut err),
+        Command::Registrations(folder) => registrations(rt, &stores, folder, &mut err),
         Command::Forget(folder, phone) => {
             text_of(
                 rt,
-                forget(rt, stores, folder, &phone, &mut err).map(|()| ""),
+                forget(rt, &stores, folder, &phone, &mut err).map(|()| ""),
             )
         }
-        Command::Copy(folder, file) => copy(rt, stores, folder, file, &mut err),
+        Command::Copy(folder, file) => copy(rt, &stores, folder, file, &mut err),
         Command::Stop(folder) => text_of(rt, stop(rt, folder, &mut err)),
         _ => text_of(rt, Ok("")),
     }
 }
 
-fn run_beside(rt: &HostRuntime, command: Command) -> u8 {
-    match rt.clone() {
-        Ok(own) => end_of(rt, beside(rt, &SqlFiles { rt: own }, command)),
-        Err(_) => say_text(rt, Status::Memory).number(),
-    }
-}
-
-fn over_words<R>(threads: &R, rt: &HostRuntime, words: &[String]) -> u8
+// Does what the words say, over keepers of any type.
+fn over_words<R, K, M>(threads: &R, rt: &HostRuntime, maker: M, words: &[String]) -> u8
 where
     R: Threads + Wait + Clock + Sync + Send + Clone + Drop,
+    K: Registrations + Send + Drop,
+    M: MakesKeeper<K> + Drop,
 {
     match read_command(rt.alloc(), words) {
         Ok(Command::Serve(folder, choices)) => {
-            serve_folder(threads, rt, folder, &choices).number()
+            serve_folder::<R, K, M>(threads, rt, maker, folder, &choices).number()
         }
         Ok(Command::Check(folder, choices)) => check_folder(rt, folder, &choices).number(),
         Ok(Command::Help) => print_text(rt, HELP).number(),
         Ok(Command::Version) => print_text(rt, VERSION).number(),
-        Ok(command) => run_beside(rt, command),
+        Ok(command) => end_of(rt, beside::<K, M>(rt, maker, command)),
         Err(wrong) => {
             let _ = eprintln!(rt; "dewfelt: {wrong}");
             Status::Usage.number()
@@ -307,10 +331,23 @@ fn status_of_words(error: &io::Error) -> Status {
     Status::Usage
 }
 
+// Does what the words say, where there are any.
+fn run<R, K, M>(threads: &R, rt: &HostRuntime, maker: M, words: io::Result<Vec<String>>) -> ExitCode
+where
+    R: Threads + Wait + Clock + Sync + Send + Clone + Drop,
+    K: Registrations + Send + Drop,
+    M: MakesKeeper<K> + Drop,
+{
+    ExitCode::from(match words {
+        Ok(words) => over_words::<R, K, M>(threads, rt, maker, words.as_slice()),
+        Err(error) => say_text(rt, status_of_words(&error)).number(),
+    })
+}
+
 fn main(rt: HostRuntime) -> ExitCode {
-    let status = match words(&rt) {
-        Ok(words) => over_words(&rt, &rt, words.as_slice()),
-        Err(error) => say_text(&rt, status_of_words(&error)).number(),
-    };
-    ExitCode::from(status)
+    let words = words(&rt);
+    match sql_files(&rt) {
+        Ok(files) => { run::<HostRuntime, FileKeeper, SqlFiles>(&rt, &rt, files, words) }
+        Err(_) => ExitCode::from(say_text(&rt, Status::Memory).number()),
+    }
 }
