@@ -1,5 +1,6 @@
 pub mod Numbers
 pub mod Keys
+pub mod Hosts
 pub mod Choosing
 pub mod Causes
 pub mod Phones

@@ -1,9 +1,11 @@
 //! What words or a file choose.
 
 ghost use Rattle.std.specs.Prelude.{◌≡◌, None, false, MatchOption};
-ghost use Rattle.dewfelt_settings.specs.Choosing.{has_choice, WithNumber, WithText, IsAddress, HasNoAddress};
+ghost use Rattle.dewfelt_settings.specs.Choosing.{has_choice, WithNumber, WithText, IsAddress, HasNoAddress, IsHttp, HasNoHttp};
 
 use crate::Key;
+use crate::host::HostName;
+use crate::http::Http;
 use crate::number::{Count, Seconds};
 use std::net::SocketAddr;
 
@@ -15,8 +17,8 @@ pub struct Choices {
     pub quiet: Option<Seconds>,
     pub strangers: Option<Count>,
     pub strangers_of_address: Option<Count>,
-    /// Whether http is chosen: its only value is `none`.
-    pub http: bool,
+    pub http: Option<Http>,
+    pub http_name: Option<HostName>,
     /// Whether the run ends with its standard input.
     pub until_input_ends: bool,
 }
@@ -36,6 +38,16 @@ fn address(text: &str) -> Option<SocketAddr>
     }
 }
 
+// `none`, or an address and a port from 1 on.
+fn http(text: &str) -> Option<Http>
+    ensures { MatchOption result (HasNoHttp text.now) (IsHttp text.now) }
+{
+    if text == "none" {
+        return Some(Http::Off);
+    }
+    Some(Http::At(address(text)?))
+}
+
 impl Choices {
     /// Nothing is chosen.
     pub fn none() -> Choices
@@ -45,7 +57,8 @@ impl Choices {
           quiet = None;
           strangers = None;
           strangers_of_address = None;
-          http = false;
+          http = None;
+          http_name = None;
           until_input_ends = false;
         } }
     {
@@ -55,7 +68,8 @@ impl Choices {
             quiet: None,
             strangers: None,
             strangers_of_address: None,
-            http: false,
+            http: None,
+            http_name: None,
             until_input_ends: false,
         }
     }
@@ -70,7 +84,8 @@ impl Choices {
             Key::Quiet => self.quiet.is_some(),
             Key::Strangers => self.strangers.is_some(),
             Key::StrangersOfAddress => self.strangers_of_address.is_some(),
-            Key::Http => self.http,
+            Key::Http => self.http.is_some(),
+            Key::HttpName => self.http_name.is_some(),
         }
     }
 
@@ -84,7 +99,7 @@ impl Choices {
             Key::Quiet => choices.quiet = Some(Seconds::of(number)?),
             Key::Strangers => choices.strangers = Some(Count::of(number)?),
             Key::StrangersOfAddress => choices.strangers_of_address = Some(Count::of(number)?),
-            Key::Listen | Key::Http => return None,
+            Key::Listen | Key::Http | Key::HttpName => return None,
         }
         Some(choices)
     }
@@ -96,7 +111,8 @@ impl Choices {
         let mut choices = self;
         match key {
             Key::Listen => choices.listen = Some(address(text)?),
-            Key::Http if text == "none" => choices.http = true,
+            Key::Http => choices.http = Some(http(text)?),
+            Key::HttpName => choices.http_name = Some(HostName::of(text)?),
             _ => return None,
         }
         Some(choices)

@@ -17,6 +17,8 @@ pub enum Command<'w> {
     Serve(&'w str, Choices),
     /// Say what is wrong with the files of a folder.
     Check(&'w str, Choices),
+    /// Say where the page of a folder is.
+    Page(&'w str, Choices),
     /// Say what is registered over a folder.
     Registrations(&'w str),
     /// Remove the registration of a phone over a folder.
@@ -41,7 +43,7 @@ struct Told<'w> {
 // The choices, with this value of an option, which is a number or a text.
 fn with_value(choices: Choices, key: Key, value: &str) -> Option<Choices> {
     match key {
-        Key::Listen | Key::Http => choices.with_text(key, value),
+        Key::Listen | Key::Http | Key::HttpName => choices.with_text(key, value),
         _ => choices.with_number(key, value.parse::<u32>().ok()?),
     }
 }
@@ -115,7 +117,7 @@ fn take_named<'w>(
     value: &str,
 ) -> Result<Told<'w>, Wrong>
     ensures cause { IfErr result (λ wrong. is_of_words wrong.cause ≡ true) }
-    ensures unknown { named_with (codes "strangers-of-address") name.now ≡ None →
+    ensures unknown { named_with (codes "strangers-of-address") (codes "http-name") name.now ≡ None →
         IsErrAnd result (λ wrong. wrong.cause ≡ causes.Option) }
 {
     match Key::of_option(name.as_bytes()) {
@@ -195,7 +197,7 @@ fn is_help(word: &str) -> bool {
     word == "--help" || word == "-h"
 }
 
-// The folder and the choices that the words behind `serve` or `check` tell; None where they ask for help.
+// The folder and the choices that the words behind `serve`, `check` or `page` tell; None where they ask for help.
 fn told_by<'w>(
     alloc: Global,
     command: &str,
@@ -289,6 +291,10 @@ pub fn read_command<'w>(alloc: Global, words: &'w [String]) -> Result<Command<'w
         },
         "check" => match told_by(alloc, "check", others)? {
             Some((folder, choices)) => Ok(Command::Check(folder, choices)),
+            None => Ok(Command::Help),
+        },
+        "page" => match told_by(alloc, "page", others)? {
+            Some((folder, choices)) => Ok(Command::Page(folder, choices)),
             None => Ok(Command::Help),
         },
         "registrations" => read_form(alloc, Form::Registrations, others),

@@ -22,7 +22,7 @@ fn with_value(choices: Choices, key: Key, value: &Value) -> Option<Choices> {
 // The choices, with what an entry of the table chooses.
 fn take_entry(alloc: Global, choices: Choices, name: &str, value: &Value) -> Result<Choices, Wrong>
     ensures cause { IfErr result (λ wrong. is_of_file wrong.cause ≡ true) }
-    ensures unknown { named_with (codes "strangers_of_address") name.now ≡ None →
+    ensures unknown { named_with (codes "strangers_of_address") (codes "http_name") name.now ≡ None →
         IsErrAnd result (λ wrong. wrong.cause ≡ causes.Key) }
 {
     let Some(key) = Key::named(name.as_bytes()) else {

@@ -15,17 +15,19 @@ pub enum Key {
     Strangers,
     /// How many of these may come from one address.
     StrangersOfAddress,
-    /// The interface for other programs, of which there is none yet.
+    /// Where the interface over HTTP is.
     Http,
+    /// By which name a proxy calls that.
+    HttpName,
 }
 
 impl Key {
     ghost use Rattle.dewfelt_settings.specs.Keys.{name_of, option_of, named_with};
 
-    // The setting of this name; `last` is the spelling of the one of addresses.
+    // The setting of this name; the two that have more words are spelled so.
     #[tactic(auto, unfolding(crate::specs::Keys::named_with))]
-    fn named_with(last: &[u8], name: &[u8]) -> Option<Key>
-        ensures { result ≡ named_with last.now name.now }
+    fn named_with(of_address: &[u8], http_name: &[u8], name: &[u8]) -> Option<Key>
+        ensures { result ≡ named_with of_address.now http_name.now name.now }
     {
         if name == b"listen".as_slice() {
             return Some(Key::Listen);
@@ -42,24 +44,27 @@ impl Key {
         if name == b"http".as_slice() {
             return Some(Key::Http);
         }
-        if name == last {
+        if name == of_address {
             return Some(Key::StrangersOfAddress);
+        }
+        if name == http_name {
+            return Some(Key::HttpName);
         }
         None
     }
 
     /// The setting of this name in dewfelt.toml.
     pub fn named(name: &[u8]) -> Option<Key>
-        ensures { result ≡ named_with (codes "strangers_of_address") name.now }
+        ensures { result ≡ named_with (codes "strangers_of_address") (codes "http_name") name.now }
     {
-        Key::named_with(b"strangers_of_address", name)
+        Key::named_with(b"strangers_of_address", b"http_name", name)
     }
 
     /// The setting whose option has this name, without its two dashes.
     pub fn of_option(option: &[u8]) -> Option<Key>
-        ensures { result ≡ named_with (codes "strangers-of-address") option.now }
+        ensures { result ≡ named_with (codes "strangers-of-address") (codes "http-name") option.now }
     {
-        Key::named_with(b"strangers-of-address", option)
+        Key::named_with(b"strangers-of-address", b"http-name", option)
     }
 
     /// Its name in dewfelt.toml.
@@ -74,6 +79,7 @@ impl Key {
             Key::Strangers => "strangers",
             Key::StrangersOfAddress => "strangers_of_address",
             Key::Http => "http",
+            Key::HttpName => "http_name",
         }
     }
 
@@ -89,6 +95,7 @@ impl Key {
             Key::Strangers => "strangers",
             Key::StrangersOfAddress => "strangers-of-address",
             Key::Http => "http",
+            Key::HttpName => "http-name",
         }
     }
 
@@ -98,7 +105,8 @@ impl Key {
             Key::Listen => "an address and a port, as 0.0.0.0:8808 or [::]:8808",
             Key::Links | Key::Strangers | Key::StrangersOfAddress => "a number from 1 to 10000",
             Key::Quiet => "a number of seconds from 1 to 86400",
-            Key::Http => "none",
+            Key::Http => "none, or an address and a port, as 127.0.0.1:8080 or [::1]:8080",
+            Key::HttpName => "a host in small letters, with its port where a browser sends one",
         }
     }
 }

@@ -3,14 +3,21 @@
 ghost use Rattle.std.specs.Prelude.{◌≡◌, ◌≤◌, min};
 ghost use Rattle.std.specs.Net.Socket.{socket_port};
 ghost use Rattle.std.specs.declared.net.socket_addr.SocketAddr.{SocketAddr};
-ghost use Rattle.dewfelt_settings.specs.Choosing.{IsAnywhere};
+ghost use Rattle.dewfelt_settings.specs.Choosing.{IsAnywhere, IsHere};
+ghost use Rattle.dewfelt_settings.specs.declared.http.Http.{Http as Place};
+ghost use Rattle.dewfelt_settings.specs.declared.http.Http.TheVariants.{At};
 
 use crate::Choices;
+use crate::host::HostName;
+use crate::http::Http;
 use crate::number::{Count, Seconds};
 use std::net::{IpAddr, Ipv4Addr, SocketAddr};
 
 /// The port where none is chosen (this project's own).
 pub const PORT: u16 = 8_808;
+
+/// The port of the interface over HTTP where none is chosen (this project's own).
+pub const HTTP_PORT: u16 = 8_080;
 
 /// The settings of a run.
 #[derive(Clone, Copy)]
@@ -25,6 +32,10 @@ pub struct Settings {
     pub strangers: Count,
     /// How many of these may come from one address, where that has a limit of its own.
     pub strangers_of_address: Option<Count>,
+    /// Where the interface over HTTP is.
+    pub http: Http,
+    /// By which name a proxy calls that, where it has one.
+    pub http_name: Option<HostName>,
     /// Whether the run ends with its standard input.
     pub until_input_ends: bool,
 }
@@ -35,6 +46,14 @@ fn default_listen() -> SocketAddr
     ensures anywhere { IsAnywhere result }
 {
     SocketAddr::new(IpAddr::V4(Ipv4Addr::new(0, 0, 0, 0)), PORT)
+}
+
+// The machine itself.
+fn default_http() -> SocketAddr
+    ensures port { socket_port result ≡ HTTP_PORT }
+    ensures here { IsHere result }
+{
+    SocketAddr::new(IpAddr::V4(Ipv4Addr::new(127, 0, 0, 1)), HTTP_PORT)
 }
 
 impl Settings {
@@ -59,6 +78,12 @@ impl Settings {
             IsAnywhere result.listen }
         ensures listen_chosen { (address : SocketAddr) →
             or_else words.now.listen file.now.listen ≡ Some address → result.listen ≡ address }
+        ensures http { or_else words.now.http file.now.http ≡ None →
+            (address : SocketAddr) × (result.http ≡ At address)
+            × (socket_port address ≡ HTTP_PORT) × IsHere address }
+        ensures http_chosen { (place : Place) →
+            or_else words.now.http file.now.http ≡ Some place → result.http ≡ place }
+        ensures http_name { result.http_name ≡ or_else words.now.http_name file.now.http_name }
         ensures until { result.until_input_ends ≡ words.now.until_input_ends }
     {
         let links = words.links.or(file.links).unwrap_or(Count::usual());
@@ -72,6 +97,8 @@ impl Settings {
                 .unwrap_or(Seconds::three_minutes()),
             strangers: strangers.at_most(links),
             strangers_of_address: words.strangers_of_address.or(file.strangers_of_address),
+            http: words.http.or(file.http).unwrap_or(Http::At(default_http())),
+            http_name: words.http_name.or(file.http_name),
             until_input_ends: words.until_input_ends,
         }
     }

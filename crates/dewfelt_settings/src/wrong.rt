@@ -66,13 +66,14 @@ impl Wrong {
 }
 
 const COMMANDS: &str =
-    "serve DIR, check DIR, registrations DIR, forget DIR PHONE, copy DIR FILE, stop DIR, \
+    "serve DIR, check DIR, page DIR, registrations DIR, forget DIR PHONE, copy DIR FILE, stop DIR, \
      --help or --version";
 
 const OPTIONS: &str =
-    "--listen, --links, --quiet, --strangers, --strangers-of-address, --http or --until-input-ends";
+    "--listen, --links, --quiet, --strangers, --strangers-of-address, --http, --http-name or \
+     --until-input-ends";
 
-const KEYS: &str = "listen, links, quiet, strangers, strangers_of_address or http";
+const KEYS: &str = "listen, links, quiet, strangers, strangers_of_address, http or http_name";
 
 impl fmt::Display for Wrong {
     fn fmt<W: fmt::Write>(&self, f: &mut fmt::Formatter<W>) -> fmt::Result {
