@@ -9,10 +9,10 @@ use crate::made::{Made, MakesKeeper};
 use dewfelt_commands::{Clerk, Failed, Locked, copy, forget, registrations, stop};
 use dewfelt_fleet::Fleet;
 use dewfelt_serve::{
-    Flags, OverFolder, Status, Told, Trouble, check, clerk_of, lock, read_fleet_of,
-    read_settings_of, serve_over,
+    Flags, Interface, OverFolder, Status, Told, Trouble, Web, check, clerk_of, lock, page, page_of,
+    read_fleet_of, read_settings_of, serve_over,
 };
-use dewfelt_settings::{Choices, Command, HELP, Settings, VERSION, read_command};
+use dewfelt_settings::{Choices, Command, HELP, Http, Settings, VERSION, read_command};
 use jt_outside::StdSink;
 use jt_service::{Door, ServiceListen};
 use jt_sql::SqlKeeper;
@@ -20,8 +20,10 @@ use jt_store::Registrations;
 use jt_value::Memory;
 use std::alloc::{AllocError, Global};
 use std::env::Env;
-use std::io::{ErrorKind, Read, Stdin, Stdout};
+use std::io::{ErrorKind, IsTerminal, Read, Stdin, Stdout};
+use std::net::SocketAddr;
 use std::process::ExitCode;
+use std::random::RandomSource;
 use std::sync::atomic::{AtomicBool, Ordering};
 use std::sync::{Arc, Wait};
 use std::thread::Threads;
@@ -118,20 +120,67 @@ fn prepare(rt: &HostRuntime, folder: &str, words: &Choices) -> Result<Prepared, 
     })
 }
 
+// Listens at an address. The door's links look at the flag.
 fn door_of(
     rt: &HostRuntime,
-    settings: &Settings,
-    flags: &Flags,
+    address: SocketAddr,
+    ends: &Arc<AtomicBool>,
 ) -> Result<ServiceListen<HostRuntime>, Trouble> {
     let Ok(own) = rt.clone() else {
         return Err(Trouble::memory(rt.alloc()));
     };
-    let Ok(ends) = flags.ends.clone() else {
+    let Ok(ends) = ends.clone() else {
         return Err(Trouble::memory(rt.alloc()));
     };
-    match ServiceListen::bind(own, settings.listen, ends) {
+    match ServiceListen::bind(own, address, ends) {
         Ok(door) => Ok(door),
-        Err(error) => Err(Trouble::of_listen(rt.alloc(), settings, &error)),
+        Err(error) => Err(Trouble::of_listen(rt.alloc(), address, &error)),
+    }
+}
+
+// The interface over HTTP, where the settings want one.
+fn web_of(
+    rt: &HostRuntime,
+    folder: &str,
+    settings: &Settings,
+) -> Result<Option<Web<ServiceListen<HostRuntime>>>, Trouble> {
+    let Http::At(address) = settings.http else {
+        return Ok(None);
+    };
+    let interface = Interface::of(rt, folder, settings, address)?;
+    Ok(Some(Web {
+        door: door_of(rt, address, &interface.ends)?,
+        interface,
+    }))
+}
+
+// Where terminals come in, and browsers.
+#[derive(Drop)]
+struct Doors {
+    door: ServiceListen<HostRuntime>,
+    web: Option<Web<ServiceListen<HostRuntime>>>,
+}
+
+fn doors_of(
+    rt: &HostRuntime,
+    folder: &str,
+    settings: &Settings,
+    flags: &Flags,
+) -> Result<Doors, Trouble> {
+    Ok(Doors {
+        door: door_of(rt, settings.listen, &flags.ends)?,
+        web: web_of(rt, folder, settings)?,
+    })
+}
+
+// Shows the address of the page, with its token, to who looks at a terminal. A file or another program gets no token.
+fn show_page(rt: &HostRuntime, folder: &str, settings: &Settings) {
+    if !rt.stdout().is_terminal() {
+        return;
+    }
+    if let Ok(line) = page_of(rt, folder, settings) {
+        let text = line.as_str();
+        let _ = print!(rt; "{text}");
     }
 }
 
@@ -155,25 +204,31 @@ fn watch_input<R: Threads>(threads: &R, rt: &HostRuntime, flags: &Flags) -> Resu
 }
 
 // Who is told, and what reads the folder's files.
-fn made_of(rt: &HostRuntime) -> Result<(Told<HostRuntime>, HostRuntime), AllocError> {
-    let told = Told::new(rt.alloc(), rt.clone()?)?;
+fn made_of<R: Wait + Clock + Clone + Drop>(
+    threads: &R,
+    rt: &HostRuntime,
+) -> Result<(Told<R>, HostRuntime), AllocError> {
+    let told = Told::new(rt.alloc(), threads.clone()?)?;
     Ok((told, rt.clone()?))
 }
 
 // Serves over a door and keepers of any types.
-fn serve_over_both<R, D, K, M>(
+fn serve_over_both<R, D, H, K, M>(
     threads: &R,
     rt: &HostRuntime,
     folder: &str,
     prepared: Prepared,
     door: D,
+    web: Option<Web<H>>,
     maker: M,
     flags: Flags,
 ) -> Status
 where
-    R: Threads + Wait + Clock + Sync + Send + Clone + Drop,
+    R: Threads + RandomSource + Wait + Clock + Sync + Send + Clone + Drop,
     D: Door + Drop,
     D::Link: Send,
+    H: Door + Send + Drop,
+    H::Link: Send,
     K: Registrations + Send + Drop,
     M: MakesKeeper<K> + Drop,
 {
@@ -189,7 +244,7 @@ where
             return status;
         }
     }
-    let Ok((told, files)) = made_of(rt) else {
+    let Ok((told, files)) = made_of(threads, rt) else {
         return Status::Memory;
     };
     let over = OverFolder {
@@ -202,6 +257,7 @@ where
         door,
         sink: StdSink::new(rt.stdout()),
         told,
+        web,
     };
     let status = serve_over(threads, rt.alloc(), over, &settings, flags);
     drop(locked);
@@ -216,7 +272,7 @@ fn serve_folder<R, K, M>(
     words: &Choices,
 ) -> Status
 where
-    R: Threads + Wait + Clock + Sync + Send + Clone + Drop,
+    R: Threads + RandomSource + Wait + Clock + Sync + Send + Clone + Drop,
     K: Registrations + Send + Drop,
     M: MakesKeeper<K> + Drop,
 {
@@ -227,11 +283,17 @@ where
     let Ok(flags) = flags(rt.alloc()) else {
         return say_text(rt, Status::Memory);
     };
-    match door_of(rt, &prepared.settings, &flags) {
-        Ok(door) => {
-            let status = serve_over_both::<R, ServiceListen<HostRuntime>, K, M>(
-                threads, rt, folder, prepared, door, maker, flags,
-            );
+    match doors_of(rt, folder, &prepared.settings, &flags) {
+        Ok(doors) => {
+            let Doors { door, web } = doors;
+            show_page(rt, folder, &prepared.settings);
+            let status = serve_over_both::<
+                R,
+                ServiceListen<HostRuntime>,
+                ServiceListen<HostRuntime>,
+                K,
+                M,
+            >(threads, rt, folder, prepared, door, web, maker, flags);
             say_status(rt, folder, status)
         }
         Err(trouble) => say(rt, &trouble),
@@ -250,6 +312,13 @@ fn say_status(rt: &HostRuntime, folder: &str, status: Status) -> Status {
 
 fn check_folder(rt: &HostRuntime, folder: &str, words: &Choices) -> Status {
     match check(rt, folder, words) {
+        Ok(text) => print_text(rt, text.as_str()),
+        Err(trouble) => say(rt, &trouble),
+    }
+}
+
+fn print_page(rt: &HostRuntime, folder: &str, words: &Choices) -> Status {
+    match page(rt, folder, words) {
         Ok(text) => print_text(rt, text.as_str()),
         Err(trouble) => say(rt, &trouble),
     }
@@ -304,7 +373,7 @@ where
 // Does what the words say, over keepers of any type.
 fn over_words<R, K, M>(threads: &R, rt: &HostRuntime, maker: M, words: &[String]) -> u8
 where
-    R: Threads + Wait + Clock + Sync + Send + Clone + Drop,
+    R: Threads + RandomSource + Wait + Clock + Sync + Send + Clone + Drop,
     K: Registrations + Send + Drop,
     M: MakesKeeper<K> + Drop,
 {
@@ -313,6 +382,7 @@ where
             serve_folder::<R, K, M>(threads, rt, maker, folder, &choices).number()
         }
         Ok(Command::Check(folder, choices)) => check_folder(rt, folder, &choices).number(),
+        Ok(Command::Page(folder, choices)) => print_page(rt, folder, &choices).number(),
         Ok(Command::Help) => print_text(rt, HELP).number(),
         Ok(Command::Version) => print_text(rt, VERSION).number(),
         Ok(command) => end_of(rt, beside::<K, M>(rt, maker, command)),
@@ -334,7 +404,7 @@ fn status_of_words(error: &io::Error) -> Status {
 // Does what the words say, where there are any.
 fn run<R, K, M>(threads: &R, rt: &HostRuntime, maker: M, words: io::Result<Vec<String>>) -> ExitCode
 where
-    R: Threads + Wait + Clock + Sync + Send + Clone + Drop,
+    R: Threads + RandomSource + Wait + Clock + Sync + Send + Clone + Drop,
     K: Registrations + Send + Drop,
     M: MakesKeeper<K> + Drop,
 {

@@ -27,6 +27,8 @@ use std::net::{IpAddr, SocketAddr};
 #[derive(Drop)]
 pub struct Board {
     run: u32,
+    // Sessions of the hubs before, whose numbers come before those of the present one.
+    before: u32,
     vehicles: BTreeMap<Digits, Vehicle>,
     order: Order,
     strangers: Strangers,
@@ -58,12 +60,34 @@ impl Board {
     pub fn new(alloc: Global, run: u32) -> Result<Board, AllocError> {
         Ok(Board {
             run,
+            before: 0,
             vehicles: BTreeMap::new(alloc),
             order: Order::new(alloc),
             strangers: Strangers::new(alloc)?,
             sessions: Sessions::new(alloc)?,
             counters: Counters::new(),
         })
+    }
+
+    // The number that a session of the present hub is shown by.
+    fn number_of(&self, session: u32) -> u32 {
+        self.before.saturating_add(session)
+    }
+
+    /// A hub is gone, and the next one begins, behind so many sessions. No session goes on.
+    pub fn begin_anew(&mut self, before: u32) {
+        self.before = before;
+        self.sessions.clear();
+        for vehicle in self.vehicles.values_mut() {
+            if vehicle.session.is_none() {
+                continue;
+            }
+            vehicle.session = None;
+            match self.order.renew(vehicle.changed, vehicle.digits) {
+                Some(number) => vehicle.changed = number,
+                None => raise(&mut self.counters.lost),
+            }
+        }
     }
 
     // The vehicle of these digits changed.
@@ -91,13 +115,25 @@ impl Board {
         self.vehicles.insert(key, vehicle).is_ok()
     }
 
+    // Whether the phone is shown with this plate and this terminal id.
+    fn is_named(&self, digits: &[u8; 10], plate: &[u8], terminal: &[u8]) -> bool {
+        match self.vehicles.get(&Digits::of(digits)) {
+            Some(vehicle) => vehicle.plate.is(plate) && vehicle.terminal.is(terminal),
+            None => false,
+        }
+    }
+
     /// The phone is registered with this plate and this terminal id.
     pub fn seat(&mut self, phone: &Phone, plate: &[u8], terminal: &[u8]) {
-        if !self.name(phone.digits, plate, trimmed(terminal)) {
+        let terminal = trimmed(terminal);
+        self.strangers.forget(&phone.digits);
+        if self.is_named(&phone.digits, plate, terminal) {
+            return;
+        }
+        if !self.name(phone.digits, plate, terminal) {
             raise(&mut self.counters.lost);
             return;
         }
-        self.strangers.forget(&phone.digits);
         self.touch(&phone.digits);
     }
 
@@ -113,6 +149,11 @@ impl Board {
         if let Some(vehicle) = self.vehicles.remove(&Digits::of(&phone.digits)) {
             self.order.leave(vehicle.changed);
         }
+    }
+
+    /// The number of the phone's last row, where it is shown.
+    pub fn last_of(&self, phone: &Phone) -> Option<u64> {
+        self.vehicles.get(&Digits::of(&phone.digits))?.last
     }
 
     /// The phone's last row has this number, id and body. A phone that is not registered is not shown.
@@ -143,6 +184,7 @@ impl Board {
     /// A link came, and is served under this number.
     pub fn began(&mut self, session: u32, peer: Option<SocketAddr>, now: u64) {
         raise(&mut self.counters.began);
+        let session = self.number_of(session);
         if !self.sessions.begin(session, peer, now) {
             raise(&mut self.counters.lost);
         }
@@ -246,9 +288,10 @@ impl Board {
 
     /// The hub made this entry, so that what it says is stored.
     pub fn noted(&mut self, entry: &Entry, now: u64) {
+        let session = self.number_of(entry.session);
         match (&entry.request, &entry.reply) {
             (Request::Register { phone, register }, reply) => {
-                self.note_register(entry.session, phone, register, reply, now);
+                self.note_register(session, phone, register, reply, now);
             }
             (
                 Request::Unit {
@@ -258,17 +301,13 @@ impl Board {
                     body,
                 },
                 reply,
-            ) => self.note_unit(entry.session, phone, *id, body.as_slice(), reply, now),
-            (Request::Auth { phone, code: _ }, Reply::Accepted) => {
-                self.hear(entry.session, phone, now);
-            }
+            ) => self.note_unit(session, phone, *id, body.as_slice(), reply, now),
+            (Request::Auth { phone, code: _ }, Reply::Accepted) => self.hear(session, phone, now),
             (Request::Auth { .. }, _) => raise(&mut self.counters.denied),
             (Request::Deregister { phone }, Reply::Accepted) => {
-                self.note_deregister(entry.session, phone, now);
+                self.note_deregister(session, phone, now);
             }
-            (Request::Other { phone, id: _ }, Reply::Accepted) => {
-                self.hear(entry.session, phone, now);
-            }
+            (Request::Other { phone, id: _ }, Reply::Accepted) => self.hear(session, phone, now),
             _ => {}
         }
     }
@@ -276,6 +315,7 @@ impl Board {
     /// The phone was let in, in the session of this number.
     pub fn let_in(&mut self, session: u32, phone: &Phone) {
         raise(&mut self.counters.let_in);
+        let session = self.number_of(session);
         self.sessions.let_in(session, phone.digits);
         if let Some(vehicle) = self.vehicles.get_mut(&Digits::of(&phone.digits)) {
             vehicle.session = Some(session);
@@ -321,9 +361,10 @@ impl Board {
         add(&mut self.counters.frames, ended.report.frames);
         add(&mut self.counters.refused, ended.report.refused);
         add(&mut self.counters.dropped, ended.report.dropped);
-        let open = self.sessions.take(ended.report.session);
+        let session = self.number_of(ended.report.session);
+        let open = self.sessions.take(session);
         if let Some(phone) = &ended.phone {
-            self.end_link(ended.report.session, phone, ending, now);
+            self.end_link(session, phone, ending, now);
             self.keep_ended(open, phone, ended, now);
         }
     }

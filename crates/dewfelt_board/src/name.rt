@@ -33,6 +33,12 @@ impl Name {
         }
     }
 
+    /// Whether it is the name of these octets, as far as they are kept.
+    pub fn is(&self, octets: &[u8]) -> bool {
+        let other = Name::of(octets);
+        self.is_cut == other.is_cut && self.as_slice() == other.as_slice()
+    }
+
     /// The octets that are kept.
     pub fn as_slice(&self) -> &[u8]
         ensures { result.now ≡ take self.now.count self.now.octets }

@@ -58,6 +58,11 @@ impl Sessions {
         })
     }
 
+    /// None goes on any more.
+    pub fn clear(&mut self) {
+        self.going.clear();
+    }
+
     /// How many go on.
     pub fn count(&self) -> usize {
         self.going.len()

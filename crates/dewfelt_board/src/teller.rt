@@ -28,6 +28,12 @@ impl<R: Wait + Clock> Teller<R> {
             Err(_) => 0,
         }
     }
+
+    /// A hub is gone, and the next one begins, behind so many sessions.
+    pub fn begin_anew(&mut self, before: u64) {
+        let before = u32::try_from(before).unwrap_or(u32::MAX);
+        self.board.lock(&self.rt).begin_anew(before);
+    }
 }
 
 impl<R: Wait + Clock + Drop> Tell for Teller<R> {

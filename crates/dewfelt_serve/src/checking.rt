@@ -15,8 +15,9 @@ fn text_of(
     let (vehicles, plates, terminals) = fleet.counts();
     let listen = settings.listen;
     let links = settings.links.number;
+    let http = settings.http;
     format!(in alloc;
-        "{folder}: vehicles={vehicles} plates={plates} terminals={terminals} links={links} listen={listen}\n"
+        "{folder}: vehicles={vehicles} plates={plates} terminals={terminals} links={links} listen={listen} http={http}\n"
     )
 }
 

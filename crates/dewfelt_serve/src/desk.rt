@@ -49,15 +49,11 @@ where
 impl<'w, R, F, T, K> Desk<'w, R, F, T, K>
 where
     R: Wait,
-    T: Clock + Drop,
+    T: Wait + Clock + Drop,
     K: Registrations + Drop,
 {
     fn forget_registered(&self, alloc: Global, phone: &Phone) -> Result<Forgetting, StoreError> {
-        let present = self.present.lock(self.rt);
-        match present.registry() {
-            Some(registry) => registry.lock(self.rt).forget(alloc, phone),
-            None => Err(StoreError::Failed),
-        }
+        self.present.lock(self.rt).forget(self.rt, alloc, phone)
     }
 }
 
@@ -65,7 +61,7 @@ impl<'w, R, F, T, K> Office for Desk<'w, R, F, T, K>
 where
     R: Wait,
     F: Files + AllocGlobal,
-    T: Clock + Drop,
+    T: Wait + Clock + Drop,
     K: Registrations + Drop,
 {
     fn forget(&mut self, alloc: Global, phone: &Phone) -> Result<Forgot, StoreError> {

@@ -3,10 +3,11 @@
 use crate::Status;
 use dewfelt_commands::{Clerk, Failed, Locked, try_lock};
 use dewfelt_fleet::{BadLine, Fleet, NoFleet, read_fleet};
-use dewfelt_settings::{Choices, Settings, Wrong, read_file};
+use dewfelt_settings::{Choices, Wrong, read_file};
 use std::alloc::{AllocError, Global};
 use std::fs::File;
 use std::io::ErrorKind;
+use std::net::SocketAddr;
 use std::rt::Files;
 use std::{fs, io};
 
@@ -19,14 +20,19 @@ pub struct Trouble {
 
 impl Trouble {
     // The trouble of a file, with what is said of it. Where memory is refused for the line there is none.
-    fn of_file(alloc: Global, status: Status, path: &str, said: &str) -> Trouble {
+    pub(crate) fn of_file(alloc: Global, status: Status, path: &str, said: &str) -> Trouble {
         match format!(in alloc; "{path}: {said}") {
             Ok(text) => Trouble { status, text },
             Err(_) => Trouble::memory(alloc),
         }
     }
 
-    fn of_error(alloc: Global, status: Status, path: &str, error: &io::Error) -> Trouble {
+    pub(crate) fn of_error(
+        alloc: Global,
+        status: Status,
+        path: &str,
+        error: &io::Error,
+    ) -> Trouble {
         match format!(in alloc; "{path}: {error}") {
             Ok(text) => Trouble { status, text },
             Err(_) => Trouble::memory(alloc),
@@ -54,9 +60,8 @@ impl Trouble {
     }
 
     /// The address can't be listened at.
-    pub fn of_listen(alloc: Global, settings: &Settings, error: &io::Error) -> Trouble {
-        let listen = settings.listen;
-        match format!(in alloc; "{listen} can't be listened at: {error}") {
+    pub fn of_listen(alloc: Global, address: SocketAddr, error: &io::Error) -> Trouble {
+        match format!(in alloc; "{address} can't be listened at: {error}") {
             Ok(text) => Trouble {
                 status: Status::Listen,
                 text,

@@ -1,16 +1,20 @@
 //! The commands of `dewfelt` over a folder: what is served, what is wrong with its files, and the lines of what happens.
 #![tactic(auto)]
 
+mod answering;
 mod checking;
 mod chores;
 mod desk;
+mod filling;
 mod fleet_file;
 mod folder;
 mod ground;
+mod interface;
 mod living;
 mod naming;
 mod opening;
 mod over_folder;
+mod page;
 mod present;
 mod running;
 mod saying;
@@ -18,6 +22,7 @@ mod seen;
 mod serving;
 mod status;
 mod tending;
+mod tokens;
 mod told;
 mod writing;
 
@@ -25,10 +30,13 @@ pub use checking::check;
 pub use chores::Chores;
 pub use folder::{Trouble, clerk_of, lock, path_in, read_fleet_of, read_settings_of};
 pub use ground::{Ground, HasGround};
+pub use interface::{Interface, Web};
 pub use living::Living;
 pub use over_folder::{OverFolder, serve_over};
+pub use page::{page, page_of};
 pub use present::Present;
 pub use serving::{Flags, Service, serve};
 pub use status::Status;
 pub use tending::Tending;
+pub use tokens::{Tokens, tokens_of};
 pub use told::Told;

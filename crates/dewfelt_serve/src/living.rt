@@ -60,7 +60,7 @@ impl<W: Wait + Clone + Drop, S: Stores> HasGround for Living<W, S> {
 
     fn next(&mut self, alloc: Global) -> Result<Ground<SharedKeeper<W, S::Keeper>>, StoreError> {
         let mut present = self.present.lock(&self.rt);
-        let forgotten = present.open(alloc, &self.stores, self.path.as_str())?;
+        let forgotten = present.open(&self.rt, alloc, &self.stores, self.path.as_str())?;
         let registry = present.shared()?;
         drop(present);
         let guard = registry.lock(&self.rt);

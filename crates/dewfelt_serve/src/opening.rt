@@ -43,7 +43,7 @@ pub(crate) struct Opener<G> {
 }
 
 // Waits until this moment, for ten seconds at most. Each second it looks whether the service is to stop.
-fn wait_until<R: Clock, T: Clock + Drop>(rt: &R, watch: &Watch<Told<T>>, moment: u64) {
+fn wait_until<R: Clock, T: Wait + Clock + Drop>(rt: &R, watch: &Watch<Told<T>>, moment: u64) {
     for _ in 0..AGAIN {
         if watch.is_stopped() || milliseconds(rt) >= moment {
             return;
@@ -69,7 +69,7 @@ impl<G: HasGround> Opener<G> {
     }
 
     // What the next hub is made of, where the store opens. What is to be said of that is said.
-    fn try_once<R: Wait + Clock, T: Clock + Drop>(
+    fn try_once<R: Wait + Clock, T: Wait + Clock + Drop>(
         &mut self,
         rt: &R,
         alloc: Global,
@@ -101,7 +101,7 @@ impl<G: HasGround> Opener<G> {
     }
 
     /// What the next hub is made of. A store that is not open is tried each ten seconds. None means that the service is to stop.
-    pub(crate) fn next<R: Wait + Clock, T: Clock + Drop>(
+    pub(crate) fn next<R: Wait + Clock, T: Wait + Clock + Drop>(
         &mut self,
         rt: &R,
         alloc: Global,

@@ -1,10 +1,12 @@
 //! A service over a folder.
 
+use crate::interface::Web;
 use crate::living::Living;
 use crate::present::Present;
 use crate::serving::{Flags, Service, serve};
 use crate::tending::Tending;
 use crate::{Status, Told};
+use dewfelt_board::Board;
 use dewfelt_commands::{Clerk, Stores};
 use dewfelt_fleet::Fleet;
 use dewfelt_settings::Settings;
@@ -12,6 +14,7 @@ use jt_outside::Sink;
 use jt_service::Door;
 use jt_store::Registrations;
 use std::alloc::{AllocError, Global};
+use std::random::RandomSource;
 use std::rt::Files;
 use std::sync::{Arc, Mutex, Wait};
 use std::thread::Threads;
@@ -19,7 +22,7 @@ use std::time::Clock;
 
 /// What a service over a folder is made of.
 #[derive(Drop)]
-pub struct OverFolder<'f, F, S, D, K, T> {
+pub struct OverFolder<'f, F, S, D, K, T, H> {
     /// The folder.
     pub folder: &'f str,
     /// What reads and writes its files.
@@ -37,21 +40,32 @@ pub struct OverFolder<'f, F, S, D, K, T> {
     pub sink: K,
     /// Who is told.
     pub told: Told<T>,
+    /// The interface over HTTP, where there is one. Its board is told.
+    pub web: Option<Web<H>>,
+}
+
+// The board of an interface.
+fn board_of<H>(web: &Option<Web<H>>) -> Result<Option<Arc<Mutex<Board>>>, AllocError> {
+    match web {
+        Some(web) => Ok(Some(web.interface.board.clone()?)),
+        None => Ok(None),
+    }
 }
 
 // The service of what is given.
-fn service_of<W, F, S, D, K, T>(
+fn service_of<W, F, S, D, K, T, H>(
     rt: &W,
     alloc: Global,
-    over: OverFolder<F, S, D, K, T>,
-) -> Result<Service<D, Living<W, S>, Tending<F, S::Keeper>, K, T>, AllocError>
+    over: OverFolder<F, S, D, K, T, H>,
+) -> Result<Service<D, Living<W, S>, Tending<F, S::Keeper>, K, T, H>, AllocError>
 where
     W: Wait + Clone + Drop,
     F: Files + AllocGlobal + Clone + Drop,
     S: Stores + Drop,
     D: Drop,
     K: Drop,
-    T: Clock + Drop,
+    T: Wait + Clock + Clone + Drop,
+    H: Drop,
 {
     let OverFolder {
         folder,
@@ -63,28 +77,30 @@ where
         door,
         sink,
         told,
+        web,
     } = over;
-    let present = Arc::new(alloc, Mutex::new(Present::of(text)))?;
+    let present = Arc::new(alloc, Mutex::new(Present::of(text, board_of(&web)?)))?;
     let other = present.clone()?;
     Ok(Service {
         door,
         ground: Living::of(rt.clone()?, stores, alloc, folder, fleet.secret(), present)?,
         chores: Tending::of(files, folder, clerk, other)?,
         sink,
-        told,
+        told: told.telling(board_of(&web)?)?,
+        web,
     })
 }
 
 /// Serves a folder, as `serve` does: its fleet is read again where it changed, and commands are answered.
-pub fn serve_over<R, F, S, D, K, T>(
+pub fn serve_over<R, F, S, D, K, T, H>(
     rt: &R,
     alloc: Global,
-    over: OverFolder<F, S, D, K, T>,
+    over: OverFolder<F, S, D, K, T, H>,
     settings: &Settings,
     flags: Flags,
 ) -> Status
 where
-    R: Threads + Wait + Clock + Sync + Send + Clone + Drop,
+    R: Threads + RandomSource + Wait + Clock + Sync + Send + Clone + Drop,
     F: Files + AllocGlobal + Clone + Send + Drop,
     F::File: Send,
     F::Dir: Send,
@@ -93,7 +109,9 @@ where
     D: Door + Drop,
     D::Link: Send,
     K: Sink + Send + Drop,
-    T: Clock + Send + Drop,
+    T: Wait + Clock + Clone + Send + Drop,
+    H: Door + Send + Drop,
+    H::Link: Send,
 {
     match service_of(rt, alloc, over) {
         Ok(service) => serve(rt, alloc, service, settings, flags),

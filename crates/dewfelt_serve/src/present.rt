@@ -1,8 +1,10 @@
 //! The present fleet and the store, as the threads of a service share them.
 
+use crate::filling::fill;
+use dewfelt_board::Board;
 use dewfelt_commands::Stores;
 use dewfelt_fleet::{Change, Fleet, read_fleet};
-use dewfelt_keeper::Registry;
+use dewfelt_keeper::{Forgetting, Registry};
 use jt_store::{Registrations, StoreError};
 use jt_value::{Phone, Seq};
 use std::alloc::Global;
@@ -15,14 +17,30 @@ pub struct Present<K> {
     text: Vec<u8>,
     // Where registrations are kept, while the store is open.
     registry: Option<Arc<Mutex<Registry<K>>>>,
+    // What shows the registrations and the last rows, where there is one.
+    board: Option<Arc<Mutex<Board>>>,
 }
 
 impl<K: Registrations + Drop> Present<K> {
-    /// A fleet of this text, in which no line is bad, over a store that is not open.
-    pub(crate) fn of(text: Vec<u8>) -> Present<K> {
+    /// A fleet of this text, in which no line is bad, over a store that is not open. The board shows it.
+    pub(crate) fn of(text: Vec<u8>, board: Option<Arc<Mutex<Board>>>) -> Present<K> {
         Present {
             text,
             registry: None,
+            board,
+        }
+    }
+
+    // Has the board show the registrations of a registry, where there is a board.
+    fn show<R: Wait>(
+        &self,
+        rt: &R,
+        alloc: Global,
+        registry: &Mutex<Registry<K>>,
+    ) -> Result<(), StoreError> {
+        match &self.board {
+            Some(board) => fill(rt, alloc, registry, &**board),
+            None => Ok(()),
         }
     }
 
@@ -52,9 +70,29 @@ impl<K: Registrations + Drop> Present<K> {
         let change = Change::between(&self.fleet(alloc)?, &fleet);
         if let Some(registry) = &self.registry {
             registry.lock(rt).apply(alloc, fleet, forgotten)?;
+            self.show(rt, alloc, &**registry)?;
         }
         self.text = text;
         Ok(change)
+    }
+
+    /// Removes the phone's registration, for an operator, where the store is open.
+    pub(crate) fn forget<R: Wait>(
+        &self,
+        rt: &R,
+        alloc: Global,
+        phone: &Phone,
+    ) -> Result<Forgetting, StoreError> {
+        let Some(registry) = &self.registry else {
+            return Err(StoreError::Failed);
+        };
+        let mut registry = registry.lock(rt);
+        let done = registry.forget(alloc, phone)?;
+        // (under the registry's lock, since the phone may be registered again at once)
+        if let (Forgetting::Done, Some(board)) = (done, &self.board) {
+            board.lock(rt).unseat(phone);
+        }
+        Ok(done)
     }
 
     /// The registry, where the store is open.
@@ -74,8 +112,9 @@ impl<K: Registrations + Drop> Present<K> {
     }
 
     /// Opens the store, where it is not open, and removes the registrations that the fleet does not allow. Answers how many.
-    pub(crate) fn open<S: Stores<Keeper = K>>(
+    pub(crate) fn open<R: Wait, S: Stores<Keeper = K>>(
         &mut self,
+        rt: &R,
         alloc: Global,
         stores: &S,
         path: &str,
@@ -88,7 +127,9 @@ impl<K: Registrations + Drop> Present<K> {
         let mut registry = Registry::new(stores.at(path)?, nobody);
         let mut forgotten = Seq::new(alloc);
         registry.apply(alloc, fleet, &mut forgotten)?;
-        self.registry = Some(Arc::new(alloc, Mutex::new(registry))?);
+        let registry = Arc::new(alloc, Mutex::new(registry))?;
+        self.show(rt, alloc, &*registry)?;
+        self.registry = Some(registry);
         Ok(forgotten.len())
     }
 

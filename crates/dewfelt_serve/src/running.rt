@@ -2,6 +2,7 @@
 
 use crate::Told;
 use crate::ground::{Ground, HasGround};
+use crate::interface::Interface;
 use crate::opening::Opener;
 use crate::saying::say_listening;
 use dewfelt_settings::Settings;
@@ -21,6 +22,8 @@ pub(crate) struct Run<'w, R, T> {
     pub(crate) alloc: Global,
     pub(crate) watch: &'w Watch<Told<T>>,
     pub(crate) settings: &'w Settings,
+    /// The interface over HTTP, where there is one.
+    pub(crate) interface: Option<&'w Interface>,
 }
 
 fn limits_of(settings: &Settings) -> Limits {
@@ -37,10 +40,17 @@ fn limits_of(settings: &Settings) -> Limits {
 impl<'w, R, T> Run<'w, R, T>
 where
     R: Threads + Wait + Clock + Sync,
-    T: Clock + Send + Drop,
+    T: Wait + Clock + Send + Drop,
 {
     fn say(&self, event: &str, key: &str, value: &str) {
         self.watch.told().lock(self.rt).say(event, key, value);
+    }
+
+    // Says at the interface whether links are served.
+    fn set_ready(&self, is_ready: bool) {
+        if let Some(interface) = self.interface {
+            interface.site.set_ready(is_ready);
+        }
     }
 
     // Serves by a hub, and lets go of it.
@@ -96,7 +106,9 @@ where
                 return ServiceEnd::Stopped;
             };
             say_listening(&mut self.watch.told().lock(self.rt), self.settings);
+            self.set_ready(true);
             let end = self.serve_hub(door, ground);
+            self.set_ready(false);
             if let Some(end) = self.after(end, &mut opener) {
                 return end;
             }

@@ -2,14 +2,19 @@
 
 use crate::Told;
 use crate::ground::Ground;
+use crate::interface::Interface;
 use dewfelt_fleet::BadLine;
-use dewfelt_settings::Settings;
+use dewfelt_settings::{Http, Settings};
+use std::sync::Wait;
 use std::time::Clock;
 
+/// The version of the program.
+pub(crate) const VERSION: &str = "0.1.0";
+
 /// The service starts, with these settings.
-pub(crate) fn say_start<T: Clock + Drop>(told: &mut Told<T>, settings: &Settings) {
+pub(crate) fn say_start<T: Wait + Clock + Drop>(told: &mut Told<T>, settings: &Settings) {
     let mut line = told.line("start");
-    line.text("version", "0.1.0");
+    line.text("version", VERSION);
     line.address("listen", settings.listen);
     line.number("links", settings.links.number as u64);
     line.number("quiet", settings.quiet.number as u64);
@@ -18,12 +23,23 @@ pub(crate) fn say_start<T: Clock + Drop>(told: &mut Told<T>, settings: &Settings
         Some(count) => line.number("strangers_of_address", count.number as u64),
         None => line.text("strangers_of_address", "none"),
     }
-    line.text("http", "none");
+    match settings.http {
+        Http::At(address) => line.address("http", address),
+        Http::Off => line.text("http", "none"),
+    }
+    told.put(line);
+}
+
+/// Browsers are answered at this address, who bring the token of this file.
+pub(crate) fn say_http<T: Wait + Clock + Drop>(told: &mut Told<T>, interface: &Interface) {
+    let mut line = told.line("http");
+    line.address("address", interface.address);
+    line.text("token_file", interface.token_file.as_str());
     told.put(line);
 }
 
 /// The store is open, which took so long, for a hub of this ground.
-pub(crate) fn say_opened<T: Clock + Drop, P>(
+pub(crate) fn say_opened<T: Wait + Clock + Drop, P>(
     told: &mut Told<T>,
     ground: &Ground<P>,
     milliseconds: u64,
@@ -38,7 +54,7 @@ pub(crate) fn say_opened<T: Clock + Drop, P>(
 }
 
 /// Links are accepted from now on.
-pub(crate) fn say_listening<T: Clock + Drop>(told: &mut Told<T>, settings: &Settings) {
+pub(crate) fn say_listening<T: Wait + Clock + Drop>(told: &mut Told<T>, settings: &Settings) {
     let mut line = told.line("listening");
     line.address("at", settings.listen);
     told.put(line);
@@ -64,7 +80,7 @@ fn yes(is_so: bool) -> &'static str {
 }
 
 /// A newer fleet was taken.
-pub(crate) fn say_fleet<T: Clock + Drop>(told: &mut Told<T>, taken: FleetTaken) {
+pub(crate) fn say_fleet<T: Wait + Clock + Drop>(told: &mut Told<T>, taken: FleetTaken) {
     let mut line = told.line("fleet");
     line.text("result", "taken");
     line.number("vehicles", taken.vehicles as u64);
@@ -79,7 +95,7 @@ pub(crate) fn say_fleet<T: Clock + Drop>(told: &mut Told<T>, taken: FleetTaken) 
 }
 
 /// A line of the file of the fleet is bad, and the fleet stays as it was.
-pub(crate) fn say_bad_fleet<T: Clock + Drop>(told: &mut Told<T>, bad: &BadLine) {
+pub(crate) fn say_bad_fleet<T: Wait + Clock + Drop>(told: &mut Told<T>, bad: &BadLine) {
     let mut line = told.line("fleet");
     line.text("result", "bad");
     line.number("line", bad.number);

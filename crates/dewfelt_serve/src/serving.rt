@@ -2,10 +2,12 @@
 
 ghost use Rattle.std.specs.Thread.{IsSync};
 
+use crate::answering::answer_browsers;
 use crate::chores::{Chores, do_chores};
 use crate::ground::HasGround;
+use crate::interface::{Interface, Web};
 use crate::running::Run;
-use crate::saying::say_start;
+use crate::saying::{say_http, say_start};
 use crate::writing::write_lines;
 use crate::{Status, Told};
 use dewfelt_log::empty_room;
@@ -13,6 +15,7 @@ use dewfelt_settings::Settings;
 use jt_outside::Sink;
 use jt_service::{Door, ServiceEnd, Watch};
 use std::alloc::Global;
+use std::random::RandomSource;
 use std::sync::atomic::{AtomicBool, Ordering};
 use std::sync::{Arc, Wait};
 use std::thread;
@@ -21,7 +24,7 @@ use std::time::Clock;
 
 /// All that a service is made of.
 #[derive(Drop)]
-pub struct Service<D, G, C, K, T> {
+pub struct Service<D, G, C, K, T, H> {
     /// Where links come in.
     pub door: D,
     /// What hubs are made of.
@@ -32,6 +35,8 @@ pub struct Service<D, G, C, K, T> {
     pub sink: K,
     /// Who is told.
     pub told: Told<T>,
+    /// The interface over HTTP, where there is one.
+    pub web: Option<Web<H>>,
 }
 
 /// The flags of a service, which others have too.
@@ -54,10 +59,12 @@ fn status_of(end: ServiceEnd) -> Status {
 
 // What a service is made of, but for its lines.
 #[derive(Drop)]
-struct Parts<D, G, C> {
+struct Parts<D, G, C, H> {
     door: D,
     ground: G,
     chores: C,
+    // Where browsers come in, where there is an interface for them.
+    web_door: Option<H>,
 }
 
 // What lines are written with.
@@ -78,7 +85,7 @@ fn start_writer<'t, E, R, T, K>(
 ) -> bool
 where
     R: Threads + Wait + Clock + Sync + 't,
-    T: Clock + Send + Drop + 't,
+    T: Wait + Clock + Send + Drop + 't,
     K: Sink + Send + Drop + 't,
 {
     scope
@@ -97,7 +104,7 @@ fn start_chores<'t, E, R, T, C>(
 ) -> bool
 where
     R: Threads + Wait + Clock + Sync + 't,
-    T: Clock + Send + Drop + 't,
+    T: Wait + Clock + Send + Drop + 't,
     C: Chores<T> + Send + Drop + 't,
 {
     scope
@@ -105,8 +112,49 @@ where
         .is_ok()
 }
 
+// Starts the thread that answers browsers. Tells whether it could be made.
+fn start_answering<'t, E, R, T, H>(
+    scope: &'t Scope<'t, E>,
+    rt: &'t R,
+    alloc: Global,
+    watch: &'t Watch<Told<T>>,
+    door: H,
+    interface: &'t Interface,
+) -> bool
+where
+    R: Threads + RandomSource + Wait + Clock + Sync + 't,
+    T: Wait + Clock + Send + Drop + 't,
+    H: Door + Send + Drop + 't,
+    H::Link: Send,
+{
+    scope
+        .spawn(move || answer_browsers(rt, alloc, watch, door, interface))
+        .is_ok()
+}
+
+// Starts the thread that answers browsers, where there is an interface for them. Tells whether it could be made.
+fn start_web<'t, E, R, T, H>(
+    scope: &'t Scope<'t, E>,
+    rt: &'t R,
+    alloc: Global,
+    watch: &'t Watch<Told<T>>,
+    door: Option<H>,
+    interface: Option<&'t Interface>,
+) -> bool
+where
+    R: Threads + RandomSource + Wait + Clock + Sync + 't,
+    T: Wait + Clock + Send + Drop + 't,
+    H: Door + Send + Drop + 't,
+    H::Link: Send,
+{
+    match (door, interface) {
+        (Some(door), Some(interface)) => start_answering(scope, rt, alloc, watch, door, interface),
+        _ => true,
+    }
+}
+
 // The service ended so: whoever looks at the flag ends.
-fn finish<R: Wait, T: Clock + Drop>(
+fn finish<R: Wait, T: Wait + Clock + Drop>(
     rt: &R,
     watch: &Watch<Told<T>>,
     end: ServiceEnd,
@@ -116,22 +164,24 @@ fn finish<R: Wait, T: Clock + Drop>(
     flag.store(true, Ordering::SeqCst);
 }
 
-// Serves while a thread writes lines, and one does the chores.
-fn serve_beside<R, D, G, C, T, K>(
+// Serves while a thread writes lines, one does the chores, and one answers browsers.
+fn serve_beside<R, D, G, C, T, K, H>(
     run: Run<R, T>,
-    parts: Parts<D, G, C>,
+    parts: Parts<D, G, C, H>,
     writer: Writer<K>,
     is_over: &AtomicBool,
     is_done: &AtomicBool,
 ) -> ServiceEnd
 where
-    R: Threads + Wait + Clock + Sync,
+    R: Threads + RandomSource + Wait + Clock + Sync,
     D: Door + Drop,
     D::Link: Send,
+    H: Door + Send + Drop,
+    H::Link: Send,
     G: HasGround + Drop,
     G::Keeper: Send,
     C: Chores<T> + Send + Drop,
-    T: Clock + Send + Drop,
+    T: Wait + Clock + Send + Drop,
     K: Sink + Send + Drop,
 {
     let rt = run.rt;
@@ -140,7 +190,10 @@ where
         mut door,
         ground,
         chores,
+        web_door,
     } = parts;
+    let alloc = run.alloc;
+    let interface = run.interface;
     let Writer { sink, room } = writer;
     thread::scope(
         thread::scope_env(),
@@ -155,32 +208,52 @@ where
                 finish(rt, watch, ServiceEnd::NoThread, is_done);
                 return ServiceEnd::NoThread;
             }
+            if !start_web(scope, rt, alloc, watch, web_door, interface) {
+                finish(rt, watch, ServiceEnd::NoThread, is_over);
+                return ServiceEnd::NoThread;
+            }
             let end = run.serve(&mut door, ground);
             finish(rt, watch, end, is_over);
+            if let Some(interface) = interface {
+                interface.end();
+            }
             end
         },
     )
 }
 
-/// Serves the links that come in at the door, does the chores, and writes lines to the sink, until the first flag is set, or no more
+// What an interface is made of, apart.
+fn parts_of<H: Drop>(web: Option<Web<H>>) -> (Option<H>, Option<Interface>) {
+    match web {
+        Some(web) => {
+            let Web { door, interface } = web;
+            (Some(door), Some(interface))
+        }
+        None => (None, None),
+    }
+}
+
+/// Serves the links that come in at the door, does the chores, answers browsers, and writes lines to the sink, until the first flag is set, or no more
 /// links can be served. A store that does not open, or fails, is tried again. Answers how it ended, once the sink has taken the last
 /// lines.
-pub fn serve<R, D, G, C, K, T>(
+pub fn serve<R, D, G, C, K, T, H>(
     rt: &R,
     alloc: Global,
-    service: Service<D, G, C, K, T>,
+    service: Service<D, G, C, K, T, H>,
     settings: &Settings,
     flags: Flags,
 ) -> Status
 where
-    R: Threads + Wait + Clock + Sync,
+    R: Threads + RandomSource + Wait + Clock + Sync,
     D: Door + Drop,
     D::Link: Send,
+    H: Door + Send + Drop,
+    H::Link: Send,
     G: HasGround + Drop,
     G::Keeper: Send,
     C: Chores<T> + Send + Drop,
     K: Sink + Send + Drop,
-    T: Clock + Send + Drop,
+    T: Wait + Clock + Send + Drop,
 {
     let Ok(room) = empty_room(alloc) else {
         return Status::Memory;
@@ -191,8 +264,13 @@ where
         chores,
         sink,
         mut told,
+        web,
     } = service;
+    let (web_door, interface) = parts_of(web);
     say_start(&mut told, settings);
+    if let Some(interface) = &interface {
+        say_http(&mut told, interface);
+    }
     let is_over = AtomicBool::new(false);
     let is_done = AtomicBool::new(false);
     let watch = Watch::new(alloc, told, flags.stops, flags.ends);
@@ -200,6 +278,7 @@ where
         door,
         ground,
         chores,
+        web_door,
     };
     let writer = Writer { sink, room };
     let run = Run {
@@ -207,6 +286,7 @@ where
         alloc,
         watch: &watch,
         settings,
+        interface: interface.as_ref(),
     };
     status_of(serve_beside(run, parts, writer, &is_over, &is_done))
 }

@@ -25,6 +25,8 @@ pub enum Status {
     Folder,
     /// No thread can be made.
     Threads,
+    /// A file of the interface over HTTP is wrong, or can't be read or made.
+    Http,
 }
 
 impl Status {
@@ -45,6 +47,7 @@ impl Status {
             Status::Memory => 8,
             Status::Folder => 9,
             Status::Threads => 10,
+            Status::Http => 11,
         }
     }
 
@@ -61,6 +64,7 @@ impl Status {
             Status::Busy => "another dewfelt serves this folder",
             Status::Memory => "no memory",
             Status::Threads => "no thread can be made",
+            Status::Http => "http.token can't be read",
         }
     }
 }

@@ -63,14 +63,14 @@ where
     }
 
     // Ends the links of those that were forgotten.
-    fn dismiss<R: Wait, T: Clock + Drop>(&self, rt: &R, watch: &Watch<Told<T>>) {
+    fn dismiss<R: Wait, T: Wait + Clock + Drop>(&self, rt: &R, watch: &Watch<Told<T>>) {
         for phone in self.forgotten.as_slice() {
             watch.dismiss(rt, phone);
         }
     }
 
     // The text is that of the present fleet. The first look at the file, which was read at the start, says nothing of that.
-    fn is_same<R: Wait, T: Clock + Drop>(
+    fn is_same<R: Wait, T: Wait + Clock + Drop>(
         &mut self,
         rt: &R,
         watch: &Watch<Told<T>>,
@@ -86,7 +86,7 @@ where
     }
 
     // The fleet could not be taken, for want of memory or by a store fault: it is tried again.
-    fn fleet_failed<R: Wait, T: Clock + Drop>(&mut self, rt: &R, watch: &Watch<Told<T>>) {
+    fn fleet_failed<R: Wait, T: Wait + Clock + Drop>(&mut self, rt: &R, watch: &Watch<Told<T>>) {
         self.fleet.forget();
         if !self.is_fault_said {
             watch.told().lock(rt).say("fleet", "result", "fault");
@@ -95,7 +95,7 @@ where
     }
 
     // The file could not be read: that is said once.
-    fn say_unread<R: Wait, T: Clock + Drop>(
+    fn say_unread<R: Wait, T: Wait + Clock + Drop>(
         &mut self,
         rt: &R,
         watch: &Watch<Told<T>>,
@@ -107,7 +107,7 @@ where
         self.is_fault_said = true;
     }
 
-    fn take_fleet<R: Wait, T: Clock + Drop>(
+    fn take_fleet<R: Wait, T: Wait + Clock + Drop>(
         &mut self,
         rt: &R,
         watch: &Watch<Told<T>>,
@@ -140,7 +140,7 @@ where
         }
     }
 
-    fn take_text<R: Wait, T: Clock + Drop>(
+    fn take_text<R: Wait, T: Wait + Clock + Drop>(
         &mut self,
         rt: &R,
         watch: &Watch<Told<T>>,
@@ -157,7 +157,7 @@ where
     }
 
     // Answers the commands that wait. Phones that one of them wants to be forgotten are put behind those that are.
-    fn answer_all<'x, R: Wait, T: Clock + Drop>(
+    fn answer_all<'x, R: Wait, T: Wait + Clock + Drop>(
         &'x self,
         rt: &'x R,
         watch: &'x Watch<Told<T>>,
@@ -175,7 +175,7 @@ where
     }
 
     // Answers the commands that wait, and says once that it can't.
-    fn answer<R: Wait, T: Clock + Drop>(&mut self, rt: &R, watch: &Watch<Told<T>>) {
+    fn answer<R: Wait, T: Wait + Clock + Drop>(&mut self, rt: &R, watch: &Watch<Told<T>>) {
         let mut forgotten = replace(&mut self.forgotten, Seq::new(self.files.alloc()));
         let answered = self.answer_all(rt, watch, &mut forgotten);
         self.forgotten = forgotten;
@@ -195,7 +195,7 @@ impl<F, K, T> Chores<T> for Tending<F, K>
 where
     F: Files + AllocGlobal + Clone + Drop,
     K: Registrations + Drop,
-    T: Clock + Drop,
+    T: Wait + Clock + Drop,
 {
     fn look<R: Wait>(&mut self, rt: &R, watch: &Watch<Told<T>>) {
         self.dismiss(rt, watch);

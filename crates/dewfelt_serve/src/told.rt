@@ -2,6 +2,7 @@
 
 use crate::naming::{away_word, denied_word, digits_before, end_word, phone_digits, service_word};
 use crate::seen::Seen;
+use dewfelt_board::{Board, Teller};
 use dewfelt_commands::phone_text;
 use dewfelt_log::{Line, Outbox, Rate};
 use jt_platform::{Entry, Reply, Request};
@@ -12,6 +13,7 @@ use jt_value::Phone;
 use std::alloc::{AllocError, Global};
 use std::io;
 use std::net::SocketAddr;
+use std::sync::{Arc, Mutex, Wait};
 use std::time::Clock;
 
 // What was counted since the start.
@@ -40,7 +42,7 @@ const NOTHING: Tally = Tally {
     failed: 0,
 };
 
-/// What is told of a service: lines that wait to be written, and counts. Of events that anybody can cause, and of those by which
+/// What is told of a service: lines that wait to be written, counts, and a board, where there is one. Of events that anybody can cause, and of those by which
 /// somebody is let in again on a session, ten a second have a line.
 #[derive(Drop)]
 pub struct Told<R> {
@@ -54,6 +56,8 @@ pub struct Told<R> {
     last: u32,
     seen: Seen,
     end: Option<ServiceEnd>,
+    // Who tells the board, where there is one.
+    teller: Option<Teller<R>>,
 }
 
 fn put_phone(line: &mut Line, phone: &Phone) {
@@ -111,7 +115,7 @@ fn trimmed(id: &[u8]) -> &[u8] {
     rest
 }
 
-impl<R: Clock + Drop> Told<R> {
+impl<R: Wait + Clock + Drop> Told<R> {
     /// Nothing is told so far. The moments of lines are those of the runtime's clock.
     pub fn new(alloc: Global, rt: R) -> Result<Told<R>, AllocError> {
         Ok(Told {
@@ -124,7 +128,20 @@ impl<R: Clock + Drop> Told<R> {
             last: 0,
             seen: Seen::new(alloc)?,
             end: None,
+            teller: None,
         })
+    }
+
+    /// Has a board told of all that is told, where there is one. Its sessions have the numbers of lines.
+    pub fn telling(self, board: Option<Arc<Mutex<Board>>>) -> Result<Told<R>, AllocError>
+    where
+        R: Clone,
+    {
+        let mut told = self;
+        if let Some(board) = board {
+            told.teller = Some(Teller::new(told.rt.clone()?, board));
+        }
+        Ok(told)
     }
 
     pub(crate) fn alloc(&self) -> Global {
@@ -235,6 +252,9 @@ impl<R: Clock + Drop> Told<R> {
         self.before = self.number_of(self.last);
         self.last = 0;
         self.seen.clear();
+        if let Some(teller) = &mut self.teller {
+            teller.begin_anew(self.before);
+        }
     }
 
     fn note_register(&mut self, session: u32, phone: &Phone, register: &Register, reply: &Reply) {
@@ -273,13 +293,19 @@ fn put_units(line: &mut Line, tally: &Tally) {
     line.number("renumbered", tally.renumbered);
 }
 
-impl<R: Clock + Drop> Tell for Told<R> {
-    fn began(&mut self, session: u32, _peer: Option<SocketAddr>) {
+impl<R: Wait + Clock + Drop> Tell for Told<R> {
+    fn began(&mut self, session: u32, peer: Option<SocketAddr>) {
+        if let Some(teller) = &mut self.teller {
+            teller.began(session, peer);
+        }
         self.last = self.last.max(session);
         self.tally.began = self.tally.began.saturating_add(1);
     }
 
     fn noted(&mut self, entry: &Entry) {
+        if let Some(teller) = &mut self.teller {
+            teller.noted(entry);
+        }
         match &entry.request {
             Request::Register { phone, register } => {
                 self.note_register(entry.session, phone, register, &entry.reply);
@@ -300,6 +326,9 @@ impl<R: Clock + Drop> Tell for Told<R> {
     }
 
     fn let_in(&mut self, session: u32, phone: &Phone) {
+        if let Some(teller) = &mut self.teller {
+            teller.let_in(session, phone);
+        }
         self.tally.let_in = self.tally.let_in.saturating_add(1);
         if self.seen.mark(session) {
             self.note_phone("let_in", session, phone);
@@ -312,6 +341,9 @@ impl<R: Clock + Drop> Tell for Told<R> {
     }
 
     fn ended(&mut self, ended: &Ended) {
+        if let Some(teller) = &mut self.teller {
+            teller.ended(ended);
+        }
         self.tally.ended = self.tally.ended.saturating_add(1);
         self.tally.frames = self.tally.frames.saturating_add(ended.report.frames);
         let line = if ended.phone.is_some() {
@@ -326,6 +358,9 @@ impl<R: Clock + Drop> Tell for Told<R> {
     }
 
     fn turned_away(&mut self, peer: Option<SocketAddr>, why: Away) {
+        if let Some(teller) = &mut self.teller {
+            teller.turned_away(peer, why);
+        }
         self.tally.away = self.tally.away.saturating_add(1);
         if let Some(mut line) = self.stranger_line("away") {
             put_peer(&mut line, peer);
@@ -339,6 +374,9 @@ impl<R: Clock + Drop> Tell for Told<R> {
     }
 
     fn accept_failed(&mut self) {
+        if let Some(teller) = &mut self.teller {
+            teller.accept_failed();
+        }
         self.tally.failed = self.tally.failed.saturating_add(1);
         if let Some(line) = self.stranger_line("accept_failed") {
             self.put(line);

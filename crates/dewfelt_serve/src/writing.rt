@@ -23,7 +23,7 @@ enum Behind {
 }
 
 // Takes the lines that wait, for an empty room, into which goes what comes behind them.
-fn take<R: Wait + Clock, T: Clock + Drop>(
+fn take<R: Wait + Clock, T: Wait + Clock + Drop>(
     rt: &R,
     watch: &Watch<Told<T>>,
     empty: Vec<u8>,
@@ -43,7 +43,7 @@ fn take<R: Wait + Clock, T: Clock + Drop>(
 }
 
 // Writes the lines that wait. Meanwhile others put lines into the empty room. Gives the room back.
-fn write_once<R: Wait + Clock, T: Clock + Drop, K: Sink>(
+fn write_once<R: Wait + Clock, T: Wait + Clock + Drop, K: Sink>(
     rt: &R,
     watch: &Watch<Told<T>>,
     sink: &mut K,
@@ -56,7 +56,7 @@ fn write_once<R: Wait + Clock, T: Clock + Drop, K: Sink>(
 }
 
 /// Writes lines as they come until the service is done, and the last ones then.
-pub(crate) fn write_lines<R: Wait + Clock, T: Clock + Drop, K: Sink>(
+pub(crate) fn write_lines<R: Wait + Clock, T: Wait + Clock + Drop, K: Sink>(
     rt: &R,
     watch: &Watch<Told<T>>,
     mut sink: K,

@@ -1,5 +1,5 @@
 -- What a value chooses: this project's own. To be believed.
-use Rattle.std.specs.Prelude.{◌≡◌, ◌≢◌, ◌⊎◌, ℕ, Bool, true, false, if◌then◌else◌, List, codes, Option, Some, None, is_some, IsTrue, MatchOption}
+use Rattle.std.specs.Prelude.{◌≡◌, ◌≢◌, ◌⊎◌, ℕ, Bool, true, false, if◌then◌else◌, List, codes, Option, Some, None, is_some, IsTrue, take, MatchOption}
 use Rattle.std.specs.Str.{bytes_eq}
 use Rattle.std.specs.Net.Grammar.{IsSocketText}
 use Rattle.std.specs.Net.Addr.{MatchIp, IsUnspecifiedV4, IsLoopbackV4}
@@ -77,7 +77,7 @@ WithText choices Http text found =
     (λ next. (place : Place) × IsHttp text place × (next ≡ record choices { http = Some place }))
 WithText choices HttpName text found =
     MatchOption found (IsHostName text → ⊥)
-    (λ next. (name : HostName) × (name.text.bytes ≡ text)
+    (λ next. (name : HostName) × (take name.count name.octets ≡ text)
     × (next ≡ record choices { http_name = Some name }))
 WithText choices _ text found = found ≡ None
 

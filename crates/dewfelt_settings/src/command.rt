@@ -102,9 +102,10 @@ fn take_folder<'w>(
     if told.folder.is_some() {
         return Err(Wrong::new(alloc, Cause::SecondFolder, word));
     }
+    let choices = told.choices;
     Ok(Told {
         folder: Some(word),
-        choices: told.choices,
+        choices,
     })
 }
 

@@ -1,9 +1,7 @@
 //! Names of hosts.
 
-ghost use Rattle.std.specs.Prelude.{◌≡◌, MatchOption};
+ghost use Rattle.std.specs.Prelude.{◌≡◌, ◌≤◌, length, take, MatchOption};
 ghost use Rattle.dewfelt_settings.specs.Hosts.{IsHostName, is_host_octet};
-
-use arrayvec::ArrayString;
 
 /// The most octets that a host's name has, with its port (this project's own).
 pub const HOST_ROOM: usize = 128;
@@ -11,7 +9,10 @@ pub const HOST_ROOM: usize = 128;
 /// A host's name, with its port where a browser sends that.
 #[derive(Clone, Copy)]
 pub struct HostName {
-    pub text: ArrayString<HOST_ROOM>,
+    pub octets: [u8; HOST_ROOM],
+    /// How many of the octets are the name's.
+    pub count: u8,
+    pub ghost within: { count ≤ 128 },
 }
 
 // Whether a name may have this octet. (browsers send names in small letters)
@@ -21,22 +22,41 @@ fn is_host_octet(octet: u8) -> bool
     octet.is_ascii_lowercase() || octet.is_ascii_digit() || b".-_:[]".contains(&octet)
 }
 
+// The name of these octets.
+fn kept(octets: &[u8]) -> HostName
+    requires { length octets.now ≤ 128 }
+    ensures { take result.count result.octets ≡ octets.now }
+{
+    let count = octets.len();
+    let mut kept = [0; HOST_ROOM];
+    kept[..count].copy_from_slice(octets);
+    HostName {
+        octets: kept,
+        count: count as u8,
+    }
+}
+
 impl HostName {
     /// The name of this text: 1 to 128 small letters, digits, `.`, `-`, `_`, and `:`, `[` and `]` of a port and of an address of IPv6.
     pub fn of(text: &str) -> Option<HostName>
-        ensures { MatchOption result (IsHostName text.now → ⊥) (λ name. name.text.bytes ≡ text.now) }
+        ensures { MatchOption result (IsHostName text.now → ⊥)
+            (λ name. take name.count name.octets ≡ text.now) }
     {
-        if text.is_empty() || !text.as_bytes().iter().all(|octet| is_host_octet(*octet)) {
+        let octets = text.as_bytes();
+        if octets.is_empty() || octets.len() > HOST_ROOM {
             return None;
         }
-        match ArrayString::from(text) {
-            Ok(text) => Some(HostName { text }),
-            Err(_) => None,
+        if !octets.iter().all(|octet| is_host_octet(*octet)) {
+            return None;
         }
+        Some(kept(octets))
     }
 
     /// The name.
     pub fn as_str(&self) -> &str {
-        self.text.as_str()
+        match std::str::from_utf8(&self.octets[..self.count as usize]) {
+            Ok(name) => name,
+            Err(_) => "",
+        }
     }
 }

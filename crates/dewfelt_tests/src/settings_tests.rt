@@ -34,9 +34,15 @@ pub(crate) fn said(alloc: Global, line: &str, file: &str) -> Result<String, Allo
             let quiet = s.quiet.number;
             let strangers = s.strangers.number;
             let ends = s.until_input_ends;
-            format!(in alloc; "{folder} {listen} {links} {quiet} {strangers} {of} {ends}")
+            let http = s.http;
+            let name = match &s.http_name {
+                Some(name) => name.as_str(),
+                None => "-",
+            };
+            format!(in alloc; "{folder} {listen} {links} {quiet} {strangers} {of} {http} {name} {ends}")
         }
         Command::Check(folder, _) => format!(in alloc; "check {folder}"),
+        Command::Page(folder, _) => format!(in alloc; "page {folder}"),
         Command::Registrations(folder) => format!(in alloc; "registrations {folder}"),
         Command::Forget(folder, phone) => {
             let digits = phone.digits;
@@ -52,54 +58,66 @@ pub(crate) fn said(alloc: Global, line: &str, file: &str) -> Result<String, Allo
 #[test]
 fn settings_of_words_and_files(rt: HostRuntime) -> Result<(), Fail> {
     let rows: &[(&str, &str, &str)] = &[
-        ("serve d", "", "d 0.0.0.0:8808 1024 180 512 0 false"),
+        ("serve d", "", "d 0.0.0.0:8808 1024 180 512 0 127.0.0.1:8080 - false"),
         (
             "serve --links 500 d",
             "links = 7",
-            "d 0.0.0.0:8808 500 180 250 0 false",
+            "d 0.0.0.0:8808 500 180 250 0 127.0.0.1:8080 - false",
         ),
         (
             "serve d",
             "links = 7\nquiet=60",
-            "d 0.0.0.0:8808 7 60 3 0 false",
+            "d 0.0.0.0:8808 7 60 3 0 127.0.0.1:8080 - false",
         ),
         (
             "serve d --links=1 --until-input-ends",
             "",
-            "d 0.0.0.0:8808 1 180 1 0 true",
+            "d 0.0.0.0:8808 1 180 1 0 127.0.0.1:8080 - true",
         ),
         (
             "serve d --listen [::]:9000",
             "listen = \"1.2.3.4:5\"",
-            "d [::]:9000 1024 180 512 0 false",
+            "d [::]:9000 1024 180 512 0 127.0.0.1:8080 - false",
         ),
         (
             "serve d --http none",
             "listen = \"1.2.3.4:5\"",
-            "d 1.2.3.4:5 1024 180 512 0 false",
+            "d 1.2.3.4:5 1024 180 512 0 none - false",
         ),
         (
             "serve d --strangers-of-address 9",
             "strangers = 2000",
-            "d 0.0.0.0:8808 1024 180 1024 9 false",
+            "d 0.0.0.0:8808 1024 180 1024 9 127.0.0.1:8080 - false",
         ),
         (
             "serve d",
             "strangers_of_address = 20\nhttp = \"none\"",
-            "d 0.0.0.0:8808 1024 180 512 20 false",
+            "d 0.0.0.0:8808 1024 180 512 20 none - false",
+        ),
+        (
+            "serve d --http [::1]:9090",
+            "http = \"none\"\nhttp_name = \"fleet.example.org\"",
+            "d 0.0.0.0:8808 1024 180 512 0 [::1]:9090 fleet.example.org false",
+        ),
+        (
+            "serve d --http-name=fleet.example.org:8443",
+            "http = \"0.0.0.0:80\"\nhttp_name = \"other\"",
+            "d 0.0.0.0:8808 1024 180 512 0 0.0.0.0:80 fleet.example.org:8443 false",
         ),
         ("check d", "", "check d"),
+        ("page d", "", "page d"),
+        ("page", "", "no folder: expected page DIR"),
         ("serve d --help", "", "help"),
         ("--version", "", "version"),
         (
             "",
             "",
-            "no command: expected serve DIR, check DIR, registrations DIR, forget DIR PHONE, copy DIR FILE, stop DIR, --help or --version",
+            "no command: expected serve DIR, check DIR, page DIR, registrations DIR, forget DIR PHONE, copy DIR FILE, stop DIR, --help or --version",
         ),
         (
             "serv d",
             "",
-            "unknown command \"serv\": expected serve DIR, check DIR, registrations DIR, forget DIR PHONE, copy DIR FILE, stop DIR, --help or --version",
+            "unknown command \"serv\": expected serve DIR, check DIR, page DIR, registrations DIR, forget DIR PHONE, copy DIR FILE, stop DIR, --help or --version",
         ),
         ("serve", "", "no folder: expected serve DIR"),
         ("serve a b", "", "a second folder \"b\": expected one"),
@@ -143,16 +161,35 @@ fn settings_of_words_and_files(rt: HostRuntime) -> Result<(), Fail> {
             "",
             "--listen \"1.2.3.4:0\": expected an address and a port, as 0.0.0.0:8808 or [::]:8808",
         ),
-        ("serve a --http 8080", "", "--http \"8080\": expected none"),
+        (
+            "serve a --http 8080",
+            "",
+            "--http \"8080\": expected none, or an address and a port, as 127.0.0.1:8080 or [::1]:8080",
+        ),
+        (
+            "serve a --http 127.0.0.1:0",
+            "",
+            "--http \"127.0.0.1:0\": expected none, or an address and a port, as 127.0.0.1:8080 or [::1]:8080",
+        ),
+        (
+            "serve a --http-name Fleet.example",
+            "",
+            "--http-name \"Fleet.example\": expected a host in small letters, with its port where a browser sends one",
+        ),
+        (
+            "serve a --http none --http none",
+            "",
+            "--http is given twice: expected once",
+        ),
         (
             "serve a --port 1",
             "",
-            "unknown option \"--port\": expected --listen, --links, --quiet, --strangers, --strangers-of-address, --http or --until-input-ends",
+            "unknown option \"--port\": expected --listen, --links, --quiet, --strangers, --strangers-of-address, --http, --http-name or --until-input-ends",
         ),
         (
             "serve a",
             "link = 1",
-            "unknown key \"link\": expected listen, links, quiet, strangers, strangers_of_address or http",
+            "unknown key \"link\": expected listen, links, quiet, strangers, strangers_of_address, http or http_name",
         ),
         (
             "serve a",
@@ -167,7 +204,7 @@ fn settings_of_words_and_files(rt: HostRuntime) -> Result<(), Fail> {
         (
             "serve a",
             "http = true",
-            "http is a wrong boolean: expected none",
+            "http is a wrong boolean: expected none, or an address and a port, as 127.0.0.1:8080 or [::1]:8080",
         ),
     ];
     for (line, file, expected) in rows {

@@ -7,10 +7,10 @@ use crate::links::{TERMINAL, TestLink, peer};
 use crate::rows::{one, secret};
 use dewfelt_commands::Stores;
 use dewfelt_serve::{
-    Chores, Flags, Ground, HasGround, OverFolder, Service, Status, Told, clerk_of, read_fleet_of,
-    serve, serve_over,
+    Chores, Flags, Ground, HasGround, OverFolder, Service, Status, Told, Web, clerk_of,
+    read_fleet_of, serve, serve_over,
 };
-use dewfelt_settings::{Choices, Count, Settings};
+use dewfelt_settings::{Choices, Count, Http, Settings};
 use jt_outside::{Put, Sink};
 use jt_platform::Fleet;
 use jt_service::{Arrived, Door, Watch};
@@ -20,6 +20,7 @@ use std::alloc::Global;
 use std::fs::File;
 use std::marker::Model;
 use std::process::Abort;
+use std::random::RandomSource;
 use std::rt::Files;
 use std::sync::atomic::{AtomicBool, Ordering};
 use std::sync::{Arc, Mutex, Wait};
@@ -29,13 +30,19 @@ use std::{fs, io};
 
 /// The lines of a service.
 #[derive(Drop)]
-struct Lines {
+pub(crate) struct Lines {
     octets: Mutex<Vec<u8>>,
 }
 
 impl Lines {
+    pub(crate) fn new(alloc: Global) -> Lines {
+        Lines {
+            octets: Mutex::new(Vec::new(alloc)),
+        }
+    }
+
     // How often a text stands in the lines.
-    fn count<R: Wait>(&self, rt: &R, text: &str) -> usize {
+    pub(crate) fn count<R: Wait>(&self, rt: &R, text: &str) -> usize {
         let octets = self.octets.lock(rt);
         octets
             .as_slice()
@@ -47,10 +54,22 @@ impl Lines {
 
 /// Takes lines.
 #[derive(Drop)]
-struct Taker<'w, R> {
+pub(crate) struct Taker<'w, R> {
     rt: &'w R,
     lines: &'w Lines,
     faults: u64,
+}
+
+impl<'w, R> Taker<'w, R> {
+    pub(crate) fn new(rt: &'w R, lines: &'w Lines) -> Taker<'w, R>
+        ensures { result ≡ 0 }
+    {
+        Taker {
+            rt,
+            lines,
+            faults: 0,
+        }
+    }
 }
 
 impl<'w, R> Model for Taker<'w, R> {
@@ -206,7 +225,7 @@ struct Renews<'w> {
     is_done: bool,
 }
 
-impl<'w, T: Clock + Drop> Chores<T> for Renews<'w> {
+impl<'w, T: Wait + Clock + Drop> Chores<T> for Renews<'w> {
     fn look<R: Wait>(&mut self, rt: &R, watch: &Watch<Told<T>>) {
         if !self.is_done && self.lines.count(rt, self.text) > 0 {
             self.is_done = true;
@@ -215,13 +234,15 @@ impl<'w, T: Clock + Drop> Chores<T> for Renews<'w> {
     }
 }
 
-fn flag(rt: &impl Abort, alloc: Global) -> Arc<AtomicBool> {
+pub(crate) fn flag(rt: &impl Abort, alloc: Global) -> Arc<AtomicBool> {
     Arc::new(alloc, AtomicBool::new(false)).expect(rt, "there is memory")
 }
 
-fn settings() -> Settings {
+// Two links, and no interface over HTTP.
+pub(crate) fn settings() -> Settings {
     let mut choices = Choices::none();
     choices.links = Count::of(2);
+    choices.http = Some(Http::Off);
     Settings::of(&choices, &Choices::none())
 }
 
@@ -237,9 +258,9 @@ fn serve_acts<R, F, T>(
     renews: &'static str,
 ) -> Status
 where
-    R: Threads + Wait + Clock + Sync + Abort,
-    F: Files,
-    T: Clock + Send + Drop,
+    R: Threads + RandomSource + Wait + Clock + Sync + Abort,
+    F: Files + Send + Sync,
+    T: Wait + Clock + Send + Drop,
 {
     let flags = Flags {
         stops: flag(rt, alloc),
@@ -268,12 +289,9 @@ where
             text: renews,
             is_done: false,
         },
-        sink: Taker {
-            rt,
-            lines,
-            faults: 0,
-        },
+        sink: Taker::new(rt, lines),
         told: Told::new(alloc, clock).expect(rt, "there is memory"),
+        web: None::<Web<Acts<R, F>>>,
     };
     serve(rt, alloc, service, &settings(), flags)
 }
@@ -288,13 +306,11 @@ fn served_so<R, F>(
     wanted: &[(&str, usize)],
 )
 where
-    R: Threads + Wait + Clock + Sync + Abort,
-    F: Files + Clock + AllocGlobal + Clone + Send + Drop,
+    R: Threads + RandomSource + Wait + Clock + Sync + Abort,
+    F: Files + Wait + Clock + AllocGlobal + Clone + Send + Sync + Drop,
 {
     let alloc = files.alloc();
-    let lines = Lines {
-        octets: Mutex::new(Vec::new(alloc)),
-    };
+    let lines = Lines::new(alloc);
     let clock = files.clone().expect(rt, "there is memory");
     let status = serve_acts(rt, alloc, &files, clock, &lines, acts, openings, renews);
     assert!(rt; status.number() == 0);
@@ -357,8 +373,8 @@ fn a_service_begins_anew(rt: HostRuntime) {
 
 /// Stores in memory, each of which is new.
 #[derive(Drop)]
-struct MemStores {
-    alloc: Global,
+pub(crate) struct MemStores {
+    pub(crate) alloc: Global,
 }
 
 impl Stores for MemStores {
@@ -370,7 +386,11 @@ impl Stores for MemStores {
 }
 
 // A folder with the file of a fleet, whose path it gives.
-fn make_folder<F: Files + AllocGlobal>(files: &F, folder: &str, text: &str) -> io::Result<String> {
+pub(crate) fn make_folder<F: Files + AllocGlobal>(
+    files: &F,
+    folder: &str,
+    text: &str,
+) -> io::Result<String> {
     fs::create_dir(files, folder)?;
     let path = format!(in files.alloc(); "{folder}/fleet")?;
     fs::write(files, path.as_str(), text)?;
@@ -384,10 +404,10 @@ fn over_folder<'w, R, F>(
     lines: &'w Lines,
     folder: &'static str,
     door: Acts<'w, R, F>,
-) -> OverFolder<'static, F, MemStores, Acts<'w, R, F>, Taker<'w, R>, F>
+) -> OverFolder<'static, F, MemStores, Acts<'w, R, F>, Taker<'w, R>, F, Acts<'w, R, F>>
 where
     R: Wait + Clock + Abort,
-    F: Files<File = File> + Clock + AllocGlobal + Clone + Drop,
+    F: Files<File = File> + Wait + Clock + AllocGlobal + Clone + Drop,
 {
     let alloc = files.alloc();
     let (text, fleet) = read_fleet_of(files, folder)
@@ -402,12 +422,9 @@ where
         fleet,
         clerk: clerk_of(files, folder).ok().expect(rt, "it is a folder"),
         door,
-        sink: Taker {
-            rt,
-            lines,
-            faults: 0,
-        },
+        sink: Taker::new(rt, lines),
         told: Told::new(alloc, clock).expect(rt, "there is memory"),
+        web: None,
     }
 }
 
@@ -420,15 +437,13 @@ fn served_over<R, F>(
     wanted: &[(&str, usize)],
 )
 where
-    R: Threads + Wait + Clock + Sync + Send + Clone + Drop + Abort,
-    F: Files<File = File> + Clock + AllocGlobal + Clone + Send + Drop,
+    R: Threads + RandomSource + Wait + Clock + Sync + Send + Clone + Drop + Abort,
+    F: Files<File = File> + Wait + Clock + AllocGlobal + Clone + Send + Sync + Drop,
     F::Dir: Send,
 {
     let alloc = files.alloc();
     let path = make_folder(&files, folder, BOUND).expect(rt, "it can be made");
-    let lines = Lines {
-        octets: Mutex::new(Vec::new(alloc)),
-    };
+    let lines = Lines::new(alloc);
     let flags = Flags {
         stops: flag(rt, alloc),
         ends: flag(rt, alloc),
