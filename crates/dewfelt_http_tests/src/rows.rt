@@ -67,8 +67,7 @@ fn read_page<R: Abort + Wait + Clock + RandomSource + AllocGlobal>(
 ) -> Option<u64> {
     let request = format!(in rt.alloc();
         "GET /api/v1/vehicles/13912345678/rows?from={from}&limit={limit}{TOKEN}"
-    )
-    .expect(rt, "memory");
+    ).expect(rt, "memory");
     let board = board(rt, rt.alloc());
     let page = answer(rt, &board, kept, request.as_bytes());
     text.push_str(body(rt, page.as_str())).expect(rt, "memory");
@@ -126,11 +125,27 @@ const ASKED: &[(&str, &str, &str)] = &[
         "HTTP/1.1 400",
         "\"parameter\":\"from\"",
     ),
-    ("13912345678/rows?from=01", "HTTP/1.1 400", "\"parameter\":\"from\""),
-    ("13912345678/rows?limit=0", "HTTP/1.1 400", "\"parameter\":\"limit\""),
-    ("13912345678/rows?limit=1001", "HTTP/1.1 400", "\"parameter\":\"limit\""),
+    (
+        "13912345678/rows?from=01",
+        "HTTP/1.1 400",
+        "\"parameter\":\"from\"",
+    ),
+    (
+        "13912345678/rows?limit=0",
+        "HTTP/1.1 400",
+        "\"parameter\":\"limit\"",
+    ),
+    (
+        "13912345678/rows?limit=1001",
+        "HTTP/1.1 400",
+        "\"parameter\":\"limit\"",
+    ),
     ("13912345678/rows?to=1", "HTTP/1.1 400", "does not know"),
-    ("13912345678/rows?from=1&from=1", "HTTP/1.1 400", "stands twice"),
+    (
+        "13912345678/rows?from=1&from=1",
+        "HTTP/1.1 400",
+        "stands twice",
+    ),
     ("13912345679/rows", "HTTP/1.1 404", "\"status\":404"),
     ("13912345678/rows/", "HTTP/1.1 404", "no such path"),
 ];
@@ -141,8 +156,7 @@ fn answers_so<R: Abort + Wait + Clock + RandomSource + AllocGlobal>(
     asked: &(&str, &str, &str),
 ) -> bool {
     let (path, front, part) = *asked;
-    let request =
-        format!(in rt.alloc(); "GET /api/v1/vehicles/{path}{TOKEN}").expect(rt, "memory");
+    let request = format!(in rt.alloc(); "GET /api/v1/vehicles/{path}{TOKEN}").expect(rt, "memory");
     let board = board(rt, rt.alloc());
     let answer = answer(rt, &board, kept, request.as_bytes());
     answer.as_str().starts_with(front) && answer.as_str().contains(part)
@@ -152,7 +166,7 @@ fn answers_so<R: Abort + Wait + Clock + RandomSource + AllocGlobal>(
 fn each_question_for_rows_has_its_answer(rt: HostRuntime) {
     let kept = kept(&rt, rt.alloc());
     for asked in ASKED {
-        assert!(rt; answers_so(&rt, &kept, asked), "{asked.0}");
+        assert!(rt; answers_so(&rt, &kept, asked), "{}", asked.0);
     }
 }
 

@@ -20,8 +20,7 @@ const BATCH: &[u8] =
     b"\0\x02\0\0\x1c\0\0\0\0\0\0\0\x03\x01\x58\xd9\x40\x06\xca\xbd\x30\0\x32\x01\xf4\0\xb4\x26\x11\x30\x15\x05\x30\0\x1c\0\0\0\0\0\0\0\x0f\0\x0f\x42\x40\0\x1e\x84\x80\0\0\0\x05\x01\x67\x26\x11\x30\x15\x06\0";
 
 // A position in the month 13, where the terminal does not know where it is.
-const NO_MOMENT: &[u8] =
-    b"\0\0\0\0\0\0\0\0\0\0\0\0\0\0\0\0\0\x07\0\0\0\0\x26\x13\x30\x15\x06\x30";
+const NO_MOMENT: &[u8] = b"\0\0\0\0\0\0\0\0\0\0\0\0\0\0\0\0\0\x07\0\0\0\0\x26\x13\x30\x15\x06\x30";
 
 // 22.700001 north, 113.960000 east, 60 m, 10.0 km/h, 1 degree, 15:07:00.
 const LAST: &[u8] =
@@ -57,7 +56,8 @@ const GPX: &str = "<?xml version=\"1.0\" encoding=\"UTF-8\"?>
 </trkseg></trk></gpx>
 ";
 
-const GEOJSON: &str = "{\"type\":\"Feature\",\"id\":\"013912345678\",\"geometry\":{\"type\":\"LineString\",\"coordinates\":[[113.950000,22.600000],[-2.000000,-1.000000],[0.000000,0.000000]]},\"properties\":{\"phone\":\"013912345678\",\"plate_octets\":\"d4c1414130303231\",\"from\":\"2026-11-30T15:05:30+08:00\",\"to\":\"2026-11-30T15:06:59+08:00\",\"more\":false,\"ordered\":true,\"times\":[\"2026-11-30T15:05:30+08:00\",\"2026-11-30T15:06:00+08:00\",null],\"speeds_kmh\":[50.0,0.5,0.0],\"directions\":[180,359,0],\"status\":[3,15,0],\"numbers\":[7,7,9],\"points\":null}}";
+const GEOJSON: &str =
+    "{\"type\":\"Feature\",\"id\":\"013912345678\",\"geometry\":{\"type\":\"LineString\",\"coordinates\":[[113.950000,22.600000],[-2.000000,-1.000000],[0.000000,0.000000]]},\"properties\":{\"phone\":\"013912345678\",\"plate_octets\":\"d4c1414130303231\",\"from\":\"2026-11-30T15:05:30+08:00\",\"to\":\"2026-11-30T15:06:59+08:00\",\"more\":false,\"ordered\":true,\"times\":[\"2026-11-30T15:05:30+08:00\",\"2026-11-30T15:06:00+08:00\",null],\"speeds_kmh\":[50.0,0.5,0.0],\"directions\":[180,359,0],\"status\":[3,15,0],\"numbers\":[7,7,9],\"points\":null}}";
 
 // A query, how its answer begins, and what stands in it.
 type Asked = (&'static str, &'static str, &'static str);
@@ -123,7 +123,11 @@ const PAGES: &[Asked] = &[
 ];
 
 const WRONG: &[Asked] = &[
-    ("13912345678/track", "HTTP/1.1 400", "\"parameter\":\"from\""),
+    (
+        "13912345678/track",
+        "HTTP/1.1 400",
+        "\"parameter\":\"from\"",
+    ),
     (
         "13912345678/track?from=2026-11-30",
         "HTTP/1.1 400",
@@ -208,31 +212,28 @@ fn has_both<R: Abort + Wait + Clock + RandomSource + AllocGlobal>(
 fn is_whole<R: Abort + Wait + Clock + RandomSource + AllocGlobal>(rt: &R, asked: &Asked) -> bool {
     let (path, part, whole) = *asked;
     let answer = said(rt, DAY, path);
-    let (head, body) = answer
-        .as_str()
-        .split_once("\r\n\r\n")
-        .expect(rt, "a head");
+    let (head, body) = answer.as_str().split_once("\r\n\r\n").expect(rt, "a head");
     head.starts_with("HTTP/1.1 200") && head.contains(part) && body == whole
 }
 
 #[test]
 fn a_day_is_told_in_each_form(rt: HostRuntime) {
     for asked in WHOLE {
-        assert!(rt; is_whole(&rt, asked), "{asked.0}");
+        assert!(rt; is_whole(&rt, asked), "{}", asked.0);
     }
 }
 
 #[test]
 fn a_range_has_the_fixes_of_its_moments(rt: HostRuntime) {
     for asked in RANGES {
-        assert!(rt; has_both(&rt, DAY, asked), "{asked.0}");
+        assert!(rt; has_both(&rt, DAY, asked), "{}", asked.0);
     }
 }
 
 #[test]
 fn a_day_by_pages_has_each_fix_once(rt: HostRuntime) {
     for asked in PAGES {
-        assert!(rt; has_both(&rt, DAY, asked), "{asked.0}");
+        assert!(rt; has_both(&rt, DAY, asked), "{}", asked.0);
     }
 }
 
@@ -245,17 +246,13 @@ fn the_last_page_has_no_link(rt: HostRuntime) {
 #[test]
 fn a_wrong_question_for_a_track_is_refused(rt: HostRuntime) {
     for asked in WRONG {
-        assert!(rt; has_both(&rt, DAY, asked), "{asked.0}");
+        assert!(rt; has_both(&rt, DAY, asked), "{}", asked.0);
     }
 }
 
 #[test]
 fn a_moment_that_goes_back_is_said(rt: HostRuntime) {
-    let rows = &[
-        (1, 0x0200, FIRST),
-        (2, 0x0200, NEXT_DAY),
-        (3, 0x0200, LAST),
-    ];
+    let rows = &[(1, 0x0200, FIRST), (2, 0x0200, NEXT_DAY), (3, 0x0200, LAST)];
     let asked = (
         "13912345678/track?from=2026-11-30&to=2026-11-30T23:59:59",
         "\"ordered\":false",
@@ -322,8 +319,14 @@ const MINUTES: &[(&str, &str)] = &[
 #[test]
 fn the_first_fix_of_a_range_is_found(rt: HostRuntime) {
     for (path, part) in MINUTES {
-        assert!(rt; said_of_minutes(&rt, path, false).as_str().contains(part), "{path}");
-        assert!(rt; said_of_minutes(&rt, path, true).as_str().contains(part), "{path}");
+        assert!(rt;
+            said_of_minutes(&rt, path, false).as_str().contains(part),
+            "{path}"
+        );
+        assert!(rt;
+            said_of_minutes(&rt, path, true).as_str().contains(part),
+            "{path}"
+        );
     }
 }
 
@@ -334,8 +337,7 @@ fn a_phone_that_is_forgotten_has_its_track(rt: HostRuntime) {
     board.lock(&rt).unseat(&LORRY);
     let request = format!(in rt.alloc();
         "GET /api/v1/vehicles/13912345678/track?from=2026-11-30&to=2026-12-01&limit=1{TOKEN}"
-    )
-    .expect(&rt, "memory");
+    ).expect(&rt, "memory");
     let answer = answer(&rt, &board, &kept, request.as_bytes());
     assert!(rt; answer.as_str().contains("\"plate_octets\":\"\""));
     assert!(rt; answer.as_str().contains("\"numbers\":[5]"));

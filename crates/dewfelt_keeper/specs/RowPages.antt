@@ -1,7 +1,6 @@
 -- Rows that are read by pages (this project's own). To be believed, but for AddsFrom, a step for the proofs.
 use Rattle.std.specs.Prelude.{◌≡◌, ◌+◌, ℕ, zero, suc, List, [], ◌∷◌, ◌++◌, Option, Some, None, filter, nat_le, take}
 use Rattle.jt_store.specs.declared.row.Row.{Row}
-use Rattle.jt_store.specs.Tables.{FindsFrom}
 
 -- the rows with numbers from this one on
 abbrev pub rows_at : ℕ → List Row → List Row
@@ -17,7 +16,7 @@ abbrev pub pages : ℕ → ℕ → ℕ → List Row → List Row
 pages zero most from rows = []
 pages (suc count) most from rows = take most (rows_at from rows) ++ pages count most (next_of from (take most (rows_at from rows))) rows
 
--- the row of the least number from this one on, put at the end of a page
+-- the first row from this number on, put at the end of a page
 abbrev pub AddsFrom : List Row → ℕ → List Row → List Row → Option ℕ → Type 0
-AddsFrom rows number old now None = FindsFrom rows number None × (now ≡ old)
-AddsFrom rows number old now (Some next) = (row : Row) × FindsFrom rows number (Some row) × (now ≡ old ++ row ∷ []) × (next ≡ row.number + 1)
+AddsFrom rows number old now None = (rows_at number rows ≡ []) × (now ≡ old)
+AddsFrom rows number old now (Some next) = (row : Row) × (rows_at number rows ≡ row ∷ rows_at next rows) × (now ≡ old ++ row ∷ [])
