@@ -115,12 +115,13 @@ const PAGES: &[Asked] = &[
         "form=geojson&limit=2&after=9.0>; rel=\"next\"",
         "\"more\":true,\"ordered\":true,\"times\":[\"2026-11-30T15:06:00+08:00\",null]",
     ),
-    (
-        "13912345678/track?from=2026-11-30T00:00:00%2B08:00&to=2026-11-30T23:59:59%2B08:00&form=geojson&limit=2&after=9.0",
-        "HTTP/1.1 200",
-        "\"more\":false,\"ordered\":true,\"times\":[\"2026-11-30T15:07:00+08:00\"]",
-    ),
 ];
+
+const LAST_PAGE: Asked = (
+    "13912345678/track?from=2026-11-30T00:00:00%2B08:00&to=2026-11-30T23:59:59%2B08:00&form=geojson&limit=2&after=9.0",
+    "HTTP/1.1 200",
+    "\"more\":false,\"ordered\":true,\"times\":[\"2026-11-30T15:07:00+08:00\"]",
+);
 
 const WRONG: &[Asked] = &[
     (
@@ -239,8 +240,9 @@ fn a_day_by_pages_has_each_fix_once(rt: HostRuntime) {
 
 #[test]
 fn the_last_page_has_no_link(rt: HostRuntime) {
-    let answer = said(&rt, DAY, PAGES[2].0);
-    assert!(rt; !answer.as_str().contains("link: "));
+    assert!(rt; has_both(&rt, DAY, &LAST_PAGE));
+    let last = said(&rt, DAY, LAST_PAGE.0);
+    assert!(rt; !last.as_str().contains("link: "));
 }
 
 #[test]
@@ -252,7 +254,7 @@ fn a_wrong_question_for_a_track_is_refused(rt: HostRuntime) {
 
 #[test]
 fn a_moment_that_goes_back_is_said(rt: HostRuntime) {
-    let rows = &[(1, 0x0200, FIRST), (2, 0x0200, NEXT_DAY), (3, 0x0200, LAST)];
+    let rows: &[Told] = &[(1, 0x0200, FIRST), (2, 0x0200, NEXT_DAY), (3, 0x0200, LAST)];
     let asked = (
         "13912345678/track?from=2026-11-30&to=2026-11-30T23:59:59",
         "\"ordered\":false",

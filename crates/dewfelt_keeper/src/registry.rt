@@ -135,11 +135,11 @@ impl<K: Keeper> Registry<K> {
         plate: &[u8],
     ) -> Result<Option<Phone>, StoreError>
         ensures barred { is_barred plates self.old.fleet.plates
-            (own_of self.old.fleet (option_map key_of (option_copied asks.entry))) plate.now ≡ true →
-            (result ≡ Ok (Some NOBODY)) × (self.new ≡ self.old) }
+            (own_of self.old.fleet (option_map key_of (option_copied asks.entry)))
+            plate.now ≡ true → (result ≡ Ok (Some NOBODY)) × (self.new ≡ self.old) }
         ensures answer { is_barred plates self.old.fleet.plates
-            (own_of self.old.fleet (option_map key_of (option_copied asks.entry))) plate.now ≡ false →
-            Reads (K.tables self.old.keeper) (K.tables self.new.keeper)
+            (own_of self.old.fleet (option_map key_of (option_copied asks.entry)))
+            plate.now ≡ false → Reads (K.tables self.old.keeper) (K.tables self.new.keeper)
             (λ t found. IsOwner plates t.registered plate.now found) result }
         ensures fleet { self.new.fleet ≡ self.old.fleet }
     {
@@ -157,11 +157,11 @@ impl<K: Keeper> Registry<K> {
         terminal: &[u8],
     ) -> Result<Option<Phone>, StoreError>
         ensures barred { is_barred terminals self.old.fleet.terminals
-            (own_of self.old.fleet (option_map key_of (option_copied asks.entry))) terminal.now ≡ true →
-            (result ≡ Ok (Some NOBODY)) × (self.new ≡ self.old) }
+            (own_of self.old.fleet (option_map key_of (option_copied asks.entry)))
+            terminal.now ≡ true → (result ≡ Ok (Some NOBODY)) × (self.new ≡ self.old) }
         ensures answer { is_barred terminals self.old.fleet.terminals
-            (own_of self.old.fleet (option_map key_of (option_copied asks.entry))) terminal.now ≡ false →
-            Reads (K.tables self.old.keeper) (K.tables self.new.keeper)
+            (own_of self.old.fleet (option_map key_of (option_copied asks.entry)))
+            terminal.now ≡ false → Reads (K.tables self.old.keeper) (K.tables self.new.keeper)
             (λ t found. IsOwner terminals t.registered terminal.now found) result }
         ensures fleet { self.new.fleet ≡ self.old.fleet }
     {

@@ -62,7 +62,8 @@ pub fn page_of_rows<K: Keeper>(
 /// there on are the rows from its number on, and so many pages of so many rows are, where they have room for them.
 pub fn law_row_pages()
     ensures one { (from most : ℕ) (rows : List Stored) → Rises 0 rows → rows_at from rows
-        ≡ take most (rows_at from rows) ++ rows_at (next_of from (take most (rows_at from rows))) rows }
+        ≡ take most (rows_at from rows)
+        ++ rows_at (next_of from (take most (rows_at from rows))) rows }
     ensures all { (count most from : ℕ) (rows : List Stored) → Rises 0 rows →
         length (rows_at from rows) ≤ count * most → pages count most from rows ≡ rows_at from rows }
     ensures whole { (rows : List Stored) → rows_at 0 rows ≡ rows }
