@@ -8,6 +8,7 @@ ghost use Rattle.jt_value.specs.declared.ids.TheConstants.{POSITION};
 
 use jt_position::{Fixed, ItemView, PositionView, Positions, view_batch, view_position};
 use jt_value::ids;
+use std::alloc::{AllocError, Global};
 
 /// A fix that a row has.
 #[derive(Clone, Copy)]
@@ -78,5 +79,47 @@ pub fn last_fix(number: u64, id: u16, body: &[u8]) -> Option<Found>
         ids::POSITION => Some(take_fix(number, 0, view_position(body).ok()?)),
         ids::BATCH => last_of(number, view_batch(body).ok()?.fixes),
         _ => None,
+    }
+}
+
+// The fixes of a batch.
+fn fixes_of(
+    alloc: Global,
+    number: u64,
+    positions: Positions<'_>,
+) -> Result<Vec<LastFix>, AllocError> {
+    let mut fixes = Vec::new(alloc);
+    let mut at: u16 = 0;
+    for view in positions {
+        fixes.push(take_fix(number, at, view).fix)?;
+        at = at.saturating_add(1);
+    }
+    Ok(fixes)
+}
+
+// The fix of a position.
+fn fix_of(alloc: Global, number: u64, view: PositionView<'_>) -> Result<Vec<LastFix>, AllocError> {
+    let mut fixes = Vec::new(alloc);
+    fixes.push(take_fix(number, 0, view).fix)?;
+    Ok(fixes)
+}
+
+/// The fixes of a row of this number, id and body, in order: none where the body does not read as one of its id.
+pub fn row_fixes(
+    alloc: Global,
+    number: u64,
+    id: u16,
+    body: &[u8],
+) -> Result<Vec<LastFix>, AllocError> {
+    match id {
+        ids::POSITION => match view_position(body) {
+            Ok(view) => fix_of(alloc, number, view),
+            Err(_) => Ok(Vec::new(alloc)),
+        },
+        ids::BATCH => match view_batch(body) {
+            Ok(batch) => fixes_of(alloc, number, batch.fixes),
+            Err(_) => Ok(Vec::new(alloc)),
+        },
+        _ => Ok(Vec::new(alloc)),
     }
 }

@@ -26,7 +26,7 @@ pub use counters::{Counters, RegistrationResult, UnitReply};
 pub use cursor::Cursor;
 pub use digits::{digits_of, phone_text};
 pub use ending::Ending;
-pub use fixes::{Found, LastFix, last_fix};
+pub use fixes::{Found, LastFix, last_fix, row_fixes};
 pub use fleet_line::vehicle_line;
 pub use name::{NAME_ROOM, Name};
 pub use order::{Order, Page, law_pages};

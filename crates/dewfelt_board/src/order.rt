@@ -64,9 +64,11 @@ impl Order {
     /// A vehicle changed, whose last change has the number `was`; 0 where it never did. The number of its change, or None where
     /// memory was refused.
     pub fn renew(&mut self, was: u64, digits: [u8; 10]) -> Option<u64>
-        ensures number { IfSome result (λ number. (number ≡ self.old.last + 1) × (self.new.last ≡ number)) }
+        ensures number { IfSome result (λ number.
+            (number ≡ self.old.last + 1) × (self.new.last ≡ number)) }
         ensures changes { IfSome result (λ number. self.new.changes.items
-            ≡ without was self.old.changes.items ++ (record { number = number; digits = digits }) ∷ []) }
+            ≡ without was self.old.changes.items
+            ++ (record { number = number; digits = digits }) ∷ []) }
         ensures left { self.new.left ≡ self.old.left }
         ensures none { IfNone result (self.new.last ≡ self.old.last) }
     {
@@ -135,8 +137,8 @@ impl Order {
         cursor: Option<Cursor>,
         limit: usize,
     ) -> Result<Page, AllocError>
-        ensures changes { IfOk result (λ page. page.changes.items
-            ≡ take limit (behind (told_of self.now.left self.now.last cursor) self.now.changes.items)) }
+        ensures changes { IfOk result (λ page. page.changes.items ≡ take limit
+            (behind (told_of self.now.left self.now.last cursor) self.now.changes.items)) }
     {
         let (told, point, is_full) = self.start(cursor);
         let changes = self.first_behind(alloc, told, limit)?;

@@ -7,18 +7,23 @@ use crate::collections::{counts_text, ended_text, sessions_text, strangers_text}
 use crate::gate::{Access, Admitted};
 use crate::metrics::metrics_text;
 use crate::positions::{positions_text, vehicles_text};
-use crate::problem::{Problem, Refused};
+use crate::problem::{Problem, Refused, read_rows};
 use crate::query::{Query, Word};
 use crate::route::{Open, Route};
+use crate::rows::{RowsPage, rows_page};
 use crate::sending::{
     guard_headers, send, send_file, send_json, send_not_ready, send_problem, send_tagged,
 };
-use crate::server_json::{SESSIONS_LIMIT, VEHICLES_LIMIT, ready_text, server_text};
+use crate::sending_rows::{send_rows, send_track};
+use crate::server_json::{ROWS_LIMIT, SESSIONS_LIMIT, VEHICLES_LIMIT, ready_text, server_text};
 use crate::sight::Sight;
 use crate::site::{Base, Site};
+use crate::track::{Range, track_of};
+use crate::track_json::Owner;
+use crate::track_page::TrackPage;
 use crate::vehicle_json::{changes_text, vehicle_text};
 use bytes::Bytes;
-use dewfelt_board::Vehicle;
+use dewfelt_board::{Vehicle, phone_text};
 use http::header::HeaderValue;
 use http::{Request, StatusCode};
 use http_server::{Response, Service};
@@ -28,6 +33,8 @@ use std::alloc::{AllocError, Global};
 const USUAL_VEHICLES: u32 = 500;
 
 const NO_VEHICLE: &str = "no vehicle is registered with this phone";
+
+const NO_ROWS: &str = "no vehicle is registered with this phone, and it has no rows";
 
 const NO_MAP: &str = "there is no map.geojson in the folder of the service";
 
@@ -45,6 +52,8 @@ enum Said {
     Json(Vec<u8>),
     GeoJson(Vec<u8>),
     Metrics(Vec<u8>),
+    Rows(RowsPage),
+    Track(TrackPage),
     Map,
 }
 
@@ -77,6 +86,55 @@ impl<'a, S: Sight> Desk<'a, S> {
             Some(vehicle) => Ok(vehicle_text(self.alloc, &vehicle)?),
             None => Err(Problem::new(self.alloc, StatusCode::NOT_FOUND, NO_VEHICLE)),
         }
+    }
+
+    // The vehicle of a phone; None where it is not registered any more, and rows of it are kept.
+    fn known(&self, digits: &[u8; 10]) -> Result<Option<Vehicle>, Refused> {
+        if let Some(vehicle) = self.sight.vehicle(digits) {
+            return Ok(Some(vehicle));
+        }
+        let rows = self.sight.rows_from(self.alloc, digits, 0, 1);
+        if read_rows(self.alloc, rows)?.is_empty() {
+            return Err(Problem::new(self.alloc, StatusCode::NOT_FOUND, NO_ROWS));
+        }
+        Ok(None)
+    }
+
+    fn rows(&self, digits: &[u8; 10], query: Option<&str>) -> Result<RowsPage, Refused> {
+        let query = Query::read(self.alloc, query, &[Word::From, Word::Limit])?;
+        self.known(digits)?;
+        let from = query.from_number(self.alloc)?;
+        let limit = query.limit(self.alloc, ROWS_LIMIT, ROWS_LIMIT)?;
+        rows_page(self.alloc, self.sight, digits, from, limit)
+    }
+
+    // A track of a phone that is registered so, or not any more.
+    fn track_page(
+        &self,
+        digits: &[u8; 10],
+        vehicle: Option<&Vehicle>,
+        query: &Query,
+    ) -> Result<TrackPage, Refused> {
+        let range = Range::read(self.alloc, query)?;
+        let form = query.form(self.alloc)?;
+        let (plate, last) = match vehicle {
+            Some(vehicle) => (vehicle.plate.as_slice(), vehicle.last),
+            None => (b"".as_slice(), None),
+        };
+        let track = track_of(self.alloc, self.sight, digits, range, last)?;
+        let phone = phone_text(self.alloc, digits)?;
+        let owner = Owner {
+            phone: phone.as_str(),
+            plate,
+        };
+        Ok(TrackPage::of(self.alloc, owner, &track, form)?)
+    }
+
+    fn track(&self, digits: &[u8; 10], query: Option<&str>) -> Result<TrackPage, Refused> {
+        let allowed = &[Word::From, Word::To, Word::Form, Word::Limit, Word::After];
+        let query = Query::read(self.alloc, query, allowed)?;
+        let vehicle = self.known(digits)?;
+        self.track_page(digits, vehicle.as_ref(), &query)
     }
 
     fn sessions(&self, query: Option<&str>) -> Result<Vec<u8>, Refused> {
@@ -141,6 +199,8 @@ impl<'a, S: Sight> Desk<'a, S> {
             Route::Positions => Ok(Said::GeoJson(self.positions(query)?)),
             Route::Counts => Ok(Said::Json(self.counts(query)?)),
             Route::Sessions => Ok(Said::Json(self.sessions(query)?)),
+            Route::Rows(digits) => Ok(Said::Rows(self.rows(&digits, query)?)),
+            Route::Track(digits) => Ok(Said::Track(self.track(&digits, query)?)),
             _ => {
                 Query::read(self.alloc, query, &[])?;
                 self.say_plain(route, access)
@@ -209,6 +269,8 @@ impl<'a, S: Sight> Desk<'a, S> {
                 HeaderValue::from_static("text/plain; version=0.0.4; charset=utf-8"),
                 text,
             ),
+            Said::Rows(page) => send_rows(self.alloc, response, page),
+            Said::Track(page) => send_track(self.alloc, response, page),
             Said::Map => self.send_map(request, response),
         }
     }
@@ -303,7 +365,8 @@ impl<'a, S: Sight> Service for Desk<'a, S> {
     ghost use Rattle.dewfelt_http.specs.Access.{IsAnswered};
 
     // The desk stays as it is; who is not admitted is refused.
-    ghost answers = { λ old request response new. (new ≡ old) × IsAnswered old.site.now.gate request response };
+    ghost answers = { λ old request response new.
+        (new ≡ old) × IsAnswered old.site.now.gate request response };
 
     fn call(
         &mut self,

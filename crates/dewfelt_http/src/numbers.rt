@@ -14,6 +14,21 @@ fn put_number(writer: &mut Writer, text: &str) -> Result<(), AllocError> {
     }
 }
 
+/// Millionths of a degree as degrees with six decimals.
+pub fn degrees_text(alloc: Global, millionths: u32, is_below: bool) -> Result<String, AllocError> {
+    let sign = if is_below && millionths > 0 { "-" } else { "" };
+    let whole = millionths / MILLION;
+    let part = millionths % MILLION;
+    format!(in alloc; "{sign}{whole}.{part:06}")
+}
+
+/// Tenths with one decimal.
+pub fn tenths_text(alloc: Global, tenths: u32) -> Result<String, AllocError> {
+    let whole = tenths / 10;
+    let part = tenths % 10;
+    format!(in alloc; "{whole}.{part}")
+}
+
 /// Puts millionths of a degree as degrees with six decimals.
 pub fn put_degrees(
     alloc: Global,
@@ -21,18 +36,13 @@ pub fn put_degrees(
     millionths: u32,
     is_below: bool,
 ) -> Result<(), AllocError> {
-    let sign = if is_below && millionths > 0 { "-" } else { "" };
-    let whole = millionths / MILLION;
-    let part = millionths % MILLION;
-    let text = format!(in alloc; "{sign}{whole}.{part:06}")?;
+    let text = degrees_text(alloc, millionths, is_below)?;
     put_number(writer, text.as_str())
 }
 
 /// Puts tenths with one decimal.
 pub fn put_tenths(alloc: Global, writer: &mut Writer, tenths: u32) -> Result<(), AllocError> {
-    let whole = tenths / 10;
-    let part = tenths % 10;
-    let text = format!(in alloc; "{whole}.{part}")?;
+    let text = tenths_text(alloc, tenths)?;
     put_number(writer, text.as_str())
 }
 

@@ -5,6 +5,7 @@ ghost use Rattle.std.specs.Prelude.{◌≡◌, ◌≤◌};
 use crate::plain::{put_count, put_text};
 use http::StatusCode;
 use json::Writer;
+use jt_store::{Row, StoreError};
 use std::alloc::{AllocError, Global};
 
 /// Why a request is not answered as it asked.
@@ -51,6 +52,17 @@ impl From<AllocError> for Refused {
     }
 }
 
+const STORE_FAILED: &str = "the rows could not be read; ask again";
+
+/// The rows that a store gave, or why it gave none.
+pub fn read_rows(alloc: Global, rows: Result<Vec<Row>, StoreError>) -> Result<Vec<Row>, Refused> {
+    match rows {
+        Ok(rows) => Ok(rows),
+        Err(StoreError::Memory) => Err(Refused::Memory),
+        Err(_) => Err(Problem::new(alloc, StatusCode::SERVICE_UNAVAILABLE, STORE_FAILED)),
+    }
+}
+
 impl Problem {
     /// A problem of this status, 400 at least.
     pub fn new(alloc: Global, status: StatusCode, detail: &str) -> Refused
@@ -75,6 +87,17 @@ impl Problem {
             parameter: Some(parameter),
             is_method: false,
         })
+    }
+
+    /// The end of a range is before its start, or too far behind it.
+    pub fn range(alloc: Global) -> Refused {
+        match String::from_str(
+            alloc,
+            "to is at most 31 days behind from, and not before it",
+        ) {
+            Ok(detail) => Problem::parameter("to", detail),
+            Err(_) => Refused::Memory,
+        }
     }
 
     /// The path does not answer this method.

@@ -1,13 +1,20 @@
 //! The words of a query.
 
 use crate::problem::{Problem, Refused};
+use crate::times::read_time;
 use dewfelt_board::{Cursor, digits_of};
 use form_urlencoded::parse;
 use http::StatusCode;
 use std::alloc::Global;
 
 // A number in a query has so many digits at most.
-const NUMBER_DIGITS: usize = 9;
+const NUMBER_DIGITS: usize = 15;
+
+// The highest number of a session that a query may name.
+const SESSION_LIMIT: u64 = 999_999_999;
+
+// The highest number of a row that a query may name: none is there from it on.
+const ROW_NUMBER_LIMIT: u64 = 1 << 47;
 
 /// A word that a query may have. A path that has no use for it refuses it.
 #[derive(Clone, Copy, Debug, PartialEq, Eq)]
@@ -16,6 +23,55 @@ pub enum Word {
     Limit,
     After,
     Ended,
+    From,
+    To,
+    Form,
+}
+
+/// In which form a track is told.
+#[derive(Clone, Copy, Debug, PartialEq, Eq)]
+pub enum Form {
+    GeoJson,
+    Gpx,
+    Csv,
+}
+
+impl Form {
+    /// Its word in a query.
+    pub fn word(self) -> &'static str {
+        match self {
+            Form::GeoJson => "geojson",
+            Form::Gpx => "gpx",
+            Form::Csv => "csv",
+        }
+    }
+
+    fn named(word: &str) -> Option<Form> {
+        match word {
+            "geojson" => Some(Form::GeoJson),
+            "gpx" => Some(Form::Gpx),
+            "csv" => Some(Form::Csv),
+            _ => None,
+        }
+    }
+}
+
+/// Where a fix stands: the number of its row, and its place in it.
+#[derive(Clone, Copy, Debug, PartialEq, Eq, PartialOrd, Ord)]
+pub struct Place {
+    pub number: u64,
+    pub at: u16,
+}
+
+impl Place {
+    // Reads `77.3`.
+    fn read(text: &str) -> Option<Place> {
+        let (number, at) = text.split_once('.')?;
+        Some(Place {
+            number: number_of(number)?,
+            at: u16::try_from(number_of(at)?).ok()?,
+        })
+    }
 }
 
 impl Word {
@@ -25,6 +81,9 @@ impl Word {
             Word::Limit => "limit",
             Word::After => "after",
             Word::Ended => "ended",
+            Word::From => "from",
+            Word::To => "to",
+            Word::Form => "form",
         }
     }
 
@@ -34,6 +93,9 @@ impl Word {
             "limit" => Some(Word::Limit),
             "after" => Some(Word::After),
             "ended" => Some(Word::Ended),
+            "from" => Some(Word::From),
+            "to" => Some(Word::To),
+            "form" => Some(Word::Form),
             _ => None,
         }
     }
@@ -46,6 +108,9 @@ pub struct Query {
     limit: Option<String>,
     after: Option<String>,
     ended: Option<String>,
+    from: Option<String>,
+    to: Option<String>,
+    form: Option<String>,
 }
 
 // Whether a text is a number without zeros at the front.
@@ -58,7 +123,7 @@ fn is_number(text: &str) -> bool {
     octets.len() == 1 || !octets.starts_with(b"0")
 }
 
-fn number_of(text: &str) -> Option<u32> {
+fn number_of(text: &str) -> Option<u64> {
     if is_number(text) {
         text.parse().ok()
     } else {
@@ -81,7 +146,7 @@ fn repeated(alloc: Global, word: Word) -> Refused {
     }
 }
 
-fn out_of_range(alloc: Global, word: Word, low: u32, high: u32) -> Refused {
+fn out_of_range(alloc: Global, word: Word, low: u64, high: u64) -> Refused {
     let name = word.name();
     match format!(in alloc; "{name} is a number from {low} to {high}") {
         Ok(detail) => Problem::parameter(name, detail),
@@ -114,6 +179,9 @@ impl Query {
             Word::Limit => put(&mut self.limit, value),
             Word::After => put(&mut self.after, value),
             Word::Ended => put(&mut self.ended, value),
+            Word::From => put(&mut self.from, value),
+            Word::To => put(&mut self.to, value),
+            Word::Form => put(&mut self.form, value),
         }
     }
 
@@ -123,6 +191,9 @@ impl Query {
             Word::Limit => &self.limit,
             Word::After => &self.after,
             Word::Ended => &self.ended,
+            Word::From => &self.from,
+            Word::To => &self.to,
+            Word::Form => &self.form,
         };
         match room {
             Some(value) => Some(value.as_str()),
@@ -137,6 +208,9 @@ impl Query {
             limit: None,
             after: None,
             ended: None,
+            from: None,
+            to: None,
+            form: None,
         };
         for pair in parse(alloc, query.unwrap_or("").as_bytes()) {
             let (name, value) = pair?;
@@ -160,8 +234,8 @@ impl Query {
             return Ok(usual as usize);
         };
         match number_of(text) {
-            Some(number) if 1 <= number && number <= high => Ok(number as usize),
-            _ => Err(out_of_range(alloc, Word::Limit, 1, high)),
+            Some(number) if 1 <= number && number <= high as u64 => Ok(number as usize),
+            _ => Err(out_of_range(alloc, Word::Limit, 1, high as u64)),
         }
     }
 
@@ -171,8 +245,8 @@ impl Query {
             return Ok(0);
         };
         match number_of(text) {
-            Some(number) => Ok(number),
-            None => Err(out_of_range(alloc, Word::After, 0, 999_999_999)),
+            Some(number) if number <= SESSION_LIMIT => Ok(number as u32),
+            _ => Err(out_of_range(alloc, Word::After, 0, SESSION_LIMIT)),
         }
     }
 
@@ -208,6 +282,58 @@ impl Query {
             None => Ok(false),
             Some("1") => Ok(true),
             Some(_) => Err(wrong(alloc, Word::Ended, "ended is 1, or left out")),
+        }
+    }
+
+    /// The number from which on rows are told; 0 where it is missing.
+    pub fn from_number(&self, alloc: Global) -> Result<u64, Refused> {
+        let Some(text) = self.value(Word::From) else {
+            return Ok(0);
+        };
+        match number_of(text) {
+            Some(number) if number <= ROW_NUMBER_LIMIT => Ok(number),
+            _ => Err(out_of_range(alloc, Word::From, 0, ROW_NUMBER_LIMIT)),
+        }
+    }
+
+    /// The fix behind which a track goes on, where it is there.
+    pub fn after_place(&self, alloc: Global) -> Result<Option<Place>, Refused> {
+        let Some(text) = self.value(Word::After) else {
+            return Ok(None);
+        };
+        match Place::read(text) {
+            Some(place) => Ok(Some(place)),
+            None => Err(wrong(
+                alloc,
+                Word::After,
+                "after is a row's number, a point, and a place",
+            )),
+        }
+    }
+
+    /// The moment that a word names, in seconds since 1970.
+    pub fn time(&self, alloc: Global, word: Word) -> Result<u64, Refused> {
+        let Some(text) = self.value(word) else {
+            return Err(wrong(alloc, word, "a time is missing"));
+        };
+        match read_time(alloc, text)? {
+            Some(seconds) => Ok(seconds),
+            None => Err(wrong(
+                alloc,
+                word,
+                "a time is like 2026-11-30T06:00:00+08:00, from 1970 on, with + written %2B",
+            )),
+        }
+    }
+
+    /// The form of a track; GeoJSON where it is missing.
+    pub fn form(&self, alloc: Global) -> Result<Form, Refused> {
+        let Some(text) = self.value(Word::Form) else {
+            return Ok(Form::GeoJson);
+        };
+        match Form::named(text) {
+            Some(form) => Ok(form),
+            None => Err(wrong(alloc, Word::Form, "form is geojson, gpx or csv")),
         }
     }
 }

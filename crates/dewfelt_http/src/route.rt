@@ -31,6 +31,10 @@ pub enum Route {
     Vehicles,
     /// The vehicle of these digits.
     Vehicle([u8; 10]),
+    /// The rows of the phone of these digits.
+    Rows([u8; 10]),
+    /// The fixes of the phone of these digits.
+    Track([u8; 10]),
     Positions,
     Counts,
     Sessions,
@@ -41,7 +45,7 @@ pub enum Route {
 
 impl Route {
     /// How many there are.
-    pub const COUNT: usize = 10;
+    pub const COUNT: usize = 12;
 
     /// Their words in metrics, by their places.
     pub const WORDS: [&'static str; Route::COUNT] = [
@@ -55,6 +59,8 @@ impl Route {
         "strangers",
         "map",
         "metrics",
+        "rows",
+        "track",
     ];
 
     /// Its place among them.
@@ -70,6 +76,18 @@ impl Route {
             Route::Strangers => 7,
             Route::Map => 8,
             Route::Metrics => 9,
+            Route::Rows(_) => 10,
+            Route::Track(_) => 11,
+        }
+    }
+
+    // What a path behind the front of vehicles' paths stands for.
+    fn of_vehicle(rest: &str) -> Option<Route> {
+        match rest.split_once('/') {
+            None => Some(Route::Vehicle(digits_of(rest)?)),
+            Some((phone, "rows")) => Some(Route::Rows(digits_of(phone)?)),
+            Some((phone, "track")) => Some(Route::Track(digits_of(phone)?)),
+            Some(_) => None,
         }
     }
 
@@ -84,7 +102,7 @@ impl Route {
             "sessions" => Some(Route::Sessions),
             "strangers" => Some(Route::Strangers),
             "map" => Some(Route::Map),
-            _ => Some(Route::Vehicle(digits_of(rest.strip_prefix(VEHICLE)?)?)),
+            _ => Route::of_vehicle(rest.strip_prefix(VEHICLE)?),
         }
     }
 

@@ -64,6 +64,21 @@ fn put_body(response: &mut Response, text: Vec<u8>) -> Result<(), AllocError>
     }
 }
 
+/// Puts a header with this text. One that is no value of a header is left out.
+pub fn put_header(
+    alloc: Global,
+    response: &mut Response,
+    name: HeaderName,
+    text: &str,
+) -> Result<(), AllocError>
+    ensures status { OnOk result (response.new.status ≡ response.old.status) }
+{
+    match HeaderValue::from_bytes(alloc, text.as_bytes()) {
+        Ok(value) => response.add_header(name, value),
+        Err(_) => Ok(()),
+    }
+}
+
 /// Answers with a text of this kind.
 pub fn send(response: &mut Response, kind: HeaderValue, text: Vec<u8>) -> Result<(), AllocError>
     ensures status { OnOk result (response.new.status ≡ response.old.status) }
@@ -92,6 +107,10 @@ fn put_wanted(response: &mut Response, problem: &Problem) -> Result<(), AllocErr
         StatusCode::METHOD_NOT_ALLOWED => response.add_header(
             HeaderName::from_static("allow"),
             HeaderValue::from_static("GET, HEAD"),
+        ),
+        StatusCode::SERVICE_UNAVAILABLE => response.add_header(
+            HeaderName::from_static("retry-after"),
+            HeaderValue::from_static("2"),
         ),
         _ => Ok(()),
     }
@@ -135,10 +154,7 @@ fn put_tag(alloc: Global, response: &mut Response, tag: &str) -> Result<(), Allo
         HeaderName::from_static("cache-control"),
         HeaderValue::from_static("no-cache"),
     )?;
-    match HeaderValue::from_bytes(alloc, tag.as_bytes()) {
-        Ok(value) => response.add_header(HeaderName::from_static("etag"), value),
-        Err(_) => Ok(()),
-    }
+    put_header(alloc, response, HeaderName::from_static("etag"), tag)
 }
 
 // Whether the request has this state already.

@@ -13,11 +13,17 @@ pub const VEHICLES_LIMIT: u32 = 2_000;
 /// So many sessions an answer has at most (this project's own).
 pub const SESSIONS_LIMIT: u32 = 1_000;
 
+/// So many rows an answer has at most (this project's own).
+pub const ROWS_LIMIT: u32 = 1_000;
+
+/// So many fixes an answer has at most (this project's own).
+pub const FIXES_LIMIT: u32 = 20_000;
+
 /// A request's body has so many octets at most (this project's own).
 pub const BODY_LIMIT: usize = 65_536;
 
 // What the interface has. The page hides the rest.
-const PARTS: [&str; 9] = [
+const PARTS: [&str; 11] = [
     "server",
     "changes",
     "vehicles",
@@ -27,6 +33,8 @@ const PARTS: [&str; 9] = [
     "strangers",
     "map",
     "metrics",
+    "rows",
+    "track",
 ];
 
 fn access_word(access: Access) -> &'static str {
@@ -60,6 +68,8 @@ fn put_limits(writer: &mut Writer) -> Result<(), AllocError> {
     writer.begin_object()?;
     put_count(writer, "vehicles", VEHICLES_LIMIT as u64)?;
     put_count(writer, "sessions", SESSIONS_LIMIT as u64)?;
+    put_count(writer, "rows", ROWS_LIMIT as u64)?;
+    put_count(writer, "fixes", FIXES_LIMIT as u64)?;
     put_count(writer, "body", BODY_LIMIT as u64)?;
     writer.end_object()
 }

@@ -1,13 +1,28 @@
-//! How answers look at the board.
+//! How answers look at the board and the rows.
 
 use dewfelt_board::{
     Board, Changes, Counters, Cursor, EndedSession, OpenSession, Stranger, Vehicle,
 };
+use jt_store::{Row, StoreError};
+use jt_value::{Edition, Phone};
 use std::alloc::{AllocError, Global};
 use std::sync::{Mutex, Wait};
 use std::time::Clock;
 
-/// What answers see of the board. Nothing of it changes the board.
+/// What gives the rows of phones. Nothing of it changes them.
+pub trait HasRows {
+    /// At most so many rows of a phone from a number on, in order of their numbers; fewer only where no more is kept. At most 64
+    /// are asked for at a time, and after Full it is as after Failed.
+    fn rows_from(
+        &self,
+        alloc: Global,
+        phone: &Phone,
+        from: u64,
+        limit: usize,
+    ) -> Result<Vec<Row>, StoreError>;
+}
+
+/// What answers see of the board and the rows. Nothing of it changes them.
 pub trait Sight {
     /// The present moment, in seconds since 1970.
     fn now(&self) -> u64;
@@ -50,6 +65,15 @@ pub trait Sight {
 
     /// The terminals that were turned away, the one that came last at the end.
     fn strangers(&self, alloc: Global) -> Result<Vec<Stranger>, AllocError>;
+
+    /// As `HasRows::rows_from`, of the phone of these digits.
+    fn rows_from(
+        &self,
+        alloc: Global,
+        digits: &[u8; 10],
+        from: u64,
+        limit: usize,
+    ) -> Result<Vec<Row>, StoreError>;
 }
 
 /// How many there are.
@@ -60,21 +84,22 @@ pub struct Sizes {
     pub strangers: usize,
 }
 
-/// A board that others change meanwhile. Each call has it for itself, and copies what it gives.
+/// A board that others change meanwhile, and rows. Each call has the board for itself, and copies what it gives.
 #[derive(Clone, Copy)]
-pub struct Shared<'a, R> {
+pub struct Shared<'a, R, S> {
     rt: &'a R,
     board: &'a Mutex<Board>,
+    rows: &'a S,
 }
 
-impl<'a, R: Wait + Clock> Shared<'a, R> {
-    /// Looks at this board. The moments are those of the runtime's clock.
-    pub fn new(rt: &'a R, board: &'a Mutex<Board>) -> Shared<'a, R> {
-        Shared { rt, board }
+impl<'a, R: Wait + Clock, S: HasRows> Shared<'a, R, S> {
+    /// Looks at this board and these rows. The moments are those of the runtime's clock.
+    pub fn new(rt: &'a R, board: &'a Mutex<Board>, rows: &'a S) -> Shared<'a, R, S> {
+        Shared { rt, board, rows }
     }
 }
 
-impl<'a, R: Wait + Clock> Sight for Shared<'a, R> {
+impl<'a, R: Wait + Clock, S: HasRows> Sight for Shared<'a, R, S> {
     fn now(&self) -> u64 {
         match self.rt.since_1970() {
             Ok(since) => since.as_secs(),
@@ -138,5 +163,19 @@ impl<'a, R: Wait + Clock> Sight for Shared<'a, R> {
     fn strangers(&self, alloc: Global) -> Result<Vec<Stranger>, AllocError> {
         let board = self.board.lock(self.rt);
         board.strangers().as_slice().to_vec(alloc)
+    }
+
+    fn rows_from(
+        &self,
+        alloc: Global,
+        digits: &[u8; 10],
+        from: u64,
+        limit: usize,
+    ) -> Result<Vec<Row>, StoreError> {
+        let phone = Phone {
+            edition: Edition::E2019,
+            digits: *digits,
+        };
+        self.rows.rows_from(alloc, &phone, from, limit)
     }
 }

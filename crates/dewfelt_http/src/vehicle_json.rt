@@ -8,11 +8,11 @@ use json::Writer;
 use jt_value::Edition;
 use std::alloc::{AllocError, Global};
 
-// A bit of a position's status: the latitude is south.
-const SOUTH: u32 = 1 << 2;
+/// A bit of a position's status: the latitude is south.
+pub const SOUTH: u32 = 1 << 2;
 
-// A bit of a position's status: the longitude is west.
-const WEST: u32 = 1 << 3;
+/// A bit of a position's status: the longitude is west.
+pub const WEST: u32 = 1 << 3;
 
 /// The members of a row of `changes`, in order.
 pub const COLUMNS: [&str; 18] = [

@@ -1,5 +1,6 @@
 //! Who is answered, and what.
 
+use crate::kept::Kept;
 use dewfelt_board::Board;
 use dewfelt_http::{Desk, Gate, Requests, Shared, Site};
 use http_server::{Config, Connection};
@@ -12,7 +13,7 @@ use std::sync::atomic::AtomicBool;
 use std::sync::{Mutex, Wait};
 use std::time::Clock;
 
-const LORRY: Phone = Phone {
+pub const LORRY: Phone = Phone {
     edition: Edition::E2013,
     digits: [0, 0, 0, 0, 0x01, 0x39, 0x12, 0x34, 0x56, 0x78],
 };
@@ -36,16 +37,15 @@ pub fn board(rt: &impl Abort, alloc: Global) -> Mutex<Board> {
     Mutex::new(board)
 }
 
-// Whether what is answered to a request, read in one piece, begins so and has this in it.
-fn answers<R: Abort + Wait + Clock + RandomSource + AllocGlobal>(
+/// What is answered to a request, read in one piece, over a board and rows.
+pub fn answer<R: Abort + Wait + Clock + RandomSource + AllocGlobal>(
     rt: &R,
+    board: &Mutex<Board>,
+    rows: &Kept,
     request: &[u8],
-    front: &str,
-    part: &str,
-) -> bool {
-    let board = board(rt, rt.alloc());
+) -> String {
     let site = site(rt, rt.alloc());
-    let sight = Shared::new(rt, &board);
+    let sight = Shared::new(rt, board, rows);
     let mut desk = Desk::new(rt.alloc(), &site, &sight);
     let keys = RandomState::new(rt).expect(rt, "keys");
     let mut connection = Connection::new(rt.alloc(), keys, Config::default());
@@ -53,7 +53,19 @@ fn answers<R: Abort + Wait + Clock + RandomSource + AllocGlobal>(
     connection.read_from(&mut octets).expect(rt, "memory");
     connection.advance(&mut desk);
     let text = std::str::from_utf8(connection.output()).expect(rt, "text");
-    text.starts_with(front) && text.contains(part)
+    String::from_str(rt.alloc(), text).expect(rt, "memory")
+}
+
+// Whether what is answered to a request begins so and has this in it.
+fn answers<R: Abort + Wait + Clock + RandomSource + AllocGlobal>(
+    rt: &R,
+    request: &[u8],
+    front: &str,
+    part: &str,
+) -> bool {
+    let board = board(rt, rt.alloc());
+    let text = answer(rt, &board, &Kept::none(rt.alloc()), request);
+    text.as_str().starts_with(front) && text.as_str().contains(part)
 }
 
 // A request, how its answer begins, and what stands in it.

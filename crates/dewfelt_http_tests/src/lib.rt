@@ -6,4 +6,10 @@ mod boards;
 #[cfg(test)]
 mod gates;
 #[cfg(test)]
+mod kept;
+#[cfg(test)]
+mod rows;
+#[cfg(test)]
 mod sockets;
+#[cfg(test)]
+mod tracks;

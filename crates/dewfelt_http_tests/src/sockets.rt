@@ -1,6 +1,7 @@
 //! The interface over sockets of this machine.
 
 use crate::gates::{board, site};
+use crate::kept::Kept;
 use dewfelt_http::{HttpEnd, Shared, serve_http};
 use jt_service::ServiceListen;
 use std::io::{Read, Write};
@@ -40,7 +41,8 @@ fn a_browser_is_answered(rt: HostRuntime) {
     let (end, is_answered) = thread::join(
         &rt,
         || {
-            let sight = Shared::new(&rt, &board);
+            let rows = Kept::none(rt.alloc());
+            let sight = Shared::new(&rt, &board, &rows);
             serve_http(&rt, rt.alloc(), door, &site, &sight, &stops)
         },
         || is_answered(&rt, address, &stops),

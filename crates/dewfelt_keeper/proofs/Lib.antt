@@ -9,4 +9,5 @@ pub mod Binding
 pub mod Calls
 pub mod Pages
 pub mod Removing
+pub mod RowPaging
 pub mod Sweeping

@@ -1,4 +1,5 @@
 pub mod Registries
+pub mod RowPages
 pub mod Rules
 pub mod Shared
 pub mod Sweeps

@@ -4,7 +4,9 @@
 mod applying;
 mod paging;
 mod registry;
+mod row_pages;
 mod shared;
 
 pub use registry::{Forgetting, NOBODY, Registry};
+pub use row_pages::{law_row_pages, page_of_rows};
 pub use shared::SharedKeeper;

@@ -18,8 +18,9 @@ fn add_next<K: Registrations>(
     last: Option<&Phone>,
     page: &mut Seq<(Phone, Registered)>,
 ) -> Result<Option<Phone>, StoreError>
-    ensures answer { Reads (K.tables keeper.old) (K.tables keeper.new) (λ t found. AddsNext
-        t.registered (option_map key_of (option_copied last.entry)) page.old page.new found) result }
+    ensures answer { Reads (K.tables keeper.old) (K.tables keeper.new) (λ t found.
+        AddsNext t.registered (option_map key_of (option_copied last.entry))
+        page.old page.new found) result }
     ensures more { IfOk result (λ found.
         IfSome found (λ _. length page.new ≡ length page.old + 1)) }
 {

@@ -1,15 +1,17 @@
 //! A keeper under the rules of a fleet.
 
 ghost use Rattle.std.specs.Option.{option_copied, option_map};
-ghost use Rattle.std.specs.Prelude.{◌≡◌, Ok, Some, false, true, IfOk, IsTrue, OnErr, OnOk};
+ghost use Rattle.std.specs.Prelude.{◌≡◌, Ok, Some, false, true, IfOk, IsTrue, OnErr, OnOk, take};
 ghost use Rattle.jt_store.specs.Memory.{under};
 ghost use Rattle.jt_store.specs.Tables.{IsOwner, IsTrimmed, MayAppend, MayRegister, Reads, WhereKnown, Writes, plates, row_added, terminals};
 ghost use Rattle.jt_value.specs.Sameness.{key_of};
 ghost use Rattle.dewfelt_keeper.specs.Registries.{Forgets, IsPage, IsRegisteredOr, left_by};
+ghost use Rattle.dewfelt_keeper.specs.RowPages.{rows_at};
 ghost use Rattle.dewfelt_keeper.specs.Rules.{AreNamed, Becomes, IsApplied, IsOnTheWay, is_barred, own_of};
 
 use crate::applying::settle;
 use crate::paging::page_of;
+use crate::row_pages::page_of_rows;
 use dewfelt_fleet::Fleet;
 use jt_store::{Keeper, Registered, Registrations, Row, StoreError};
 use jt_value::{Edition, Phone, Seq};
@@ -133,11 +135,11 @@ impl<K: Keeper> Registry<K> {
         plate: &[u8],
     ) -> Result<Option<Phone>, StoreError>
         ensures barred { is_barred plates self.old.fleet.plates
-            (own_of self.old.fleet (option_map key_of (option_copied asks.entry))) plate.now ≡ true →
-            (result ≡ Ok (Some NOBODY)) × (self.new ≡ self.old) }
+            (own_of self.old.fleet (option_map key_of (option_copied asks.entry)))
+            plate.now ≡ true → (result ≡ Ok (Some NOBODY)) × (self.new ≡ self.old) }
         ensures answer { is_barred plates self.old.fleet.plates
-            (own_of self.old.fleet (option_map key_of (option_copied asks.entry))) plate.now ≡ false →
-            Reads (K.tables self.old.keeper) (K.tables self.new.keeper)
+            (own_of self.old.fleet (option_map key_of (option_copied asks.entry)))
+            plate.now ≡ false → Reads (K.tables self.old.keeper) (K.tables self.new.keeper)
             (λ t found. IsOwner plates t.registered plate.now found) result }
         ensures fleet { self.new.fleet ≡ self.old.fleet }
     {
@@ -155,11 +157,11 @@ impl<K: Keeper> Registry<K> {
         terminal: &[u8],
     ) -> Result<Option<Phone>, StoreError>
         ensures barred { is_barred terminals self.old.fleet.terminals
-            (own_of self.old.fleet (option_map key_of (option_copied asks.entry))) terminal.now ≡ true →
-            (result ≡ Ok (Some NOBODY)) × (self.new ≡ self.old) }
+            (own_of self.old.fleet (option_map key_of (option_copied asks.entry)))
+            terminal.now ≡ true → (result ≡ Ok (Some NOBODY)) × (self.new ≡ self.old) }
         ensures answer { is_barred terminals self.old.fleet.terminals
-            (own_of self.old.fleet (option_map key_of (option_copied asks.entry))) terminal.now ≡ false →
-            Reads (K.tables self.old.keeper) (K.tables self.new.keeper)
+            (own_of self.old.fleet (option_map key_of (option_copied asks.entry)))
+            terminal.now ≡ false → Reads (K.tables self.old.keeper) (K.tables self.new.keeper)
             (λ t found. IsOwner terminals t.registered terminal.now found) result }
         ensures fleet { self.new.fleet ≡ self.old.fleet }
     {
@@ -241,6 +243,21 @@ impl<K: Keeper> Registry<K> {
             return Err(StoreError::Failed);
         }
         self.keeper.append(alloc, phone, row)
+    }
+
+    /// As `page_of_rows` of the keeper.
+    pub fn rows_from(
+        &mut self,
+        alloc: Global,
+        phone: &Phone,
+        from: u64,
+        most: usize,
+    ) -> Result<Vec<Row>, StoreError>
+        ensures answer { Reads (K.tables self.old.keeper) (K.tables self.new.keeper) (λ t page.
+            page.items ≡ take most (rows_at from (t.rows (key_of phone.now)))) result }
+        ensures fleet { self.new.fleet ≡ self.old.fleet }
+    {
+        page_of_rows(alloc, &mut self.keeper, phone, from, most)
     }
 
     /// Removes the phone's registration, for an operator. That of a bound phone stays.
