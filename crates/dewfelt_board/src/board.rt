@@ -78,16 +78,31 @@ impl Board {
     pub fn begin_anew(&mut self, before: u32) {
         self.before = before;
         self.sessions.clear();
-        for vehicle in self.vehicles.values_mut() {
-            if vehicle.session.is_none() {
-                continue;
-            }
-            vehicle.session = None;
-            match self.order.renew(vehicle.changed, vehicle.digits) {
-                Some(number) => vehicle.changed = number,
-                None => raise(&mut self.counters.lost),
+        for _ in 0..self.vehicles.len() {
+            match self.a_linked_one() {
+                Some(digits) => self.unlink(&digits),
+                None => return,
             }
         }
+    }
+
+    // The digits of a vehicle whose session goes on.
+    fn a_linked_one(&self) -> Option<[u8; 10]> {
+        for vehicle in self.vehicles.values() {
+            if vehicle.session.is_some() {
+                let digits = vehicle.digits;
+                return Some(digits);
+            }
+        }
+        None
+    }
+
+    // The session of a vehicle goes on no more.
+    fn unlink(&mut self, digits: &[u8; 10]) {
+        if let Some(vehicle) = self.vehicles.get_mut(&Digits::of(digits)) {
+            vehicle.session = None;
+        }
+        self.touch(digits);
     }
 
     // The vehicle of these digits changed.

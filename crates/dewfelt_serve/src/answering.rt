@@ -2,7 +2,7 @@
 
 use crate::Told;
 use crate::interface::Interface;
-use dewfelt_http::{HttpEnd, Shared, serve_http};
+use dewfelt_http::{HasRows, HttpEnd, Shared, serve_http};
 use jt_service::{Door, Watch};
 use std::alloc::Global;
 use std::random::RandomSource;
@@ -21,20 +21,22 @@ fn fault_word(end: HttpEnd) -> Option<&'static str> {
 }
 
 /// Answers browsers until the interface is to end, and says so where it can't go on.
-pub(crate) fn answer_browsers<R, T, H>(
+pub(crate) fn answer_browsers<R, T, H, Q>(
     rt: &R,
     alloc: Global,
     watch: &Watch<Told<T>>,
     door: H,
     interface: &Interface,
+    rows: &Q,
 )
 where
     R: Threads + RandomSource + Wait + Clock + Sync,
     T: Wait + Clock + Drop,
     H: Door + Send + Drop,
     H::Link: Send,
+    Q: HasRows + Sync,
 {
-    let sight = Shared::new(rt, &*interface.board);
+    let sight = Shared::new(rt, &*interface.board, rows);
     let end = serve_http(rt, alloc, door, &interface.site, &sight, &*interface.ends);
     if let Some(word) = fault_word(end) {
         watch.told().lock(rt).say("fault", "http", word);

@@ -30,9 +30,10 @@ fn show_row<R: Wait, K: Keeper>(
     let Some(number) = keeper.last(alloc, phone)? else {
         return Ok(());
     };
-    let shown = board.lock(rt).last_of(phone);
-    if shown >= Some(number) {
-        return Ok(());
+    if let Some(shown) = board.lock(rt).last_of(phone) {
+        if shown >= number {
+            return Ok(());
+        }
     }
     if let Some(row) = keeper.row_at(alloc, phone, number)? {
         board
@@ -52,14 +53,10 @@ fn show<R: Wait, K: Registrations>(
     registered: &Registered,
 ) -> Result<(), StoreError> {
     let stays = registry.fleet().bound(phone).is_some();
-    let mut shown = board.lock(rt);
-    shown.seat(
-        phone,
-        registered.plate.as_slice(),
-        registered.terminal.as_slice(),
-    );
-    shown.bind(phone, stays);
-    drop(shown);
+    let plate = registered.plate.as_slice();
+    let terminal = registered.terminal.as_slice();
+    board.lock(rt).seat(phone, plate, terminal);
+    board.lock(rt).bind(phone, stays);
     show_row(rt, alloc, registry.keeper(), board, phone)
 }
 
@@ -71,11 +68,11 @@ fn show_page<R: Wait, K: Registrations + Drop>(
     board: &Mutex<Board>,
     after: Option<Phone>,
 ) -> Result<Option<Phone>, StoreError> {
-    let mut registry = registry.lock(rt);
-    let page = registry.page(alloc, after.as_ref(), PAGE)?;
+    let mut guard = registry.lock(rt);
+    let page = guard.page(alloc, after.as_ref(), PAGE)?;
     let mut last = None;
     for (phone, registered) in page.as_slice() {
-        show(rt, alloc, &mut registry, board, phone, registered)?;
+        show(rt, alloc, &mut *guard, board, phone, registered)?;
         last = Some(*phone);
     }
     Ok(last)
@@ -89,10 +86,10 @@ fn leave_out<R: Wait, K: Registrations + Drop>(
     board: &Mutex<Board>,
     vehicles: &[Vehicle],
 ) -> Result<(), StoreError> {
-    let mut registry = registry.lock(rt);
+    let mut guard = registry.lock(rt);
     for vehicle in vehicles {
         let phone = phone_of(vehicle);
-        if registry.registered(alloc, &phone)?.is_none() {
+        if guard.registered(alloc, &phone)?.is_none() {
             board.lock(rt).unseat(&phone);
         }
     }

@@ -1,6 +1,7 @@
 //! A service over a folder.
 
 use crate::interface::Web;
+use crate::kept_rows::KeptRows;
 use crate::living::Living;
 use crate::present::Present;
 use crate::serving::{Flags, Service, serve};
@@ -57,7 +58,10 @@ fn service_of<W, F, S, D, K, T, H>(
     rt: &W,
     alloc: Global,
     over: OverFolder<F, S, D, K, T, H>,
-) -> Result<Service<D, Living<W, S>, Tending<F, S::Keeper>, K, T, H>, AllocError>
+) -> Result<
+    Service<D, Living<W, S>, Tending<F, S::Keeper>, K, T, H, KeptRows<W, S::Keeper>>,
+    AllocError,
+>
 where
     W: Wait + Clone + Drop,
     F: Files + AllocGlobal + Clone + Drop,
@@ -81,6 +85,7 @@ where
     } = over;
     let present = Arc::new(alloc, Mutex::new(Present::of(text, board_of(&web)?)))?;
     let other = present.clone()?;
+    let rows = KeptRows::of(rt.clone()?, present.clone()?);
     Ok(Service {
         door,
         ground: Living::of(rt.clone()?, stores, alloc, folder, fleet.secret(), present)?,
@@ -88,6 +93,7 @@ where
         sink,
         told: told.telling(board_of(&web)?)?,
         web,
+        rows,
     })
 }
 

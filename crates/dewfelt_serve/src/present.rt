@@ -76,6 +76,13 @@ impl<K: Registrations + Drop> Present<K> {
         Ok(change)
     }
 
+    // Takes a phone that is registered no more off the board, where there is one.
+    fn unseat<R: Wait>(&self, rt: &R, phone: &Phone) {
+        if let Some(board) = &self.board {
+            board.lock(rt).unseat(phone);
+        }
+    }
+
     /// Removes the phone's registration, for an operator, where the store is open.
     pub(crate) fn forget<R: Wait>(
         &self,
@@ -86,11 +93,11 @@ impl<K: Registrations + Drop> Present<K> {
         let Some(registry) = &self.registry else {
             return Err(StoreError::Failed);
         };
-        let mut registry = registry.lock(rt);
-        let done = registry.forget(alloc, phone)?;
-        // (under the registry's lock, since the phone may be registered again at once)
-        if let (Forgetting::Done, Some(board)) = (done, &self.board) {
-            board.lock(rt).unseat(phone);
+        let mut guard = registry.lock(rt);
+        let done = guard.forget(alloc, phone)?;
+        if done == Forgetting::Done {
+            // (under the registry's lock, since the phone may be registered again at once)
+            self.unseat(rt, phone);
         }
         Ok(done)
     }

@@ -10,6 +10,7 @@ use crate::running::Run;
 use crate::saying::{say_http, say_start};
 use crate::writing::write_lines;
 use crate::{Status, Told};
+use dewfelt_http::HasRows;
 use dewfelt_log::empty_room;
 use dewfelt_settings::Settings;
 use jt_outside::Sink;
@@ -24,7 +25,7 @@ use std::time::Clock;
 
 /// All that a service is made of.
 #[derive(Drop)]
-pub struct Service<D, G, C, K, T, H> {
+pub struct Service<D, G, C, K, T, H, Q> {
     /// Where links come in.
     pub door: D,
     /// What hubs are made of.
@@ -37,6 +38,8 @@ pub struct Service<D, G, C, K, T, H> {
     pub told: Told<T>,
     /// The interface over HTTP, where there is one.
     pub web: Option<Web<H>>,
+    /// What that reads rows of.
+    pub rows: Q,
 }
 
 /// The flags of a service, which others have too.
@@ -113,42 +116,48 @@ where
 }
 
 // Starts the thread that answers browsers. Tells whether it could be made.
-fn start_answering<'t, E, R, T, H>(
+fn start_answering<'t, E, R, T, H, Q>(
     scope: &'t Scope<'t, E>,
     rt: &'t R,
     alloc: Global,
     watch: &'t Watch<Told<T>>,
     door: H,
     interface: &'t Interface,
+    rows: &'t Q,
 ) -> bool
 where
     R: Threads + RandomSource + Wait + Clock + Sync + 't,
     T: Wait + Clock + Send + Drop + 't,
     H: Door + Send + Drop + 't,
     H::Link: Send,
+    Q: HasRows + Sync + 't,
 {
     scope
-        .spawn(move || answer_browsers(rt, alloc, watch, door, interface))
+        .spawn(move || answer_browsers(rt, alloc, watch, door, interface, rows))
         .is_ok()
 }
 
 // Starts the thread that answers browsers, where there is an interface for them. Tells whether it could be made.
-fn start_web<'t, E, R, T, H>(
+fn start_web<'t, E, R, T, H, Q>(
     scope: &'t Scope<'t, E>,
     rt: &'t R,
     alloc: Global,
     watch: &'t Watch<Told<T>>,
     door: Option<H>,
     interface: Option<&'t Interface>,
+    rows: &'t Q,
 ) -> bool
 where
     R: Threads + RandomSource + Wait + Clock + Sync + 't,
     T: Wait + Clock + Send + Drop + 't,
     H: Door + Send + Drop + 't,
     H::Link: Send,
+    Q: HasRows + Sync + 't,
 {
     match (door, interface) {
-        (Some(door), Some(interface)) => start_answering(scope, rt, alloc, watch, door, interface),
+        (Some(door), Some(interface)) => {
+            start_answering(scope, rt, alloc, watch, door, interface, rows)
+        }
         _ => true,
     }
 }
@@ -165,10 +174,11 @@ fn finish<R: Wait, T: Wait + Clock + Drop>(
 }
 
 // Serves while a thread writes lines, one does the chores, and one answers browsers.
-fn serve_beside<R, D, G, C, T, K, H>(
+fn serve_beside<R, D, G, C, T, K, H, Q>(
     run: Run<R, T>,
     parts: Parts<D, G, C, H>,
     writer: Writer<K>,
+    rows: &Q,
     is_over: &AtomicBool,
     is_done: &AtomicBool,
 ) -> ServiceEnd
@@ -178,6 +188,7 @@ where
     D::Link: Send,
     H: Door + Send + Drop,
     H::Link: Send,
+    Q: HasRows + Sync,
     G: HasGround + Drop,
     G::Keeper: Send,
     C: Chores<T> + Send + Drop,
@@ -208,7 +219,7 @@ where
                 finish(rt, watch, ServiceEnd::NoThread, is_done);
                 return ServiceEnd::NoThread;
             }
-            if !start_web(scope, rt, alloc, watch, web_door, interface) {
+            if !start_web(scope, rt, alloc, watch, web_door, interface, rows) {
                 finish(rt, watch, ServiceEnd::NoThread, is_over);
                 return ServiceEnd::NoThread;
             }
@@ -236,10 +247,10 @@ fn parts_of<H: Drop>(web: Option<Web<H>>) -> (Option<H>, Option<Interface>) {
 /// Serves the links that come in at the door, does the chores, answers browsers, and writes lines to the sink, until the first flag is set, or no more
 /// links can be served. A store that does not open, or fails, is tried again. Answers how it ended, once the sink has taken the last
 /// lines.
-pub fn serve<R, D, G, C, K, T, H>(
+pub fn serve<R, D, G, C, K, T, H, Q>(
     rt: &R,
     alloc: Global,
-    service: Service<D, G, C, K, T, H>,
+    service: Service<D, G, C, K, T, H, Q>,
     settings: &Settings,
     flags: Flags,
 ) -> Status
@@ -249,6 +260,7 @@ where
     D::Link: Send,
     H: Door + Send + Drop,
     H::Link: Send,
+    Q: HasRows + Sync + Drop,
     G: HasGround + Drop,
     G::Keeper: Send,
     C: Chores<T> + Send + Drop,
@@ -265,6 +277,7 @@ where
         sink,
         mut told,
         web,
+        rows,
     } = service;
     let (web_door, interface) = parts_of(web);
     say_start(&mut told, settings);
@@ -288,5 +301,5 @@ where
         settings,
         interface: interface.as_ref(),
     };
-    status_of(serve_beside(run, parts, writer, &is_over, &is_done))
+    status_of(serve_beside(run, parts, writer, &rows, &is_over, &is_done))
 }

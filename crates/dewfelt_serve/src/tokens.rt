@@ -1,12 +1,10 @@
 //! The tokens of a folder.
 
-ghost use Rattle.std.specs.Prelude.{◌≡◌};
-
 use crate::folder::path_in;
 use crate::{Status, Trouble};
 use dewfelt_http::{TOKEN_DIGITS, make_token};
 use std::fs::OpenOptions;
-use std::io::{ErrorKind, Write};
+use std::io::ErrorKind;
 use std::os::unix::fs::OpenOptionsExt;
 use std::random::RandomSource;
 use std::rt::Files;
@@ -42,18 +40,21 @@ fn token_in(octets: &[u8]) -> Option<&[u8]> {
 
 // Makes a token, and the file that has it and its line's end. (under another name first, so that the file is never there in part)
 fn make<R: Files + RandomSource + AllocGlobal>(rt: &R, path: &str) -> io::Result<Vec<u8>> {
-    let token = make_token(rt)?;
-    let text = Vec::from_slice(rt.alloc(), &token)?;
+    let digits = make_token(rt)?;
+    let token = Vec::from_slice(rt.alloc(), &digits)?;
+    let mut line = token.clone()?;
+    line.push(b'\n')?;
     let new = format!(in rt.alloc(); "{path}.new")?;
     let _ = fs::remove_file(rt, new.as_str());
-    let mut options = OpenOptions::new();
-    options.write(true).create_new(true).mode(OWNERS);
-    let mut file = options.open(rt, new.as_str())?;
-    file.write_all(&token)?;
-    file.write_all(b"\n")?;
+    let file = OpenOptions::new()
+        .write(true)
+        .create_new(true)
+        .mode(OWNERS)
+        .open(rt, new.as_str())?;
     drop(file);
+    fs::write(rt, new.as_str(), line.as_slice())?;
     fs::rename(rt, new.as_str(), path)?;
-    Ok(text)
+    Ok(token)
 }
 
 // The token of a file; None where there is no file.

@@ -137,10 +137,12 @@ impl<R: Wait + Clock + Drop> Told<R> {
     where
         R: Clone,
     {
+        let Some(board) = board else {
+            return Ok(self);
+        };
+        let rt = self.rt.clone()?;
         let mut told = self;
-        if let Some(board) = board {
-            told.teller = Some(Teller::new(told.rt.clone()?, board));
-        }
+        told.teller = Some(Teller::new(rt, board));
         Ok(told)
     }
 

@@ -6,6 +6,7 @@ ghost use Rattle.jt_outside.specs.Sink.{TakesOctets, WriteHasCause};
 use crate::links::{TERMINAL, TestLink, peer};
 use crate::rows::{one, secret};
 use dewfelt_commands::Stores;
+use dewfelt_http::HasRows;
 use dewfelt_serve::{
     Chores, Flags, Ground, HasGround, OverFolder, Service, Status, Told, Web, clerk_of,
     read_fleet_of, serve, serve_over,
@@ -14,8 +15,8 @@ use dewfelt_settings::{Choices, Count, Http, Settings};
 use jt_outside::{Put, Sink};
 use jt_platform::Fleet;
 use jt_service::{Arrived, Door, Watch};
-use jt_store::{MemKeeper, StoreError};
-use jt_value::{Memory, Octets, Seq};
+use jt_store::{MemKeeper, Row, StoreError};
+use jt_value::{Memory, Octets, Phone, Seq};
 use std::alloc::Global;
 use std::fs::File;
 use std::marker::Model;
@@ -165,6 +166,22 @@ impl<'w, R: Wait + Clock, F: Files> Door for Acts<'w, R, F> {
     }
 }
 
+/// There are no rows that a browser reads.
+#[derive(Drop)]
+struct NoRows;
+
+impl HasRows for NoRows {
+    fn rows_from(
+        &self,
+        _alloc: Global,
+        _phone: &Phone,
+        _from: u64,
+        _limit: usize,
+    ) -> Result<Vec<Row>, StoreError> {
+        Err(StoreError::Failed)
+    }
+}
+
 /// What becomes of an opening of the store.
 #[derive(Clone, Copy)]
 enum Opening {
@@ -292,6 +309,7 @@ where
         sink: Taker::new(rt, lines),
         told: Told::new(alloc, clock).expect(rt, "there is memory"),
         web: None::<Web<Acts<R, F>>>,
+        rows: NoRows,
     };
     serve(rt, alloc, service, &settings(), flags)
 }
