@@ -109,7 +109,8 @@ fn leave_out_all<R: Wait, K: Registrations + Drop>(
         let Some(last) = vehicles.last() else {
             break;
         };
-        after = Some(last.digits);
+        let digits = last.digits;
+        after = Some(digits);
         leave_out(rt, alloc, registry, board, vehicles.as_slice())?;
     }
     Ok(())

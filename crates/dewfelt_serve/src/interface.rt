@@ -122,12 +122,19 @@ impl Read {
         settings: &Settings,
         address: SocketAddr,
     ) -> Result<Site, AllocError> {
+        let gate = self.gate(alloc, settings, address)?;
+        let Read {
+            tokens: _,
+            base,
+            run: _,
+            now,
+        } = self;
         Ok(Site {
-            gate: self.gate(alloc, settings, address)?,
-            started: self.now,
+            gate,
+            started: now,
             terminals: settings.listen,
             version: VERSION,
-            base: self.base,
+            base,
             requests: Requests::new(alloc)?,
             is_ready: AtomicBool::new(false),
         })

@@ -154,11 +154,12 @@ where
     H::Link: Send,
     Q: HasRows + Sync + 't,
 {
-    match (door, interface) {
-        (Some(door), Some(interface)) => {
-            start_answering(scope, rt, alloc, watch, door, interface, rows)
-        }
-        _ => true,
+    let Some(interface) = interface else {
+        return true;
+    };
+    match door {
+        Some(door) => start_answering(scope, rt, alloc, watch, door, interface, rows),
+        None => true,
     }
 }
 
