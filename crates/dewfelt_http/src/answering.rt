@@ -57,6 +57,22 @@ enum Said {
     Map,
 }
 
+// The plate of a phone that is registered.
+fn plate_of(vehicle: Option<&Vehicle>) -> &[u8] {
+    match vehicle {
+        Some(vehicle) => vehicle.plate.as_slice(),
+        None => &[],
+    }
+}
+
+// The number of the last row of a phone, where it is registered and has one.
+fn last_of(vehicle: Option<&Vehicle>) -> Option<u64> {
+    match vehicle {
+        Some(vehicle) => vehicle.last,
+        None => None,
+    }
+}
+
 impl<'a, S: Sight> Desk<'a, S> {
     /// Answers over this site and this sight.
     pub fn new(alloc: Global, site: &'a Site, sight: &'a S) -> Desk<'a, S> {
@@ -117,15 +133,11 @@ impl<'a, S: Sight> Desk<'a, S> {
     ) -> Result<TrackPage, Refused> {
         let range = Range::read(self.alloc, query)?;
         let form = query.form(self.alloc)?;
-        let (plate, last) = match vehicle {
-            Some(vehicle) => (vehicle.plate.as_slice(), vehicle.last),
-            None => (b"".as_slice(), None),
-        };
-        let track = track_of(self.alloc, self.sight, digits, range, last)?;
+        let track = track_of(self.alloc, self.sight, digits, range, last_of(vehicle))?;
         let phone = phone_text(self.alloc, digits)?;
         let owner = Owner {
             phone: phone.as_str(),
-            plate,
+            plate: plate_of(vehicle),
         };
         Ok(TrackPage::of(self.alloc, owner, &track, form)?)
     }

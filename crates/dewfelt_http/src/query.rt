@@ -57,7 +57,7 @@ impl Form {
 }
 
 /// Where a fix stands: the number of its row, and its place in it.
-#[derive(Clone, Copy, Debug, PartialEq, Eq, PartialOrd, Ord)]
+#[derive(Clone, Copy, Debug, PartialEq, Eq)]
 pub struct Place {
     pub number: u64,
     pub at: u16,

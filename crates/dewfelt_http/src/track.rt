@@ -53,12 +53,10 @@ impl Range {
 
     // Whether a fix belongs to a page before.
     fn is_told(&self, fix: &LastFix) -> bool {
-        let place = Place {
-            number: fix.number,
-            at: fix.at,
-        };
         match self.after {
-            Some(after) => place <= after,
+            Some(Place { number, at }) => {
+                fix.number < number || (fix.number == number && fix.at <= at)
+            }
             None => false,
         }
     }
@@ -177,13 +175,14 @@ impl Track {
 
 // The last moment of a row, where a fix of it has one.
 fn last_moment(alloc: Global, row: &Row) -> Result<Option<u64>, AllocError> {
+    let mut last = None;
     let fixes = row_fixes(alloc, row.number, row.id, row.body.as_slice())?;
-    Ok(
-        fixes
-            .iter()
-            .rev()
-            .find_map(|fix| seconds_of(&fix.fixed.time)),
-    )
+    for fix in &fixes {
+        if let Some(moment) = seconds_of(&fix.fixed.time) {
+            last = Some(moment);
+        }
+    }
+    Ok(last)
 }
 
 // The first row that has a moment, as its number and its last moment.

@@ -20,7 +20,8 @@ pub struct TrackPage {
 
 // A moment in a query.
 fn query_time(alloc: Global, seconds: u64) -> Result<String, AllocError> {
-    match std::str::from_utf8(&time_text(seconds)) {
+    let octets = time_text(seconds);
+    match std::str::from_utf8(&octets) {
         Ok(text) => text.replace(alloc, "+", "%2B"),
         Err(_) => Ok(String::new(alloc)),
     }

@@ -31,7 +31,8 @@ fn moment_text(alloc: Global, moment: Option<u64>) -> Result<String, AllocError>
     let Some(moment) = moment else {
         return Ok(String::new(alloc));
     };
-    match std::str::from_utf8(&time_text(moment)) {
+    let octets = time_text(moment);
+    match std::str::from_utf8(&octets) {
         Ok(text) => String::from_str(alloc, text),
         Err(_) => Ok(String::new(alloc)),
     }

@@ -2,7 +2,7 @@
 use Rattle.std.proofs.Common.{◌≡◌, ℕ, zero, suc, ◌+◌, ◌*◌, ◌<◌, ◌≤◌, List, [], ◌∷◌, ◌++◌, Bool, true, false, cond, IsTrue, nat_le, length, arith, refl, sym, ◌∙◌, ap, subst, take, filter, append_assoc, length-append, Option, Some, None, inl, inr}
 use Rattle.std.specs.Prelude.{◌⊎◌}
 use Rattle.std.proofs.lemmas.Bool.Decides.{nat_tests}
-use Rattle.std.proofs.lemmas.List.{append-nil}
+use Rattle.std.proofs.Math.Nat.{suc-mul, zero-mul}
 use Rattle.jt_store.specs.declared.row.Row.{Row}
 use Rattle.jt_store.specs.Tables.{FindsFrom, IsRow, Rises, Tables, AreRows, WhereKnown}
 use Rattle.dewfelt_keeper.specs.RowPages.{AddsFrom, next_of, pages, rows_at}
@@ -84,7 +84,7 @@ grown_none key from (Some x) = refl
 pub grown_more : (key : List ℕ) (from number next : ℕ) (page now : List Row) (t : Option Tables) → Grown key from page number t → WhereKnown t (λ x. AddsFrom (x.rows key) number page now (Some next)) → Grown key from now next t
 grown_more key from number next page now None grown adds = tt
 grown_more key from number next page now (Some x) grown adds =
-    grown ∙ ap (λ (ys : List Row). page ++ ys) adds.1.0 ∙ sym (append_assoc page (adds.0 ∷ []) (rows_at next (x.rows key))) ∙ ap (λ (ys : List Row). ys ++ rows_at next (x.rows key)) (sym adds.1.1)
+    grown ∙ ap (λ (ys : List Row). page ++ ys) adds.1 ∙ sym (append_assoc page (adds.0 ∷ []) (rows_at next (x.rows key))) ∙ ap (λ (ys : List Row). ys ++ rows_at next (x.rows key)) (sym adds.2)
 
 take_all : (most : ℕ) (page rest : List Row) → length page ≤ most → (most ≤ length page) ⊎ (rest ≡ []) → take most (page ++ rest) ≡ page
 take_all zero [] rest few ends = refl
@@ -141,11 +141,11 @@ rises_lower low n (x ∷ rows) below rise = (omega (arith, below, rise.0), rise.
 -- rows from a number on rise from it
 at_rises : (from n : ℕ) (rows : List Row) → Rises n rows → Rises from (rows_at from rows)
 at_rises from n [] rise = tt
-at_rises from n (x ∷ rows) rise = by_test (nat_le from x.number) refl
+at_rises from n (x ∷ rows) rise = by_test (nat_le from x.number) refl (at_rises from (x.number + 1) rows rise.1)
   where
-    by_test : (b : Bool) → nat_le from x.number ≡ b → Rises from (cond b (x ∷ rows_at from rows) (rows_at from rows))
-    by_test false is = at_rises from (x.number + 1) rows rise.1
-    by_test true is =
+    by_test : (b : Bool) → nat_le from x.number ≡ b → Rises from (rows_at from rows) → Rises from (cond b (x ∷ rows_at from rows) (rows_at from rows))
+    by_test false is more = more
+    by_test true is more =
         let within : from ≤ x.number = within_of from x.number is in
         (within, subst (Rises (x.number + 1)) (sym (all_at from (x.number + 1) rows (omega (arith, within)) rise.1)) rise.1)
 
@@ -170,21 +170,22 @@ full_or_all (suc most) (x ∷ rows) = onward (full_or_all most rows)
     onward (inl full) = inl (omega (arith, full))
     onward (inr all) = inr (omega (arith, all))
 
-left_over : (all part left most room : ℕ) → all ≡ part + left → all ≤ most + room → (most ≤ part) ⊎ (all ≤ part) → left ≤ room
+left_over : (all part left most room : ℕ) → all ≡ part + left → all ≤ room + most → (most ≤ part) ⊎ (all ≤ part) → left ≤ room
 left_over all part left most room cut few (inl full) = omega (arith, cut, few, full)
 left_over all part left most room cut few (inr none) = omega (arith, cut, few, none)
 
 pub all_pages : (count most from : ℕ) (rows : List Row) → Rises 0 rows → length (rows_at from rows) ≤ count * most → pages count most from rows ≡ rows_at from rows
-all_pages zero most from rows rise few = empty_is (rows_at from rows) few
+all_pages zero most from rows rise few = empty_is (rows_at from rows) (subst (λ n. length (rows_at from rows) ≤ n) (zero-mul most) few)
 all_pages (suc count) most from rows rise few =
-    let here : List Row = rows_at from rows in
-    let next : ℕ = next_of from (take most (rows_at from rows)) in
     let cut : rows_at from rows ≡ take most (rows_at from rows) ++ rows_at (next_of from (take most (rows_at from rows))) rows = one_page from most rows rise in
     let lengths = ap length cut ∙ length-append (take most (rows_at from rows)) (rows_at (next_of from (take most (rows_at from rows))) rows) in
     let left : length (rows_at (next_of from (take most (rows_at from rows))) rows) ≤ count * most
-    = left_over (length (rows_at from rows)) (length (take most (rows_at from rows))) (length (rows_at (next_of from (take most (rows_at from rows))) rows)) most (count * most) lengths few (full_or_all most (rows_at from rows)) in
+    = left_over (length (rows_at from rows)) (length (take most (rows_at from rows))) (length (rows_at (next_of from (take most (rows_at from rows))) rows)) most (count * most) lengths
+    (subst (λ n. length (rows_at from rows) ≤ n) (suc-mul count most) few) (full_or_all most (rows_at from rows)) in
     ap (λ (ys : List Row). take most (rows_at from rows) ++ ys) (all_pages count most (next_of from (take most (rows_at from rows))) rows rise left) ∙ sym cut
 
 pub from_none : (rows : List Row) → rows_at 0 rows ≡ rows
 from_none [] = refl
-from_none (x ∷ rows) = ap (λ (ys : List Row). x ∷ ys) (from_none rows)
+from_none (x ∷ rows) =
+    let test : nat_le 0 x.number ≡ true = test_of 0 x.number (omega arith) in
+    rw test (ap (λ (ys : List Row). x ∷ ys) (from_none rows))

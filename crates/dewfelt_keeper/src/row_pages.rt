@@ -1,6 +1,6 @@
 //! Pages of rows.
 
-ghost use Rattle.std.specs.Prelude.{◌≡◌, ◌≤◌, ◌<◌, ◌+◌, ◌^◌, ◌++◌, ℕ, List, IfOk, IfSome, length, take};
+ghost use Rattle.std.specs.Prelude.{◌≡◌, ◌≤◌, ◌<◌, ◌+◌, ◌*◌, ◌^◌, ◌++◌, ℕ, List, IfOk, IfSome, length, take};
 ghost use Rattle.jt_store.specs.declared.row.Row.{Row as Stored};
 ghost use Rattle.jt_store.specs.Tables.{Reads, Rises};
 ghost use Rattle.jt_value.specs.Sameness.{key_of};
