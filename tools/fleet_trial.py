@@ -2,13 +2,15 @@
 """Lets a fleet of terminals report to the built platform for a while, and compares what it stored with what they recorded:
 
     tools/fleet_trial.py PROGRAM [--minutes N] [--terminals N] [--links N] [--one-address] [--kills N] [--strangers N] [--copies N]
+                         [--http ADDRESS:PORT]
 
 PROGRAM is crates/dewfelt/out/dewfelt (`dewfelt serve`), or crates/jt808/out/jt808 (`platform`, up to 1,000 links in a run). Each
 terminal sends a heartbeat and a unit of one position each half minute, and dials anew each ten minutes; each two minutes a fifth
 of them dial anew at once. They have addresses of 127.1.0.0/16, or with --one-address all the same. First dials are spread over a
 minute. With --kills the program is killed so often at random moments and started at once. --strangers are links that are not let
 in, half of them of one address and half of a hundred: silent ones, garbage, half frames, a heartbeat each ten seconds, and
-connects that end at once. With --copies `PROGRAM copy` makes so many copies at random moments, and each has to be sound.
+connects that end at once. With --copies `PROGRAM copy` makes so many copies at random moments, and each has to be sound. With --http the
+service has its page there; without, it has none.
 
 It prints a line a minute, and at the end: how long answers took and how long terminals that dialled were let in after (median, 99th
 percentile, longest), the longest fdatasync of a file of its own beside, by how much the tool itself was late, resident memory, and
@@ -223,8 +225,8 @@ class Terminal:
 class Program:
     """The program over a folder, which goes on where it was killed."""
 
-    def __init__(self, path, folder, port, links):
-        self.path, self.folder, self.port, self.links = path, folder, port, links
+    def __init__(self, path, folder, port, links, http):
+        self.path, self.folder, self.port, self.links, self.http = path, folder, port, links, http
         self.is_service = os.path.basename(path) != "jt808"
         self.log = open(f"{folder}/log", "ab")
         self.start()
@@ -232,7 +234,7 @@ class Program:
     def start(self):
         if self.is_service:
             words = [self.path, "serve", self.folder, "--listen", f"127.0.0.1:{self.port}", "--links", str(self.links),
-                     "--until-input-ends"]
+                     "--http", self.http, "--until-input-ends"]
             given = subprocess.PIPE
         else:
             words = [self.path, "platform", "--port", str(self.port), "--sessions", "1024"]
@@ -434,7 +436,8 @@ class Trial:
 
     def go(self):
         self.ended = False
-        self.program = Program(os.path.abspath(self.words.program), self.folder, self.port, self.words.links)
+        self.program = Program(os.path.abspath(self.words.program), self.folder, self.port, self.words.links,
+                               self.words.http)
         timer = threading.Thread(target=self.time_syncs)
         timer.start()
         try:
@@ -468,6 +471,7 @@ def main():
     words.add_argument("--kills", type=int, default=0)
     words.add_argument("--strangers", type=int, default=0)
     words.add_argument("--copies", type=int, default=0)
+    words.add_argument("--http", default="none")
     words.add_argument("--one-address", action="store_true")
     resource.setrlimit(resource.RLIMIT_NOFILE, (8192, min(65536, resource.getrlimit(resource.RLIMIT_NOFILE)[1])))
     return Trial(words.parse_args()).go()

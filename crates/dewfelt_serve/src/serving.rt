@@ -245,9 +245,9 @@ fn parts_of<H: Drop>(web: Option<Web<H>>) -> (Option<H>, Option<Interface>) {
     }
 }
 
-/// Serves the links that come in at the door, does the chores, answers browsers, and writes lines to the sink, until the first flag is set, or no more
-/// links can be served. A store that does not open, or fails, is tried again. Answers how it ended, once the sink has taken the last
-/// lines.
+/// Serves the links that come in at the door, does the chores, answers browsers, and writes lines to the sink, until the first flag
+/// is set, or no more links can be served. A store that does not open, or fails, is tried again. Answers how it ended, once the sink
+/// has taken the last lines.
 pub fn serve<R, D, G, C, K, T, H, Q>(
     rt: &R,
     alloc: Global,

@@ -42,8 +42,8 @@ const NOTHING: Tally = Tally {
     failed: 0,
 };
 
-/// What is told of a service: lines that wait to be written, counts, and a board, where there is one. Of events that anybody can cause, and of those by which
-/// somebody is let in again on a session, ten a second have a line.
+/// What is told of a service: lines that wait to be written, counts, and a board, where there is one. Of events that anybody can
+/// cause, and of those by which somebody is let in again on a session, ten a second have a line.
 #[derive(Drop)]
 pub struct Told<R> {
     rt: R,
