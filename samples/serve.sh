@@ -35,7 +35,7 @@ while [ -z "$is_stopped" ]; do
     fi
     case $status in
     # It was stopped; or settings, words, fleet or folder are wrong, or no program is there: going on helps nobody.
-    0 | 1 | 2 | 3 | 9 | 125 | 126 | 127)
+    0 | 1 | 2 | 3 | 9 | 11 | 125 | 126 | 127)
         exit "$status"
         ;;
     *)
