@@ -175,10 +175,13 @@ where
     }
 }
 
-// The text of a request; None where it is not there any more. One that is too long reads as none.
+// The text of a request; None where it is not there any more. One that is too long, or no file, whose read could wait for ever, reads
+// as none.
 fn request_text<R: Files + AllocGlobal>(rt: &R, path: &str) -> io::Result<Option<String>> {
     match fs::metadata(rt, path) {
-        Ok(about) if about.len() > LONGEST => return Ok(Some(String::new(rt.alloc()))),
+        Ok(about) if about.len() > LONGEST || !about.is_file() => {
+            return Ok(Some(String::new(rt.alloc())));
+        }
         Ok(_) => {}
         Err(error) if error.kind() == ErrorKind::NotFound => return Ok(None),
         Err(error) => return Err(error),
@@ -239,6 +242,20 @@ impl Clerk {
         Ok(Clerk { commands })
     }
 
+    // The letters of the requests that lie there. The folder is made anew where somebody removed it.
+    fn letters<R>(&self, rt: &R) -> io::Result<Vec<String>>
+    where
+        R: Files + AllocGlobal + Clone + Drop,
+    {
+        match requests_in(rt, self.commands.as_str()) {
+            Err(error) if error.kind() == ErrorKind::NotFound => {
+                make_folder(rt, self.commands.as_str())?;
+                Ok(Vec::new(rt.alloc()))
+            }
+            found => found,
+        }
+    }
+
     /// Answers the requests that lie there, 256 at most. A request is gone once it is answered, or where its answer could not be
     /// written, which is the error then.
     pub fn look<R, O>(&self, rt: &R, office: &mut O) -> io::Result<()>
@@ -246,7 +263,7 @@ impl Clerk {
         R: Files + AllocGlobal + Clone + Drop,
         O: Office,
     {
-        for letters in &requests_in(rt, self.commands.as_str())? {
+        for letters in &self.letters(rt)? {
             self.answer_one(rt, letters.as_str(), office)?;
         }
         Ok(())

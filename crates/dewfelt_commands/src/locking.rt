@@ -2,6 +2,7 @@
 
 use crate::{Failed, Outcome};
 use std::fs::{File, OpenOptions, TryLockError};
+use std::io::ErrorKind;
 use std::rt::Files;
 
 /// A folder over which nothing else of `dewfelt` runs while this is there.
@@ -25,6 +26,10 @@ pub fn try_lock<R: Files<File = File> + AllocGlobal>(
         .open(rt, path.as_str());
     let file = match opened {
         Ok(file) => file,
+        // (what is not there is the folder, or what it is in)
+        Err(error) if matches!(error.kind(), ErrorKind::NotFound | ErrorKind::NotADirectory) => {
+            return Err(Failed::of_error(alloc, Outcome::Folder, folder, &error));
+        }
         Err(error) => return Err(Failed::of_error(alloc, Outcome::Folder, path.as_str(), &error)),
     };
     match file.try_lock() {

@@ -154,3 +154,23 @@ fn files_that_are_no_requests(rt: HostRuntime) -> Result<(), Fail> {
     fs::remove_dir_all(&rt, "clerk_others")?;
     Ok(())
 }
+
+// A folder of requests that somebody removed is there again, and requests in it are answered. What is no file is no request.
+#[test]
+fn a_folder_that_was_removed(rt: HostRuntime) -> Result<(), Fail> {
+    make_folder(&rt, "clerk_removed")?;
+    let clerk = Clerk::start(&rt, "clerk_removed")?;
+    let mut desk = Desk::new(rt.clone()?, &[0x11])?;
+    fs::remove_dir_all(&rt, "clerk_removed/commands")?;
+    clerk.look(&rt, &mut desk)?;
+    let found = answer(&rt, "clerk_removed", &clerk, &mut desk, "stop\n")?;
+    assert!(rt; found.as_str() == "status 0\n", "{found}");
+    assert!(rt; desk.is_stopped);
+    fs::remove_file(&rt, "clerk_removed/commands/0123456789abcdef.answer")?;
+    fs::create_dir(&rt, "clerk_removed/commands/0123456789abcdef.request")?;
+    clerk.look(&rt, &mut desk)?;
+    let found = text_in(&rt, "clerk_removed", ANSWER)?;
+    assert!(rt; found.as_str().starts_with("status 24\n"), "{found}");
+    fs::remove_dir_all(&rt, "clerk_removed")?;
+    Ok(())
+}
