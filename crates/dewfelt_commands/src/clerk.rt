@@ -63,6 +63,13 @@ fn make_folder<R: Files>(rt: &R, folder: &str) -> io::Result<()> {
     }
 }
 
+fn remove_any<R: Files + AllocGlobal>(rt: &R, path: &str) -> io::Result<()> {
+    match fs::remove_file(rt, path) {
+        Err(error) if error.kind() == ErrorKind::IsADirectory => fs::remove_dir_all(rt, path),
+        removed => removed,
+    }
+}
+
 // Removes what lies in a folder.
 fn clear<R: Files + AllocGlobal + Clone + Drop>(rt: &R, folder: &str) -> io::Result<()> {
     let alloc = rt.alloc();
@@ -73,7 +80,7 @@ fn clear<R: Files + AllocGlobal + Clone + Drop>(rt: &R, folder: &str) -> io::Res
         }
         for name in &names {
             let path = format!(in alloc; "{folder}/{name}")?;
-            fs::remove_file(rt, path.as_str())?;
+            remove_any(rt, path.as_str())?;
         }
     }
     Ok(())

@@ -1,8 +1,8 @@
 //! The lock of a folder.
 
+use crate::failed::is_not_there;
 use crate::{Failed, Outcome};
 use std::fs::{File, OpenOptions, TryLockError};
-use std::io::ErrorKind;
 use std::rt::Files;
 
 /// A folder over which nothing else of `dewfelt` runs while this is there.
@@ -27,7 +27,7 @@ pub fn try_lock<R: Files<File = File> + AllocGlobal>(
     let file = match opened {
         Ok(file) => file,
         // (what is not there is the folder, or what it is in)
-        Err(error) if matches!(error.kind(), ErrorKind::NotFound | ErrorKind::NotADirectory) => {
+        Err(error) if is_not_there(&error) => {
             return Err(Failed::of_error(alloc, Outcome::Folder, folder, &error));
         }
         Err(error) => return Err(Failed::of_error(alloc, Outcome::Folder, path.as_str(), &error)),

@@ -131,9 +131,12 @@ fn files_that_are_no_requests(rt: HostRuntime) -> Result<(), Fail> {
         "stop\n",
     )?;
     fs::write(&rt, "clerk_others/commands/note", "old")?;
+    fs::create_dir(&rt, "clerk_others/commands/folder")?;
+    fs::write(&rt, "clerk_others/commands/folder/note", "old")?;
     let clerk = Clerk::start(&rt, "clerk_others")?;
     assert!(rt; text_in(&rt, "clerk_others", REQUEST)?.as_str() == "none");
     assert!(rt; text_of(&rt, "clerk_others/commands/note")?.as_str() == "none");
+    assert!(rt; fs::read_dir(&rt, "clerk_others/commands")?.next().is_none());
     let names: &[&str] = &[
         "clerk_others/commands/0123456789abcdef.asking",
         "clerk_others/commands/0123456789abcdeF.request",
