@@ -34,6 +34,8 @@ CLEAN = (signal.SIGHUP, signal.SIGINT, signal.SIGTERM, signal.SIGPIPE)
 STOP, SOON = 90, 20
 FLEET = 'secret 6578616d706c65\nvehicle "粤B12345" "1234567" 013912345678\n'
 PHONE = bytes.fromhex("013912345678")
+# A shorter log has nothing in it: its header, that of a frame, and the smallest page, by the format of SQLite.
+SMALLEST_LOG = 32 + 24 + 512
 
 
 def in_unit(key):
@@ -66,7 +68,7 @@ class Folder:
     def is_stored_whole(self):
         """Whether nothing is in the log that is not in the file."""
         log = f"{self.path}/platform.db-wal"
-        return not os.path.exists(log) or os.path.getsize(log) == 0
+        return not os.path.exists(log) or os.path.getsize(log) < SMALLEST_LOG
 
 
 def soon(holds, seconds=SOON):
