@@ -210,9 +210,10 @@ where
         Request::Forget(phone) => put_forgot(rt, names, office, phone),
         Request::Copy => put_copy(rt, names, office),
         Request::Stop => {
-            put_outcome(rt, names, Outcome::Done)?;
+            let answered = put_outcome(rt, names, Outcome::Done);
+            // (also where the disk is full)
             office.stop();
-            Ok(())
+            answered
         }
     }
 }

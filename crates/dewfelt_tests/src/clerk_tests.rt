@@ -177,3 +177,19 @@ fn a_folder_that_was_removed(rt: HostRuntime) -> Result<(), Fail> {
     fs::remove_dir_all(&rt, "clerk_removed")?;
     Ok(())
 }
+
+// A service is stopped also where the answer can't be written.
+#[test]
+fn a_stop_that_is_not_answered(rt: HostRuntime) -> Result<(), Fail> {
+    make_folder(&rt, "clerk_unanswered")?;
+    let clerk = Clerk::start(&rt, "clerk_unanswered")?;
+    let mut desk = Desk::new(rt.clone()?, &[])?;
+    fs::create_dir(&rt, "clerk_unanswered/commands/0123456789abcdef.answering")?;
+    let request = format!(in rt.alloc(); "clerk_unanswered/{REQUEST}")?;
+    fs::write(&rt, request.as_str(), "stop\n")?;
+    assert!(rt; clerk.look(&rt, &mut desk).is_err());
+    assert!(rt; desk.is_stopped);
+    assert!(rt; text_in(&rt, "clerk_unanswered", REQUEST)?.as_str() == "none");
+    fs::remove_dir_all(&rt, "clerk_unanswered")?;
+    Ok(())
+}
