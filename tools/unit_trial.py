@@ -9,6 +9,7 @@ its threads where root runs this; anew RestartSec behind an end that is a failur
 SIGTERM, and SIGKILL 90 seconds later. The paths of the program and of the folder are those of the trial. Memory, the file system
 and the order of units are not tried.
 """
+import contextlib
 import os
 import re
 import resource
@@ -171,6 +172,13 @@ class Manager:
     def is_done(self):
         return not self.thread.is_alive()
 
+    def end(self):
+        """Leaves nothing running."""
+        self.is_stopping.set()
+        if self.run and self.run.poll() is None:
+            self.run.kill()
+        self.thread.join()
+
 
 class Loop:
     """Runs samples/serve.sh."""
@@ -182,7 +190,7 @@ class Loop:
 
     def service(self):
         """The process of the service, which is the shell's only child."""
-        found = subprocess.run(["pgrep", "-P", str(self.run.pid), "-x", "dewfelt"], capture_output=True, text=True).stdout.split()
+        found = subprocess.run(["pgrep", "-P", str(self.run.pid), "-f", " serve "], capture_output=True, text=True).stdout.split()
         return int(found[0]) if found else None
 
     def kill(self, number):
@@ -191,6 +199,12 @@ class Loop:
 
     def has_said(self, text):
         return text in open(self.said).read()
+
+    def end(self):
+        """Leaves nothing running."""
+        with contextlib.suppress(ProcessLookupError):
+            os.killpg(self.run.pid, signal.SIGKILL)
+        self.run.wait()
 
 
 def stopped(folder, unit):
@@ -228,10 +242,10 @@ def wrong(folder, unit):
     return soon(unit.is_done) and unit.starts == 1 and unit.statuses[0] in unit.prevents, f"service {unit.statuses}"
 
 
-def taken(folder, unit, other):
-    """The port is another's: the unit is started anew until it is free, and stopped while it waits."""
+def taken(folder, unit):
+    """The port is another's: the unit is started anew until it is free."""
     is_tried = soon(lambda: unit.starts >= 3)
-    other.close()
+    folder.other.close()
     is_served = soon(folder.is_served)
     status, _ = unit.stop()
     return is_tried and is_served and status == 0 and set(unit.statuses[:-1]) == {6} and unit.statuses[-1] == 0, \
@@ -276,9 +290,8 @@ def with_settings(text):
     return change
 
 
-def without_folder(folder):
-    shutil.rmtree(folder.path)
-    open(folder.path, "w").close()
+def with_port_taken(folder):
+    folder.other = socket.create_server(("127.0.0.1", folder.port))
 
 
 def trials():
@@ -288,6 +301,7 @@ def trials():
     yield "unit: SIGTERM", None, Manager, terminated
     yield "unit: no secret in the fleet", with_fleet("plate 41\n"), Manager, wrong
     yield "unit: an unknown key", with_settings("lnks = 5\n"), Manager, wrong
+    yield "unit: a port in use", with_port_taken, Manager, taken
     for number in (signal.SIGTERM, signal.SIGINT, signal.SIGHUP):
         yield f"serve.sh: {number.name}", None, Loop, lambda folder, loop, number=number: loop_stopped(folder, loop, number)
     yield "serve.sh: killed", None, Loop, loop_killed
@@ -295,27 +309,21 @@ def trials():
     yield "serve.sh: an unknown key", with_settings("lnks = 5\n"), Loop, lambda folder, loop: loop_wrong(folder, loop, 1)
 
 
-def tell(name, is_right, seen):
-    print(f"{name}: {seen}: {'ok' if is_right else 'WRONG'}", flush=True)
-    return is_right
-
-
 def run(program, name, change, what, look):
+    """Whether a trial went right."""
     folder = Folder()
     if change:
         change(folder)
-    is_right, seen = look(folder, what(program, folder))
+    runs = what(program, folder)
+    try:
+        is_right, seen = look(folder, runs)
+    except OSError as error:
+        is_right, seen = False, str(error)
+    finally:
+        runs.end()
     shutil.rmtree(folder.path)
-    return tell(name, is_right, seen)
-
-
-def run_taken(program):
-    """The trial of a port that another has, who has it before the unit starts."""
-    folder = Folder()
-    other = socket.create_server(("127.0.0.1", folder.port))
-    is_right, seen = taken(folder, Manager(program, folder), other)
-    shutil.rmtree(folder.path)
-    return tell("unit: a port in use", is_right, seen)
+    print(f"{name}: {seen}: {'ok' if is_right else 'WRONG'}", flush=True)
+    return is_right
 
 
 def main():
@@ -324,7 +332,6 @@ def main():
         return 2
     program = os.path.realpath(sys.argv[1])
     rights = [run(program, *it) for it in trials()]
-    rights.append(run_taken(program))
     return 0 if all(rights) else 1
 
 
