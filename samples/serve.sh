@@ -34,8 +34,9 @@ while [ -z "$is_stopped" ]; do
         exit 0
     fi
     case $status in
-    # It was stopped; or settings, words, fleet or folder are wrong, or no program is there: going on helps nobody.
-    0 | 1 | 2 | 3 | 9 | 11 | 125 | 126 | 127)
+    # It was stopped, also by SIGHUP, SIGINT, SIGPIPE or SIGTERM; or settings, words, fleet, folder or tokens are wrong, or no
+    # program is there: going on helps nobody.
+    0 | 129 | 130 | 141 | 143 | 1 | 2 | 3 | 9 | 11 | 125 | 126 | 127)
         exit "$status"
         ;;
     *)

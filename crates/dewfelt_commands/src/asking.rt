@@ -1,5 +1,6 @@
 //! The command's side: a request is put into the service's folder, and its answer waited for.
 
+use crate::failed::is_not_there;
 use crate::names::{Names, commands_in, log_of, new_letters};
 use crate::{Answer, Failed, Locked, Outcome, Request, try_lock};
 use jt_outside::{Sink, write_all};
@@ -96,7 +97,8 @@ impl Asked {
         let path = self.names.answer.as_str();
         let text = match fs::read_to_string(rt, path) {
             Ok(text) => text,
-            Err(error) if error.kind() == ErrorKind::NotFound => return Ok(None),
+            // (where DIR is no folder, that is told of its lock)
+            Err(error) if is_not_there(&error) => return Ok(None),
             Err(error) => return Err(Failed::of_error(alloc, Outcome::Folder, path, &error)),
         };
         match Answer::of(alloc, text.as_str()) {

@@ -63,6 +63,13 @@ fn make_folder<R: Files>(rt: &R, folder: &str) -> io::Result<()> {
     }
 }
 
+fn remove_any<R: Files + AllocGlobal>(rt: &R, path: &str) -> io::Result<()> {
+    match fs::remove_file(rt, path) {
+        Err(error) if error.kind() == ErrorKind::IsADirectory => fs::remove_dir_all(rt, path),
+        removed => removed,
+    }
+}
+
 // Removes what lies in a folder.
 fn clear<R: Files + AllocGlobal + Clone + Drop>(rt: &R, folder: &str) -> io::Result<()> {
     let alloc = rt.alloc();
@@ -73,7 +80,7 @@ fn clear<R: Files + AllocGlobal + Clone + Drop>(rt: &R, folder: &str) -> io::Res
         }
         for name in &names {
             let path = format!(in alloc; "{folder}/{name}")?;
-            fs::remove_file(rt, path.as_str())?;
+            remove_any(rt, path.as_str())?;
         }
     }
     Ok(())
@@ -175,10 +182,13 @@ where
     }
 }
 
-// The text of a request; None where it is not there any more. One that is too long reads as none.
+// The text of a request; None where it is not there any more. One that is too long, or no file, whose read could wait for ever, reads
+// as none.
 fn request_text<R: Files + AllocGlobal>(rt: &R, path: &str) -> io::Result<Option<String>> {
     match fs::metadata(rt, path) {
-        Ok(about) if about.len() > LONGEST => return Ok(Some(String::new(rt.alloc()))),
+        Ok(about) if about.len() > LONGEST || !about.is_file() => {
+            return Ok(Some(String::new(rt.alloc())));
+        }
         Ok(_) => {}
         Err(error) if error.kind() == ErrorKind::NotFound => return Ok(None),
         Err(error) => return Err(error),
@@ -200,9 +210,10 @@ where
         Request::Forget(phone) => put_forgot(rt, names, office, phone),
         Request::Copy => put_copy(rt, names, office),
         Request::Stop => {
-            put_outcome(rt, names, Outcome::Done)?;
+            let answered = put_outcome(rt, names, Outcome::Done);
+            // (also where the disk is full)
             office.stop();
-            Ok(())
+            answered
         }
     }
 }
@@ -239,6 +250,20 @@ impl Clerk {
         Ok(Clerk { commands })
     }
 
+    // The letters of the requests that lie there. The folder is made anew where somebody removed it.
+    fn letters<R>(&self, rt: &R) -> io::Result<Vec<String>>
+    where
+        R: Files + AllocGlobal + Clone + Drop,
+    {
+        match requests_in(rt, self.commands.as_str()) {
+            Err(error) if error.kind() == ErrorKind::NotFound => {
+                make_folder(rt, self.commands.as_str())?;
+                Ok(Vec::new(rt.alloc()))
+            }
+            found => found,
+        }
+    }
+
     /// Answers the requests that lie there, 256 at most. A request is gone once it is answered, or where its answer could not be
     /// written, which is the error then.
     pub fn look<R, O>(&self, rt: &R, office: &mut O) -> io::Result<()>
@@ -246,7 +271,7 @@ impl Clerk {
         R: Files + AllocGlobal + Clone + Drop,
         O: Office,
     {
-        for letters in &requests_in(rt, self.commands.as_str())? {
+        for letters in &self.letters(rt)? {
             self.answer_one(rt, letters.as_str(), office)?;
         }
         Ok(())

@@ -1,7 +1,7 @@
 //! The commands.
 
 use crate::asking::{PATIENCE, Reached, reach, wait_until_gone};
-use crate::copying::{is_new, remove_store, settle};
+use crate::copying::{has_folder, is_new, remove_store, settle};
 use crate::listing::all_lines;
 use crate::names::{new_letters, store_in};
 use crate::{Failed, Kept, Outcome, Request, Stores, copy_store};
@@ -208,6 +208,7 @@ where
     T: Stores,
     L: Sink,
 {
+    has_folder(rt, file)?;
     is_new(rt, file)?;
     let part = part_of(rt, file)?;
     match take_and_settle(rt, stores, folder, part.as_str(), file, err) {

@@ -114,6 +114,16 @@ where
     }
 }
 
+/// Tells of a file whose folder is not there, or is no folder.
+pub(crate) fn has_folder<R: Files + AllocGlobal>(rt: &R, file: &str) -> Result<(), Failed> {
+    let folder = folder_of(file);
+    match fs::metadata(rt, folder) {
+        Ok(about) if about.is_dir() => Ok(()),
+        Ok(_) => Err(Failed::of_path(rt.alloc(), Outcome::File, folder, "is no folder")),
+        Err(error) => Err(Failed::of_error(rt.alloc(), Outcome::File, folder, &error)),
+    }
+}
+
 fn is_free<R: Files + AllocGlobal>(rt: &R, path: &str) -> Result<(), Failed> {
     match fs::symlink_metadata(rt, path) {
         Ok(_) => {

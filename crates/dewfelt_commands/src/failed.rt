@@ -5,6 +5,12 @@ ghost use Rattle.std.specs.Prelude.{◌≡◌};
 use crate::Outcome;
 use std::alloc::{AllocError, Global};
 use std::io;
+use std::io::ErrorKind;
+
+/// Whether a file is not there, or what should be its folder is none.
+pub(crate) fn is_not_there(error: &io::Error) -> bool {
+    matches!(error.kind(), ErrorKind::NotFound | ErrorKind::NotADirectory)
+}
 
 /// A command that failed: how it ends, and the line that says why, without its end. The line is empty where memory was refused for
 /// it: the outcome has words of its own.

@@ -1,5 +1,6 @@
 //! The lock of a folder.
 
+use crate::failed::is_not_there;
 use crate::{Failed, Outcome};
 use std::fs::{File, OpenOptions, TryLockError};
 use std::rt::Files;
@@ -25,6 +26,10 @@ pub fn try_lock<R: Files<File = File> + AllocGlobal>(
         .open(rt, path.as_str());
     let file = match opened {
         Ok(file) => file,
+        // (what is not there is the folder, or what it is in)
+        Err(error) if is_not_there(&error) => {
+            return Err(Failed::of_error(alloc, Outcome::Folder, folder, &error));
+        }
         Err(error) => return Err(Failed::of_error(alloc, Outcome::Folder, path.as_str(), &error)),
     };
     match file.try_lock() {

@@ -32,7 +32,8 @@ fn put_pair(text: &mut String, octet: u8) -> Result<(), AllocError>
 }
 
 fn put_octets(text: &mut String, octets: &[u8]) -> Result<(), AllocError>
-    ensures { OnOk result (string_bytes text.new ≡ string_bytes text.old ++ digits_text octets.now) }
+    ensures { OnOk result (string_bytes text.new
+        ≡ string_bytes text.old ++ digits_text octets.now) }
 {
     for octet in octets {
         put_pair(text, *octet)?;

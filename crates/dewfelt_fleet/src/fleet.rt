@@ -219,7 +219,8 @@ impl Fleet {
     /// Puts a terminal id, which has no zeros at its end, among those that are not bound. False, and all is as before, where it is
     /// bound.
     pub fn add_terminal(&mut self, alloc: Global, terminal: &[u8]) -> Result<bool, Memory>
-        ensures done { IfOk result (λ done. OnTrue done ((q : List ℕ) → is_among self.new.terminals q
+        ensures done { IfOk result (λ done. OnTrue done ((q : List ℕ) →
+            is_among self.new.terminals q
             ≡ (bytes_eq terminal.now q || is_among self.old.terminals q))) }
         ensures others { (self.new.secret ≡ self.old.secret) × (self.new.bound ≡ self.old.bound)
             × (self.new.plates ≡ self.old.plates) }

@@ -120,7 +120,11 @@ fn commands_beside_a_service(rt: HostRuntime) -> Result<(), Fail> {
 #[test]
 fn commands_without_a_service(rt: HostRuntime) -> Result<(), Fail> {
     let found = list(&rt, "nowhere")?;
-    assert!(rt; found.as_str().starts_with("9 nowhere/lock: "), "{found}");
+    assert!(rt; found.as_str().starts_with("9 nowhere: "), "{found}");
+    fs::write(&rt, "a_file", "")?;
+    let found = end(&rt, "a_file")?;
+    assert!(rt; found.as_str().starts_with("9 a_file: "), "{found}");
+    fs::remove_file(&rt, "a_file")?;
     make_folder(&rt, "alone")?;
     let found = end(&rt, "alone")?;
     assert!(rt; found.as_str() == "no service runs\n", "{found}");

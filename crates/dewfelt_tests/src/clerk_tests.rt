@@ -131,9 +131,12 @@ fn files_that_are_no_requests(rt: HostRuntime) -> Result<(), Fail> {
         "stop\n",
     )?;
     fs::write(&rt, "clerk_others/commands/note", "old")?;
+    fs::create_dir(&rt, "clerk_others/commands/folder")?;
+    fs::write(&rt, "clerk_others/commands/folder/note", "old")?;
     let clerk = Clerk::start(&rt, "clerk_others")?;
     assert!(rt; text_in(&rt, "clerk_others", REQUEST)?.as_str() == "none");
     assert!(rt; text_of(&rt, "clerk_others/commands/note")?.as_str() == "none");
+    assert!(rt; fs::read_dir(&rt, "clerk_others/commands")?.next().is_none());
     let names: &[&str] = &[
         "clerk_others/commands/0123456789abcdef.asking",
         "clerk_others/commands/0123456789abcdeF.request",
@@ -152,5 +155,41 @@ fn files_that_are_no_requests(rt: HostRuntime) -> Result<(), Fail> {
         assert!(rt; text.as_str() == "stop\n", "{name}: {text}");
     }
     fs::remove_dir_all(&rt, "clerk_others")?;
+    Ok(())
+}
+
+// A folder of requests that somebody removed is there again, and requests in it are answered. What is no file is no request.
+#[test]
+fn a_folder_that_was_removed(rt: HostRuntime) -> Result<(), Fail> {
+    make_folder(&rt, "clerk_removed")?;
+    let clerk = Clerk::start(&rt, "clerk_removed")?;
+    let mut desk = Desk::new(rt.clone()?, &[0x11])?;
+    fs::remove_dir_all(&rt, "clerk_removed/commands")?;
+    clerk.look(&rt, &mut desk)?;
+    let found = answer(&rt, "clerk_removed", &clerk, &mut desk, "stop\n")?;
+    assert!(rt; found.as_str() == "status 0\n", "{found}");
+    assert!(rt; desk.is_stopped);
+    fs::remove_file(&rt, "clerk_removed/commands/0123456789abcdef.answer")?;
+    fs::create_dir(&rt, "clerk_removed/commands/0123456789abcdef.request")?;
+    clerk.look(&rt, &mut desk)?;
+    let found = text_in(&rt, "clerk_removed", ANSWER)?;
+    assert!(rt; found.as_str().starts_with("status 24\n"), "{found}");
+    fs::remove_dir_all(&rt, "clerk_removed")?;
+    Ok(())
+}
+
+// A service is stopped also where the answer can't be written.
+#[test]
+fn a_stop_that_is_not_answered(rt: HostRuntime) -> Result<(), Fail> {
+    make_folder(&rt, "clerk_unanswered")?;
+    let clerk = Clerk::start(&rt, "clerk_unanswered")?;
+    let mut desk = Desk::new(rt.clone()?, &[])?;
+    fs::create_dir(&rt, "clerk_unanswered/commands/0123456789abcdef.answering")?;
+    let request = format!(in rt.alloc(); "clerk_unanswered/{REQUEST}")?;
+    fs::write(&rt, request.as_str(), "stop\n")?;
+    assert!(rt; clerk.look(&rt, &mut desk).is_err());
+    assert!(rt; desk.is_stopped);
+    assert!(rt; text_in(&rt, "clerk_unanswered", REQUEST)?.as_str() == "none");
+    fs::remove_dir_all(&rt, "clerk_unanswered")?;
     Ok(())
 }

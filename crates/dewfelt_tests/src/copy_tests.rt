@@ -97,7 +97,9 @@ fn copies_without_a_service(rt: HostRuntime) -> Result<(), Fail> {
     );
     assert!(rt; count(&rt, "copies")? == 2);
     let found = copied(&rt, "whole", "copies/none/d")?;
-    assert!(rt; found.as_str().starts_with("21 copies/none/d."), "{found}");
+    assert!(rt; found.as_str().starts_with("21 copies/none: "), "{found}");
+    let found = copied(&rt, "whole", "copies/a/d")?;
+    assert!(rt; found.as_str() == "21 copies/a: is no folder", "{found}");
     fs::remove_dir_all(&rt, "whole")?;
     fs::remove_dir_all(&rt, "copies")?;
     Ok(())
