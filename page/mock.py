@@ -391,10 +391,10 @@ class Handler(http.server.BaseHTTPRequestHandler):
                 self.access = self.token()
                 if need == "operate" and self.access != "operate":
                     raise Problem(403, "this token may look, and not change anything")
+            origin = self.headers.get("Origin")
+            if origin is not None and origin not in asked.origins:
+                raise Problem(403, "a page of another origin asks nothing here")
             if method in ("POST", "PUT", "DELETE"):
-                origin = self.headers.get("Origin")
-                if origin is not None and origin not in asked.origins:
-                    raise Problem(403, "a page of another origin may not change anything here")
                 if method != "DELETE" and self.headers.get("Content-Type", "").split(";")[0].strip() not in ("application/json", "application/geo+json"):
                     raise Problem(415, "the content has to be application/json")
             self.query = self.words_of(name, query)
