@@ -5,8 +5,8 @@
 
 DIR is the folder of the service, of which the tokens are read. It prints a line for each attack: what was to come, what came, how
 long it took. What is to come is a status, several in a row, or `closed` without one; `|` stands between those that are as good.
-Bodies are tried on fences, where the service has them. It takes about a minute, most of it slow requests. Nothing of the service is
-changed. The metrics are read by Debian's python3-prometheus-client. The status is 1 where another answer came.
+Bodies are tried on fences, where the service has them: one is kept, and deleted again. It takes about a minute, most of it slow
+requests. The metrics are read by Debian's python3-prometheus-client. The status is 1 where another answer came.
 """
 import argparse
 import contextlib
