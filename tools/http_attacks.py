@@ -23,6 +23,8 @@ import time
 CONNECTIONS = 1000
 # So long a slow request may last, and an idle connection (seconds; the service's 10 and 5, and some more on a busy machine).
 SLOW, IDLE = 16, 9
+# So long a slow request is gone on with.
+WAITED = 25
 CLOSED = "closed"
 
 
@@ -146,7 +148,7 @@ def slow(target):
     def octet_a_second():
         began = time.monotonic()
         with target.connect(30) as link, contextlib.suppress(OSError):
-            for octet in target.head("GET /healthz HTTP/1.1"):
+            for octet in target.head("GET /healthz HTTP/1.1")[:WAITED]:
                 link.sendall(bytes([octet]))
                 time.sleep(1)
         return said_after(time.monotonic() - began, SLOW)
@@ -160,7 +162,7 @@ def slow(target):
         began = time.monotonic()
         with target.connect(30) as link, contextlib.suppress(OSError):
             link.sendall(target.head("POST /api/v1/vehicles HTTP/1.1", "Content-Length: 60000"))
-            while time.monotonic() - began < 40:
+            while time.monotonic() - began < WAITED:
                 link.sendall(b"x")
                 time.sleep(1)
         return said_after(time.monotonic() - began, SLOW)
@@ -276,7 +278,7 @@ def took(attack):
         octets = attack()
     except Exception as error:
         return f"{type(error).__name__}: {error}", time.monotonic() - began
-    text = octets.decode("latin-1")
+    text = octets.decode("latin-1").split("\n")[0]
     return text if text and not text.startswith("HTTP/") else statuses(octets), time.monotonic() - began
 
 
