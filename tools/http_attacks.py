@@ -180,7 +180,7 @@ def who(target):
     def server(**more):
         return lambda: target.send(target.head("GET /api/v1/server HTTP/1.1", **more))
     for host in ("evil.example", f"evil.example:{target.port}", target.host, f"{target.address}.evil.example", "[::1]"):
-        yield f"Host: {host}", "421", server(host=host)
+        yield f"Host: {host}", "400|421" if host.startswith(target.address) else "421", server(host=host)
     yield "the page by another host", "421", lambda: target.send(target.head("GET / HTTP/1.1", token=None, host="evil.example"))
     yield "health by another host", "421", lambda: target.send(target.head("GET /healthz HTTP/1.1", token=None, host="evil.example"))
     yield "no Host", "400|421", server(host="")

@@ -86,6 +86,27 @@ class Lorry:
         return f'vehicle "{self.plate}" "{self.terminal}" {self.phone}\n'
 
 
+class Follower:
+    """A vehicle somewhere beside a lorry's way, with one fix."""
+
+    def __init__(self, number, lorry):
+        chance = random.Random(number)
+        self.number, self.lorry = number, lorry
+        self.phone = f"0138{20000000 + number:08d}"
+        self.plate = f"{PROVINCES[number % 8]}{LETTERS[number // 8 % 24]}{LETTERS[number % 24]}{number % 10000:04d}"
+        self.terminal = f"S{number:06d}"
+        self.at, self.north, self.east = chance.randrange(len(lorry.way)), chance.gauss(0, 0.9), chance.gauss(0, 1.3)
+        self.late = chance.randrange(30 if number % 5 else 900)
+
+    registered, fleet_line = Lorry.registered, Lorry.fleet_line
+
+    def rows(self, now, _):
+        octets = bytearray(self.lorry.fix(self.at, now - self.late))
+        latitude, longitude = struct.unpack_from(">II", octets, 8)
+        struct.pack_into(">II", octets, 8, latitude + round(self.north * 1e6), longitude + round(self.east * 1e6))
+        return [(bytes.fromhex("00000000" + self.phone), FIRST, 0x0200, bytes(octets))]
+
+
 class Link:
     """A terminal's link, by which it asks."""
 

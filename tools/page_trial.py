@@ -1,12 +1,13 @@
 #!/usr/bin/python3
 """Tests the interface over HTTP and the operator's page of the built service, over a fleet that reports meanwhile:
 
-    tools/page_trial.py PROGRAM [--shots FOLDER] [--only WORD] [--keep]
+    tools/page_trial.py PROGRAM [--shots FOLDER] [--only WORD] [--many N] [--keep]
 
 PROGRAM is crates/dewfelt/out/dewfelt, or page/mock.py for work on the page. It makes a folder: a fleet, and a platform.db with a day
 of 24 lorries that ends now (samples/day.fixes, turned and shifted). It starts `dewfelt serve` over it, and lets the lorries dial and
 report on, some leave, and a terminal that is not in the fleet be turned away. Then it reads the tokens in the folder, runs the tests
 of tools/test_page.py, and two of its own: the service ends and begins anew while a page is open, and a service has no vehicle yet.
+With --many another service has N vehicles, and it prints how long the page takes to paint them, and how long answers of 2,000 take.
 Tests of parts that the service says it lacks are passed over, and with mock.py those of limits and times.
 
 It wants the Debian packages chromium, chromium-driver and python3-selenium, fonts-noto-cjk for the pictures, and
@@ -150,11 +151,73 @@ def empty_test(program):
     return test_empty
 
 
+FRAMES = """
+const done = arguments[arguments.length - 1], m = dewfelt.map, gaps = [];
+m.frames.length = 0;
+let n = 0, last = performance.now();
+const step = (t) => {
+  gaps.push(t - last); last = t; m.pan(n % 40 < 20 ? 4 : -4, 0);
+  if (++n < 200) return requestAnimationFrame(step);
+  const order = (a) => a.slice(5).sort((x, y) => x - y), at = (a) => [a[a.length >> 1], a[Math.floor(a.length * .99)]];
+  done({inView: m.inView, paint: at(order(m.frames)), frame: at(order(gaps))});
+};
+requestAnimationFrame(step);"""
+NEAR = "const m = dewfelt.map; m.view.zoom = 10.5; m.view.x = (113.3 + 180) / 360; m.view.y = m.project(113.3, 22.8)[1]; m.draw()"
+LETTER = """const at = performance.now(), s = document.querySelector('#search');
+s.value = 'a1'; s.dispatchEvent(new Event('input')); return performance.now() - at"""
+ASKED = 200
+
+
+def shown(name, numbers):
+    print(f"   {name}: median {numbers[0]:.1f} ms, 99 % {numbers[1]:.1f} ms", flush=True)
+
+
+def times_of_changes():
+    """The milliseconds that answers of 2,000 vehicles took, in order, by one connection each."""
+    taken = []
+    for _ in range(ASKED):
+        began = time.perf_counter()
+        test_page.ask("GET", "/api/v1/changes?limit=2000")
+        taken.append(1000 * (time.perf_counter() - began))
+    return sorted(taken)
+
+
+def many_test(program, count, lorries):
+    def test_many(page):
+        """How long many vehicles take. What the machine had to do meanwhile stands behind `load`."""
+        before = test_page.asked
+        with tempfile.TemporaryDirectory(prefix="page-many-") as folder:
+            write_folder(folder, [page_fleet.Follower(number, lorries[number % len(lorries)]) for number in range(count)], [], time.time(), 0)
+            serving = Serving(program, folder).start()
+            try:
+                test_page.take_up(serving.http, f"{folder}/http.token", f"{folder}/http.read.token", before.shots)
+                print(f"   load {os.getloadavg()[0]:.1f} of {os.cpu_count()} processors", flush=True)
+                taken = times_of_changes()
+                shown("2,000 rows of changes", (taken[ASKED // 2], taken[ASKED * 99 // 100]))
+                began = time.monotonic()
+                page.open()
+                page.until(f"return dewfelt.page.vehicles.size === {count}", 120)
+                print(f"   {count} vehicles read and shown after {time.monotonic() - began:.2f} s", flush=True)
+                page.shot("desktop-many")
+                for name, begin in (("all in view", ""), ("near", NEAR)):
+                    page.js(begin)
+                    page.shot(f"desktop-many-{name.replace(' ', '-')}")
+                    got = page.d.execute_async_script(FRAMES)
+                    shown(f"{name}, {got['inView']} in view, painting", got["paint"])
+                    shown(f"{name}, frame to frame", got["frame"])
+                print(f"   a letter into the search: {page.js(LETTER):.1f} ms; load {os.getloadavg()[0]:.1f}", flush=True)
+            finally:
+                serving.kill()
+                test_page.asked = before
+    return test_many
+
+
 def words():
     asked = argparse.ArgumentParser(description=__doc__, formatter_class=argparse.RawDescriptionHelpFormatter)
     asked.add_argument("program")
     asked.add_argument("--shots")
     asked.add_argument("--only", default="")
+    asked.add_argument("--many", type=int, default=0, metavar="N")
     asked.add_argument("--keep", action="store_true", help="leave the folder")
     return asked.parse_args()
 
@@ -174,7 +237,8 @@ def main():
             test_page.take_up(serving.http, f"{folder}/http.token", f"{folder}/http.read.token", asked.shots)
             test_page.until(lambda: any(row[test_page.all_vehicles()[0].index("link")] == "open" for row in test_page.all_vehicles()[1]))
             tests = [it for it in test_page.tests() if not serving.is_mock or it.__name__ not in NOT_OF_MOCK]
-            return test_page.run([*tests, empty_test(serving.program), lost_test(serving)], asked.only)
+            more = [many_test(serving.program, asked.many, lorries)] if asked.many else []
+            return test_page.run([*tests, empty_test(serving.program), lost_test(serving), *more], asked.only)
     finally:
         serving.kill()
         if not asked.keep:
