@@ -70,7 +70,7 @@ function ago(iso) {
 }
 function long(s) {
   const m = Math.round(s / 60);
-  return m < 60 ? `${m} min` : `${Math.floor(m / 60)} h ${String(m % 60).padStart(2, "0")}`;
+  return m < 60 ? say("long_m", { n: m }) : say("long_h", { h: Math.floor(m / 60), m: String(m % 60).padStart(2, "0") });
 }
 const octets = (hex) => Uint8Array.from(hex.match(/../g) ?? [], (it) => parseInt(it, 16));
 const hex = (bytes) => Array.from(bytes, (it) => it.toString(16).padStart(2, "0")).join("");
@@ -242,7 +242,7 @@ function arrange() {
   const empty = $("list-empty");
   empty.hidden = page.list.length > 0;
   $("list").hidden = !page.list.length;
-  if (!page.list.length && page.now) empty.replaceChildren(...(page.vehicles.size ? [say("none_found")] : [h("b", { text: say("empty_title") }), say("empty_text", { port: page.listen.split(":").pop() })]));
+  if (!page.list.length && page.now) empty.replaceChildren(...(page.vehicles.size ? [say("none_found")] : [h("b", { text: say("empty_title") }), ...say("empty_text", { port: page.listen.split(":").pop() }).split("`").map((it, i) => (i % 2 ? h("code", { text: it }) : it))]));
   showRows();
 }
 
@@ -270,7 +270,7 @@ function showRows() {
     if (it.mark.className !== shape) { it.mark.className = shape; path.setAttribute("d", SHAPES[v.state]); }
     path.setAttribute("transform", v.state === "moving" ? `rotate(${v.direction} 12 12)` : "");
     it.name.textContent = v.plate || say("no_plate");
-    it.under.textContent = v.state === "away" ? `${v.phone} · ${v.last_end ? say("why_" + v.last_end) : say("not_connected")}` : v.phone;
+    it.under.title = it.under.textContent = v.state === "away" ? `${v.phone} · ${v.last_end ? say("why_" + v.last_end) : say("not_connected")}` : v.phone;
     it.value.textContent = v.state === "moving" ? say("at_speed", { n: Math.round(v.speed) }) : say(v.state);
     it.small.textContent = v.state === "never" ? "" : ago(v.state === "away" ? v.heard_at ?? v.time : v.time);
   });
@@ -447,7 +447,7 @@ function dayParts(v) {
     page.reading && !t ? h("p", { class: "hint", text: say("loading") }) : !t ? h("p", { class: "hint", id: "no-track", text: say("no_track") }) : [
       h("p", { id: "track-sum", text: say("track_of", { n: t.points.length, km: t.km.toFixed(1), h: long(t.driving) }) }),
       t.told.more && h("p", { class: "wrong", text: say("more_track") }),
-      h("div", { class: "buttons" }, h("span", { class: "hint", text: say("download") }), ["gpx", "csv", "geojson"].map((it) => h("button", { class: "plain", text: it.toUpperCase(), "data-form": it, onclick: () => save(`${API}/vehicles/${v.phone}/track?${rangeOf(day)}&form=${it}`, `${v.plate || v.phone}-${day}.${it}`) }))),
+      h("div", { class: "buttons" }, h("span", { class: "hint", text: say("download") }), ["gpx", "csv", "geojson"].map((it) => h("button", { class: "plain", text: it === "geojson" ? "GeoJSON" : it.toUpperCase(), "data-form": it, onclick: () => save(`${API}/vehicles/${v.phone}/track?${rangeOf(day)}&form=${it}`, `${v.plate || v.phone}-${day}.${it}`) }))),
       t.stays.length > 0 && h("div", { class: "items" }, h("h3", { text: say("stays") }), t.stays.map((it) => h("button", { class: "item", onclick: () => { seek(it.from - t.base); const p = t.points[it.index]; inset(); map.center(p[0], p[1], 13); } },
         h("span", { text: `${isoAt(it.from).slice(11, 16)} – ${isoAt(it.to).slice(11, 16)}` }), h("span", { class: "when", text: long(it.to - it.from) })))),
     ],
@@ -640,7 +640,7 @@ async function showNewcomers() {
     if (page.panel !== "newcomers") return;
     panel(h("h2", { text: say("newcomers") }), strangers.length ? [h("p", { class: "hint", text: say("newcomer_text") }), ...strangers.map((it) => h("div", { class: "box" },
       h("h3", { text: `${it.plate_octets ? gbk.decode(octets(it.plate_octets)) : say("no_plate")} · ${it.phone}` }), h("p", { class: "wrong", text: page.language === "en" ? it.why : { 2: "车牌不在车队文件中", 4: "终端号不在车队文件中", 1: "车牌已被其他手机号登记", 3: "终端号已被其他手机号登记" }[it.denied] ?? it.why }),
-      h("p", { class: "hint", text: `${say("tried", { n: it.tried, t: ago(it.last_at) })}${it.peer ? `, ${say("from_peer", { peer: it.peer })}` : ""}` }), it.fleet_lines.length ? [h("pre", { text: it.fleet_lines.join("\n") }), h("div", { class: "buttons" }, h("button", { class: "plain", text: say("copy"), onclick: () => copy(it.fleet_lines.join("\n") + "\n") }))] : h("p", { class: "hint", text: say("no_line") })))] : h("p", { class: "hint", text: say("no_newcomers") }));
+      h("p", { class: "hint", text: `${say("tried", { n: it.tried, t: ago(it.last_at) })}${it.peer ? say("from_peer", { peer: it.peer }) : ""}` }), it.fleet_lines.length ? [h("pre", { text: it.fleet_lines.join("\n") }), h("div", { class: "buttons" }, h("button", { class: "plain", text: say("copy"), onclick: () => copy(it.fleet_lines.join("\n") + "\n") }))] : h("p", { class: "hint", text: say("no_line") })))] : h("p", { class: "hint", text: say("no_newcomers") }));
   } catch (why) { if (why.status !== 401) toast(say("result_gone", { t: why.message })); }
 }
 

@@ -1,7 +1,7 @@
 #!/usr/bin/env python3
 """Shows where the phones of a platform were, from its file.
 
-    tools/positions.py [platform.db] [--phone D] [--csv FILE | --geojson FILE | --svg FILE]
+    tools/positions.py [platform.db] [--phone D] [--http ADDRESS:PORT] [--csv FILE | --geojson FILE | --svg FILE]
 
 Without a form: the last position of each phone, or with --phone all positions of that phone, a line each. With one: all
 positions, as comma-separated values, as GeoJSON (a line and a last point a phone) or as a drawing of the tracks; FILE `-` is
@@ -10,8 +10,16 @@ standard output. D has the phone's digits; zeros at its front may be left out.
 While a platform runs its file is locked. So this never opens the file itself: it copies the file and its log into a temporary
 folder, says whether a platform holds the lock, and reads the copy. It is for looking, and nothing rests on it.
 
+A fix whose terminal did not know where it was (bit 1 of the status is 0) is no position. It is left out, and how many were is
+told on standard error. The last position is that of the row that was stored last; one of a batch that came late (a batch of
+kind 1: positions that could not be sent when they were taken) is it only where its time is after that of the last before it.
+Lines of GeoJSON and of the drawing go by time, and positions without a moment are in none; values and CSV go by rows.
+
 Latitude and longitude are in degrees, south and west below zero (bits 2 and 3 of the status); speed in km/h, altitude in
-metres, direction in degrees from north, mileage in km (item 0x01). Where a value names no moment, or is not there, it is `-`.
+metres, direction in degrees from north, mileage in km (item 0x01), alarm and status as in docs/WIRE.md. `heard` is when the
+platform heard the terminal last. No file holds that: it is asked of the `dewfelt serve` that has the file, at the address of
+its interface that --http names, with the token that stands beside the file, and told at the last position of each phone.
+Where a value names no moment, or is not there, it is `-`.
 
 The status is 0; 1 where some row is no position that can be read, which is told on standard error; 2 where the words or the
 file are none that this reads.
@@ -21,7 +29,6 @@ import collections
 import csv
 import datetime
 import fcntl
-import itertools
 import json
 import os
 import shutil
@@ -30,17 +37,23 @@ import struct
 import sys
 import tempfile
 
+sys.dont_write_bytecode = True
+import position_drawing  # noqa: E402
+import rows  # noqa: E402
+
 POSITION, BATCH = 0x0200, 0x0704
 FIXED = struct.Struct(">IIIIHHH6s")
-SOUTH, WEST = 1 << 2, 1 << 3
+LOCATED, SOUTH, WEST = 1 << 1, 1 << 2, 1 << 3
+LATE = 1
 MILEAGE = 0x01
 CHINA = datetime.timezone(datetime.timedelta(hours=8))
-FIELDS = ("phone", "number", "time", "latitude", "longitude", "speed", "altitude", "direction", "mileage")
+FIELDS = ("phone", "number", "time", "latitude", "longitude", "speed", "altitude", "direction", "mileage", "alarm", "status", "heard")
 # SQLite's bytes of the file that a reader locks.
 SHARED_FIRST, SHARED_SIZE = 0x40000002, 510
 
-Position = collections.namedtuple("Position", FIELDS)
-DEGREES = ("latitude", "longitude")
+# A position, and whether it came in a late batch.
+Position = collections.namedtuple("Position", (*FIELDS, "late"), defaults=(None, False))
+DEGREES, BITS = ("latitude", "longitude"), ("alarm", "status")
 
 
 class Unread(Exception):
@@ -69,11 +82,11 @@ def mileage_in(items):
     return found
 
 
-def position(phone, number, octets):
+def position(phone, number, octets, late=False):
     """The position in the octets of one position report."""
     if len(octets) < FIXED.size:
         raise Unread(f"a position of {len(octets)} octets")
-    _, status, latitude, longitude, altitude, speed, direction, time = FIXED.unpack_from(octets)
+    alarm, status, latitude, longitude, altitude, speed, direction, time = FIXED.unpack_from(octets)
     mileage = mileage_in(octets[FIXED.size :])
     return Position(
         phone,
@@ -85,6 +98,9 @@ def position(phone, number, octets):
         altitude,
         direction,
         None if mileage is None else mileage / 10,
+        alarm,
+        status,
+        late=late,
     )
 
 
@@ -109,7 +125,7 @@ def positions_of(phone, number, message, body):
     if message == POSITION:
         return [position(phone, number, body)]
     if message == BATCH:
-        return [position(phone, number, octets) for octets in batch(body)]
+        return [position(phone, number, octets, late=body[2] == LATE) for octets in batch(body)]
     raise Unread(f"a message 0x{message:04x}")
 
 
@@ -168,8 +184,12 @@ def rows_of(path, phone):
                 yield digits, number, message, bytes(body)
 
 
+def is_located(position):
+    return position.status & LOCATED != 0
+
+
 def read(path, phone):
-    """All positions of a file, in the order of phones and numbers, and how many rows were not read."""
+    """All fixes of a file, in the order of phones and numbers, and how many rows were not read."""
     found, unread = [], 0
     with tempfile.TemporaryDirectory(prefix="positions-") as folder:
         for row in rows_of(copy(path, folder), phone):
@@ -181,6 +201,43 @@ def read(path, phone):
     return found, unread
 
 
+def located_of(fixes):
+    """The fixes that are positions. How many are none is told."""
+    found = list(filter(is_located, fixes))
+    if len(found) < len(fixes):
+        print(f"positions: fixes left out, of terminals that did not know where they were: {len(fixes) - len(found)}", file=sys.stderr)
+    return found
+
+
+def last_of(track):
+    """The last position of a phone, whose positions these are in the order of rows."""
+    last = track[0]
+    for it in track[1:]:
+        if not it.late or (it.time and last.time and it.time > last.time):
+            last = it
+    return last
+
+
+def way_of(track):
+    """The positions that have a moment, by time."""
+    return sorted((it for it in track if it.time), key=lambda it: it.time)
+
+
+def with_heard(positions, heard):
+    """The positions, of which the last of each phone has when the phone was heard."""
+    last = {id(last_of(track)): heard.get(phone) for phone, track in by_phone(positions).items()}
+    return [it._replace(heard=last[id(it)]) if id(it) in last else it for it in positions]
+
+
+def heard_by(address, folder):
+    """When each phone was heard, as the service at an address says whose folder this is."""
+    try:
+        service = rows.Service(address, rows.token_in(folder))
+        return {it["phone"]: it["heard_at"] for it in service.vehicles()}
+    except (OSError, rows.Refused) as why:
+        raise Unread(f"{address} does not say when phones were heard: {why}") from None
+
+
 def by_phone(positions):
     tracks = {}
     for it in positions:
@@ -188,10 +245,17 @@ def by_phone(positions):
     return tracks
 
 
+def text(name, value, missing):
+    if value is None:
+        return missing
+    if name in DEGREES:
+        return f"{value:.6f}"
+    return f"0x{value:08x}" if name in BITS else str(value)
+
+
 def texts(position, missing):
-    """The text of each field, degrees with all six digits behind the point."""
-    told = zip(FIELDS, position)
-    return [missing if value is None else f"{value:.6f}" if name in DEGREES else str(value) for name, value in told]
+    """The text of each field, degrees with all six digits behind the point, bits as digits."""
+    return [text(name, value, missing) for name, value in zip(FIELDS, position)]
 
 
 def write_lines(positions, to):
@@ -215,37 +279,24 @@ def feature(kind, coordinates, **told):
 def write_geojson(positions, to):
     features = []
     for phone, track in by_phone(positions).items():
-        places = [[it.longitude, it.latitude] for it in track]
+        places = [[it.longitude, it.latitude] for it in way_of(track)]
         if len(places) > 1:
             features.append(feature("LineString", places, phone=phone, positions=len(places)))
-        features.append(feature("Point", places[-1], **track[-1]._asdict()))
+        last = last_of(track)
+        features.append(feature("Point", [last.longitude, last.latitude], **dict(zip(FIELDS, last))))
     json.dump({"type": "FeatureCollection", "features": features}, to, indent=1)
     print(file=to)
 
 
 def write_svg(positions, to):
-    """Each phone's track, north up, degrees of latitude and longitude of the same length, a dot at its end."""
-    east = [it.longitude for it in positions] or [0]
-    north = [it.latitude for it in positions] or [0]
-    left, top = min(east), max(north)
-    span = max(max(east) - left, top - min(north)) or 1
-    place = lambda it: (f"{20 + 760 * (it.longitude - left) / span:.2f}", f"{20 + 760 * (top - it.latitude) / span:.2f}")
-    print('<svg xmlns="http://www.w3.org/2000/svg" viewBox="0 0 800 800" font-size="10">', file=to)
-    for at, (phone, track) in enumerate(by_phone(positions).items()):
-        colour = f"hsl({at * 137 % 360} 70% 40%)"
-        # a stay is one point
-        points = " ".join(",".join(it) for it, _ in itertools.groupby(map(place, track)))
-        x, y = place(track[-1])
-        print(f'<polyline points="{points}" fill="none" stroke="{colour}"/>', file=to)
-        side = 'dx="-6" text-anchor="end"' if float(x) > 400 else 'dx="6"'
-        print(f'<circle cx="{x}" cy="{y}" r="4" fill="{colour}"/><text x="{x}" y="{y}" dy="-6" {side}>{phone}</text>', file=to)
-    print("</svg>", file=to)
+    position_drawing.write([(way_of(track), last_of(track)) for track in by_phone(positions).values()], to)
 
 
 def words():
     asked = argparse.ArgumentParser(description="Shows where the phones of a platform were, from its file.")
     asked.add_argument("file", nargs="?", default="platform.db")
     asked.add_argument("--phone", help="its digits")
+    asked.add_argument("--http", metavar="ADDRESS:PORT", help="the interface of the service that has the file")
     forms = asked.add_mutually_exclusive_group()
     for form in ("csv", "geojson", "svg"):
         forms.add_argument(f"--{form}", metavar="FILE", help="`-` is standard output")
@@ -262,7 +313,7 @@ def write(asked, positions):
             with open(name, "w", encoding="utf-8", newline="") as to:
                 return writer(positions, to)
     if asked.phone is None:
-        positions = [track[-1] for track in by_phone(positions).values()]
+        positions = [last_of(track) for track in by_phone(positions).values()]
     return write_lines(positions, sys.stdout)
 
 
@@ -271,7 +322,10 @@ def main():
     try:
         if is_locked(asked.file):
             print(f"positions: a platform has {asked.file} open; this reads a copy of it and its log", file=sys.stderr)
-        positions, unread = read(asked.file, asked.phone)
+        fixes, unread = read(asked.file, asked.phone)
+        positions = located_of(fixes)
+        if asked.http is not None:
+            positions = with_heard(positions, heard_by(asked.http, os.path.dirname(os.path.abspath(asked.file))))
         write(asked, positions)
         sys.stdout.flush()
     except BrokenPipeError:
