@@ -137,31 +137,44 @@ pub(crate) fn expect_one(
     drop(written);
 }
 
-/// Runs the words over the octets of each row, and compares the status and the text of the row.
-pub(crate) fn expect(
-    rt: &impl Abort,
-    alloc: Global,
+/// The same where no call fails.
+pub(crate) fn expect_text(
+    rt: &HostRuntime,
     words: &[&str],
+    octets: &[u8],
     status: Status,
-    rows: &[(&[u8], &str)],
+    text: &str,
 ) {
-    for &(octets, text) in rows {
-        expect_one(rt, alloc, words, octets, (0, 0), status, text);
+    expect_one(rt, rt.alloc(), words, octets, (0, 0), status, text);
+}
+
+/// Runs the words over the input of each row. A row is an input, ` => ` and all that is written of it.
+pub(crate) fn expect(rt: &HostRuntime, words: &[&str], status: Status, rows: &[&str]) {
+    for row in rows {
+        let (input, text) = row.split_once(" => ").expect(rt, "a row");
+        expect_text(rt, words, input.as_bytes(), status, text);
     }
 }
 
-/// The same of octets that stand behind these in each row.
+/// The same of rows whose inputs are the digits of octets.
+pub(crate) fn expect_octets(rt: &HostRuntime, words: &[&str], status: Status, rows: &[&str]) {
+    for row in rows {
+        let (digits, text) = row.split_once(" => ").expect(rt, "a row");
+        let octets = hex::decode(rt.alloc(), digits.as_bytes()).expect(rt, "octets");
+        expect_text(rt, words, octets.as_slice(), status, text);
+    }
+}
+
+/// Runs the words over these octets and those behind them in each row, and compares the text of the row.
 pub(crate) fn expect_behind(
-    rt: &impl Abort,
-    alloc: Global,
+    rt: &HostRuntime,
     words: &[&str],
     front: &[u8],
     rows: &[(&[u8], &str)],
 ) {
     for &(more, text) in rows {
-        let octets = repeated(rt, alloc, front, b"", 0, more);
-        let octets = octets.as_slice();
-        expect_one(rt, alloc, words, octets, (0, 0), Status::Done, text);
+        let octets = repeated(rt, rt.alloc(), front, b"", 0, more);
+        expect_text(rt, words, octets.as_slice(), Status::Done, text);
     }
 }
 
