@@ -62,7 +62,7 @@ fn points_in_regions(rt: HostRuntime) {
         raw 00000000000000030000000000000000000000000000240101000000\n => \
         fix 1 enter rectangle 1\nfix 1 enter polygon 1\nfix 1 enter polygon 2\nfix 2 leave polygon 2\nfix 3 enter polygon 2\nfix 4 leave polygon 2\nfix 5 enter polygon 2\nfixes=5 events=7\n",
     ];
-    expect(&rt, &["fence"], Status::Done, rows);
+    expect(&rt, rt.alloc(), &["fence"], Status::Done, rows);
 }
 
 #[test]
@@ -137,7 +137,7 @@ fn regions_and_runs(rt: HostRuntime) {
         fix 0\n => \
         fix 1 enter rectangle 7\nfix 1 enter rectangle 9\nfix 1 over rectangle 9\nfix 1 enter polygon 1\nfix 1 over polygon 1\nfix 1 enter polygon 7\nfix 2 leave rectangle 7\nfix 2 leave rectangle 9\nfix 2 leave polygon 1\nfix 2 leave polygon 7\nfixes=2 events=10\n",
     ];
-    expect(&rt, &["fence"], Status::Done, rows);
+    expect(&rt, rt.alloc(), &["fence"], Status::Done, rows);
 }
 
 #[test]
@@ -149,7 +149,7 @@ fn lines_of_tracks(rt: HostRuntime) {
         "rectangles 000100000007000001312D0A06bc3e4001312d0006bc3e4a\nfix 20000010\n => fix 1 enter rectangle 7\nfixes=1 events=1\n",
         "delete-rectangles 00\ndelete-polygons 00\nfix 89999999\n => fixes=1 events=0\n",
     ];
-    expect(&rt, &["fence"], Status::Done, rows);
+    expect(&rt, rt.alloc(), &["fence"], Status::Done, rows);
 }
 
 #[test]
@@ -177,7 +177,7 @@ fn bad_lines_of_tracks(rt: HostRuntime) {
         "rectangles 020100000007000001312d0a06bc3e4001312d0006bc3e4a\n => line 1 refused\n",
         "rectangles 000100000007000001312d0a06bc3e4001312d0006bc3e4a\nfix 20000000\nrectangles 020200000007000001312d0a06bc3e4001312d0006bc3e4a00000008000000000000000000000000000000000000\nfix 0\n => fix 1 enter rectangle 7\nline 3 refused\n",
     ];
-    expect(&rt, &["fence"], Status::Refused, rows);
+    expect(&rt, rt.alloc(), &["fence"], Status::Refused, rows);
 }
 
 // A track of one fix, whose position has so many items without a value: 28 octets, and two for each.
@@ -191,8 +191,10 @@ fn fixes_of_at_most_1023_octets(rt: HostRuntime) {
     let alloc = rt.alloc();
     let longest = track_of(&rt, alloc, 497);
     let text = "fixes=1 events=0\n";
-    expect_text(&rt, &["fence"], longest.as_slice(), Status::Done, text);
+    let longest = longest.as_slice();
+    expect_text(&rt, alloc, &["fence"], longest, Status::Done, text);
     let longer = track_of(&rt, alloc, 498);
     let text = "line 1 refused\n";
-    expect_text(&rt, &["fence"], longer.as_slice(), Status::Refused, text);
+    let longer = longer.as_slice();
+    expect_text(&rt, alloc, &["fence"], longer, Status::Refused, text);
 }

@@ -20,7 +20,7 @@ fn fixes_that_are_passed_on(rt: HostRuntime) {
         // The same octets are a fix in the other world.
         "a raw 000000000000000301312d0006bc3e40000000000000240101000000\n => recorded=1 middle=0 upstream=0\n",
     ];
-    expect(&rt, &["gateway"], Status::Done, rows);
+    expect(&rt, rt.alloc(), &["gateway"], Status::Done, rows);
 }
 
 // Each is the first line of its script, and bad.
@@ -60,15 +60,17 @@ const BAD: &[&[u8]] = &[
 // The lines are counted, those that are passed over too, and what was printed stays. A line of communication is one of its own world.
 #[test]
 fn bad_lines_of_gateways(rt: HostRuntime) {
+    let alloc = rt.alloc();
+    let first = "line 1 refused\n";
     for &line in BAD {
-        expect_text(&rt, &["gateway"], line, Status::Refused, "line 1 refused\n");
+        expect_text(&rt, alloc, &["gateway"], line, Status::Refused, first);
     }
     let rows: &[&str] = &[
         "# one\n\na fix 1\npump\nb fix 1\npump\n => pump 0\nline 5 refused\n",
         "a open\nb cut 1\n => line 2 refused\n",
         "b open\na cut 1\n => line 2 refused\n",
     ];
-    expect(&rt, &["gateway"], Status::Refused, rows);
+    expect(&rt, alloc, &["gateway"], Status::Refused, rows);
 }
 
 // The most fixes of a vault that are not accepted.
@@ -89,8 +91,9 @@ fn a_pump_without_room_for_all(rt: HostRuntime) {
 // One fix more than the vault of world a may hold.
 #[test]
 fn a_fix_without_room(rt: HostRuntime) {
-    let script = repeated(&rt, rt.alloc(), b"a fix 0\n", b"a fix 0\n", LIMIT, b"");
+    let alloc = rt.alloc();
+    let script = repeated(&rt, alloc, b"a fix 0\n", b"a fix 0\n", LIMIT, b"");
     let script = script.as_slice();
     let text = "vault full at 100000\n";
-    expect_text(&rt, &["gateway"], script, Status::StoreFault, text);
+    expect_text(&rt, alloc, &["gateway"], script, Status::StoreFault, text);
 }

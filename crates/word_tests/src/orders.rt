@@ -28,7 +28,7 @@ fn orders_are_obeyed(rt: HostRuntime) {
         // octets, and the response to the heartbeat, of 20, behind it.
         "open\nrun\nissue 8300 0141\nissue 8300 0142\ndown all\ntick 60000\nup 1 all\ndown 17\n => order 0 performed 0\norder 0 answered 0\norder 1 performed 0\nissued=2 performed=2 answered=1\n",
     ];
-    expect(&rt, &["orders"], Status::Done, rows);
+    expect(&rt, rt.alloc(), &["orders"], Status::Done, rows);
 }
 
 #[test]
@@ -49,7 +49,7 @@ fn results_by_the_tables(rt: HostRuntime) {
         // The terminal that starts anew makes its tables from its log: the circle is there, and the one that was not set is not.
         "issue 8600 0101000000050000000000000000000000000001\nopen\nrun\nrestart terminal\ncut 1\nissue 8600 0201000000050000000000000000000000000002\nissue 8600 0201000000060000000000000000000000000002\nopen\nrun\n => order 0 performed 0\norder 0 answered 0\norder 1 performed 0\norder 1 answered 0\norder 2 performed 1\norder 2 answered 1\nissued=3 performed=3 answered=3\n",
     ];
-    expect(&rt, &["orders"], Status::Done, rows);
+    expect(&rt, rt.alloc(), &["orders"], Status::Done, rows);
 }
 
 // The terminal is authenticated, and the order is on its way down.
@@ -74,7 +74,7 @@ fn an_order_is_lost_with_its_line(rt: HostRuntime) {
         (b"restart platform\n", UNREAD),
         (b"restart platform\nopen\nrun\n", OBEYED),
     ];
-    expect_behind(&rt, &["orders"], SENT, rows);
+    expect_behind(&rt, rt.alloc(), &["orders"], SENT, rows);
 }
 
 // The terminal performed the order on line 1, and its answer is on its way up there.
@@ -101,7 +101,7 @@ fn an_answer_is_late_or_lost(rt: HostRuntime) {
         (b"restart terminal\ncut 1\nopen\nrun\n", OBEYED),
         (b"restart terminal\nrestart platform\nopen\nrun\n", OBEYED),
     ];
-    expect_behind(&rt, &["orders"], PERFORMED, rows);
+    expect_behind(&rt, rt.alloc(), &["orders"], PERFORMED, rows);
 }
 
 // Each is the first line of its script, and bad.
@@ -144,13 +144,15 @@ const BAD: &[&[u8]] = &[
 // The lines are counted, those that are passed over too, and what was printed stays.
 #[test]
 fn bad_lines_of_orders(rt: HostRuntime) {
+    let alloc = rt.alloc();
+    let first = "line 1 refused\n";
     for &line in BAD {
-        expect_text(&rt, &["orders"], line, Status::Refused, "line 1 refused\n");
+        expect_text(&rt, alloc, &["orders"], line, Status::Refused, first);
     }
     let rows: &[&str] = &[
         "# one\n\nopen\nissue 8300 0141\nrun\nup 2 all\nissue 8300 0141\n => order 0 performed 0\norder 0 answered 0\nline 6 refused\n",
     ];
-    expect(&rt, &["orders"], Status::Refused, rows);
+    expect(&rt, alloc, &["orders"], Status::Refused, rows);
 }
 
 // Digits of either case, and the shortest bodies.
@@ -159,7 +161,7 @@ fn orders_of_all_kinds(rt: HostRuntime) {
     let rows: &[&str] = &[
         "issue 8300 00\nissue 8105 fF\nissue 8103 00\nissue 8600 0000\nissue 8601 00\nissue 8602 0000\nissue 8603 00\nissue 8604 0000000000000000\nissue 8605 00\nissue 8606 0000000000000000\nissue 8607 00\n => issued=11 performed=0 answered=0\n",
     ];
-    expect(&rt, &["orders"], Status::Done, rows);
+    expect(&rt, rt.alloc(), &["orders"], Status::Done, rows);
 }
 
 // A text of a flag and so many octets.
@@ -167,8 +169,10 @@ fn orders_of_all_kinds(rt: HostRuntime) {
 fn long_bodies(rt: HostRuntime) {
     let alloc = rt.alloc();
     let longest = repeated(&rt, alloc, b"issue 8300 00", b"41", 1022, b"");
-    expect_text(&rt, &["orders"], longest.as_slice(), Status::Done, UNREAD);
+    let longest = longest.as_slice();
+    expect_text(&rt, alloc, &["orders"], longest, Status::Done, UNREAD);
     let longer = repeated(&rt, alloc, b"issue 8300 00", b"41", 1023, b"");
     let bad = "line 1 refused\n";
-    expect_text(&rt, &["orders"], longer.as_slice(), Status::Refused, bad);
+    let longer = longer.as_slice();
+    expect_text(&rt, alloc, &["orders"], longer, Status::Refused, bad);
 }

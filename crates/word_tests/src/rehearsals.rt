@@ -19,7 +19,7 @@ fn scripts_without_entries(rt: HostRuntime) {
         "open\nup 1 0\n => recorded=0 accepted=0 rows=0 stored=0\n",
         "raw 00000000000000030000000706bc3e40000000000000240101000000\n => recorded=1 accepted=0 rows=0 stored=0\n",
     ];
-    expect(&rt, &["rehearse"], Status::Done, rows);
+    expect(&rt, rt.alloc(), &["rehearse"], Status::Done, rows);
 }
 
 // A bad line ends the script, and what was printed before it stays.
@@ -45,7 +45,7 @@ fn bad_lines_of_scripts(rt: HostRuntime) {
         "beat 100001\n => line 1 refused\n",
         "open\nrun\nrestart terminal 2011\nrun\n => 1 register registered\n1 auth accepted\nline 3 refused\n",
     ];
-    expect(&rt, &["rehearse"], Status::Refused, rows);
+    expect(&rt, rt.alloc(), &["rehearse"], Status::Refused, rows);
 }
 
 #[test]
@@ -53,10 +53,12 @@ fn long_lines_of_scripts(rt: HostRuntime) {
     let alloc = rt.alloc();
     let longest = repeated(&rt, alloc, b"", b"#", 4096, b"");
     let none = "recorded=0 accepted=0 rows=0 stored=0\n";
-    expect_text(&rt, &["rehearse"], longest.as_slice(), Status::Done, none);
+    let longest = longest.as_slice();
+    expect_text(&rt, alloc, &["rehearse"], longest, Status::Done, none);
     let longer = repeated(&rt, alloc, b"", b"#", 4097, b"");
     let bad = "line 1 refused\n";
-    expect_text(&rt, &["rehearse"], longer.as_slice(), Status::Refused, bad);
+    let longer = longer.as_slice();
+    expect_text(&rt, alloc, &["rehearse"], longer, Status::Refused, bad);
 }
 
 // The acceptance of a unit reaches the terminal octet by octet: its frame has 20.
@@ -66,7 +68,7 @@ fn octets_one_by_one(rt: HostRuntime) {
         "open\nrun\nfix 0\ntick 0\nup 1 42\nup 1 1\ndown 19\n => 1 register registered\n1 auth accepted\n1 unit 2 stored 2\nrecorded=1 accepted=0 rows=1 stored=1\n",
         "open\nrun\nfix 0\ntick 0\nup 1 42\nup 1 1\ndown 19\ndown 1\n => 1 register registered\n1 auth accepted\n1 unit 2 stored 2\nrecorded=1 accepted=1 rows=1 stored=1\n",
     ];
-    expect(&rt, &["rehearse"], Status::Done, rows);
+    expect(&rt, rt.alloc(), &["rehearse"], Status::Done, rows);
 }
 
 #[test]
@@ -85,7 +87,7 @@ fn lines_that_end_and_ends_that_start_anew(rt: HostRuntime) {
         // The code of the other edition is denied, the terminal registers anew, and the unit is a repeat.
         "open\nrun\nfix 0\ntick 0\nup 1 all\nrestart terminal 2019\ncut 1\nopen\nrun\nopen\nrun\n => 1 register registered\n1 auth accepted\n1 unit 2 stored 2\n1 close accepted\n2 auth denied 1\n3 register registered\n3 auth accepted\n3 unit 2 repeat 2\nrecorded=1 accepted=1 rows=1 stored=1\n",
     ];
-    expect(&rt, &["rehearse"], Status::Done, rows);
+    expect(&rt, rt.alloc(), &["rehearse"], Status::Done, rows);
 }
 
 // The terminal's serials go on with each beat, and a unit is formed where the mark leaves room for its number.
@@ -95,7 +97,7 @@ fn the_window_of_serials(rt: HostRuntime) {
         "open\nrun\nfix 0\ntick 0\nbeat 40000\nfix 1\ntick 0\nfix 2\ntick 0\nrun\n => 1 register registered\n1 auth accepted\n1 unit 2 stored 2\n1 unit 32765 stored 32765\n1 unit 32766 stored 32766\nrecorded=3 accepted=3 rows=3 stored=3\n",
         "open\nrun\nfix 0\ntick 0\nbeat 100000\nbeat 100000\nbeat 100000\nfix 1\ntick 0\nrun\n => 1 register registered\n1 auth accepted\n1 unit 2 stored 2\n1 unit 32765 stored 32765\nrecorded=2 accepted=2 rows=2 stored=2\n",
     ];
-    expect(&rt, &["rehearse"], Status::Done, rows);
+    expect(&rt, rt.alloc(), &["rehearse"], Status::Done, rows);
 }
 
 // A session's number does not wrap at 65,536. Registrations take the terminal's serials 0 to 32,764 one after another; the next one is
@@ -106,11 +108,13 @@ fn more_lines_than_serials(rt: HostRuntime) {
     let script = repeated(&rt, alloc, b"", b"open\n", 65_536, b"run\nfix 0\nrun\n");
     let text = "65536 register registered\n65536 auth accepted\n65536 unit 32765 stored 32765\n\
         recorded=1 accepted=1 rows=1 stored=1\n";
-    expect_text(&rt, &["rehearse"], script.as_slice(), Status::Done, text);
+    let script = script.as_slice();
+    expect_text(&rt, alloc, &["rehearse"], script, Status::Done, text);
     let end = b"up 1 all\nup 65537 all\nup 65538 0\n";
     let script = repeated(&rt, alloc, b"", b"open\n", 65_537, end);
     let text = "1 register registered\n65537 register registered\nline 65540 refused\n";
-    expect_text(&rt, &["rehearse"], script.as_slice(), Status::Refused, text);
+    let script = script.as_slice();
+    expect_text(&rt, alloc, &["rehearse"], script, Status::Refused, text);
 }
 
 // The lines of the fix of this half minute of 5 March 2024: 40 octets, with an odometer, a signal and satellites.
@@ -166,11 +170,12 @@ fn a_vault_that_is_full(rt: HostRuntime) {
     let alloc = rt.alloc();
     let script = repeated(&rt, alloc, b"", b"fix 0\n", 100_000, b"");
     let text = "recorded=100000 accepted=0 rows=0 stored=0\n";
-    expect_text(&rt, &["rehearse"], script.as_slice(), Status::Done, text);
+    let script = script.as_slice();
+    expect_text(&rt, alloc, &["rehearse"], script, Status::Done, text);
     let script = repeated(&rt, alloc, b"", b"fix 0\n", 100_001, b"");
     let text = "vault full at 100000\n";
     let script = script.as_slice();
-    expect_text(&rt, &["rehearse"], script, Status::StoreFault, text);
+    expect_text(&rt, alloc, &["rehearse"], script, Status::StoreFault, text);
 }
 
 // The source is not read.
@@ -180,7 +185,7 @@ fn one_fix_is_made(rt: HostRuntime) {
         " => recorded=1 accepted=1 rows=1 stored=1\n",
         "fix\n => recorded=1 accepted=1 rows=1 stored=1\n",
     ];
-    expect(&rt, &["make", "1"], Status::Done, rows);
+    expect(&rt, rt.alloc(), &["make", "1"], Status::Done, rows);
 }
 
 // One line alone is written: so many fixes are recorded, accepted and stored, in some rows.

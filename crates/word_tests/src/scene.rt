@@ -139,42 +139,56 @@ pub(crate) fn expect_one(
 
 /// The same where no call fails.
 pub(crate) fn expect_text(
-    rt: &HostRuntime,
+    rt: &impl Abort,
+    alloc: Global,
     words: &[&str],
     octets: &[u8],
     status: Status,
     text: &str,
 ) {
-    expect_one(rt, rt.alloc(), words, octets, (0, 0), status, text);
+    expect_one(rt, alloc, words, octets, (0, 0), status, text);
 }
 
 /// Runs the words over the input of each row. A row is an input, ` => ` and all that is written of it.
-pub(crate) fn expect(rt: &HostRuntime, words: &[&str], status: Status, rows: &[&str]) {
+pub(crate) fn expect(
+    rt: &impl Abort,
+    alloc: Global,
+    words: &[&str],
+    status: Status,
+    rows: &[&str],
+) {
     for row in rows {
         let (input, text) = row.split_once(" => ").expect(rt, "a row");
-        expect_text(rt, words, input.as_bytes(), status, text);
+        expect_text(rt, alloc, words, input.as_bytes(), status, text);
     }
 }
 
 /// The same of rows whose inputs are the digits of octets.
-pub(crate) fn expect_octets(rt: &HostRuntime, words: &[&str], status: Status, rows: &[&str]) {
+pub(crate) fn expect_octets(
+    rt: &impl Abort,
+    alloc: Global,
+    words: &[&str],
+    status: Status,
+    rows: &[&str],
+) {
     for row in rows {
         let (digits, text) = row.split_once(" => ").expect(rt, "a row");
-        let octets = hex::decode(rt.alloc(), digits.as_bytes()).expect(rt, "octets");
-        expect_text(rt, words, octets.as_slice(), status, text);
+        let octets = hex::decode(alloc, digits.as_bytes()).expect(rt, "octets");
+        expect_text(rt, alloc, words, octets.as_slice(), status, text);
     }
 }
 
 /// Runs the words over these octets and those behind them in each row, and compares the text of the row.
 pub(crate) fn expect_behind(
-    rt: &HostRuntime,
+    rt: &impl Abort,
+    alloc: Global,
     words: &[&str],
     front: &[u8],
     rows: &[(&[u8], &str)],
 ) {
     for &(more, text) in rows {
-        let octets = repeated(rt, rt.alloc(), front, b"", 0, more);
-        expect_text(rt, words, octets.as_slice(), Status::Done, text);
+        let octets = repeated(rt, alloc, front, b"", 0, more);
+        expect_text(rt, alloc, words, octets.as_slice(), Status::Done, text);
     }
 }
 

@@ -16,7 +16,7 @@ fn frames(rt: HostRuntime) {
         "7e000280000139123456780000b27e => 0 2013 0x0002 heartbeat phone=013912345678 serial=0 bit15 body=0\nframes=1 refused=0\n",
         "7e8001000501391234567800000000000200b67e => 0 2013 0x8001 platform-ack phone=013912345678 serial=0 body=5 reply=0 id=0x0002 result=0\nframes=1 refused=0\n",
     ];
-    expect_octets(&rt, &["view"], Status::Done, rows);
+    expect_octets(&rt, rt.alloc(), &["view"], Status::Done, rows);
 }
 
 #[test]
@@ -36,7 +36,7 @@ fn refusals_of_frames(rt: HostRuntime) {
         "7e00020001013912345678000041727e => 0+12 refused Trailing\nframes=0 refused=1\n",
         "7e00020001013912345678000041727e7e000200000139123456780000327e => 0+12 refused Trailing\n16 2013 0x0002 heartbeat phone=013912345678 serial=0 body=0\nframes=1 refused=1\n",
     ];
-    expect_octets(&rt, &["view"], Status::Refused, rows);
+    expect_octets(&rt, rt.alloc(), &["view"], Status::Refused, rows);
 }
 
 #[test]
@@ -47,7 +47,7 @@ fn bodies(rt: HostRuntime) {
         "7e810000030139123456780000000500b77e => 0 2013 0x8100 register-reply phone=013912345678 serial=0 body=3 reply=5 result=0 code=-\nframes=1 refused=0\n",
         "7e010000290139123456780001002c012c373031313141310000000000000000000000000000000000003132333435363702d4c100423b7e => 0 2013 0x0100 register phone=013912345678 serial=1 body=41 province=44 city=300 maker=3730313131 model=4131000000000000000000000000000000000000 terminal=31323334353637 colour=2 plate=d4c10042\nframes=1 refused=0\n",
     ];
-    expect_octets(&rt, &["view"], Status::Done, rows);
+    expect_octets(&rt, rt.alloc(), &["view"], Status::Done, rows);
 }
 
 #[test]
@@ -57,7 +57,7 @@ fn refusals_of_bodies(rt: HostRuntime) {
         "7e070400060139123456780000000100001c00287e => 0+17 refused Truncated\nframes=0 refused=1\n",
         "7e000200000139123456780000327e7e81000004013912345678000000050341f27e7e0102000201391234567800023132307e => 0 2013 0x0002 heartbeat phone=013912345678 serial=0 body=0\n15+15 refused Trailing\n34 2013 0x0102 auth phone=013912345678 serial=2 body=2 code=3132\nframes=2 refused=1\n",
     ];
-    expect_octets(&rt, &["view"], Status::Refused, rows);
+    expect_octets(&rt, rt.alloc(), &["view"], Status::Refused, rows);
 }
 
 #[test]
@@ -84,7 +84,7 @@ fn lines_of_both_editions(rt: HostRuntime) {
         "7e8001c00501000000000139123456787d027d010000000200747e => 0 2019 0x8001 platform-ack phone=00000000013912345678 serial=32381 version=1 bit15 body=5 reply=0 id=0x0002 result=0\nframes=1 refused=0\n",
         "7e0200402201000000000139123456780005000000000000000301312d0006bc3e4000000000000024010100000001040000000aa57e => 0 2019 0x0200 position phone=00000000013912345678 serial=5 version=1 body=34 alarm=0x00000000 status=0x00000003 lat=20000000 lon=113000000 altitude=0 speed=0 direction=0 time=2024-01-01T00:00:00+08:00 item=0x01:10\nframes=1 refused=0\n",
     ];
-    expect_octets(&rt, &["view"], Status::Done, rows);
+    expect_octets(&rt, rt.alloc(), &["view"], Status::Done, rows);
 }
 
 #[test]
@@ -100,7 +100,7 @@ fn refusals_of_both_editions(rt: HostRuntime) {
         "7e0104600201000000000139123456780000000300040007567e => 0+17 refused BadPacketNumber\nframes=0 refused=1\n",
         "7e8604000d9235593192790000027d02ff800003331010014305409f7e => 0+24 refused Truncated\nframes=0 refused=1\n",
     ];
-    expect_octets(&rt, &["view"], Status::Refused, rows);
+    expect_octets(&rt, rt.alloc(), &["view"], Status::Refused, rows);
 }
 
 // The content is too long at its last octet, the heartbeat's first flag ends what is skipped, what stands behind it is a stray
@@ -111,7 +111,8 @@ fn a_content_too_long(rt: HostRuntime) {
     let octets = repeated(&rt, alloc, b"\x7e", &[0], 1046, HEARTBEAT);
     let text =
         "1046+0 refused TooLong\n1048+0 refused Stray\n1062+0 refused Truncated\nframes=0 refused=3\n";
-    expect_text(&rt, &["view"], octets.as_slice(), Status::Refused, text);
+    let octets = octets.as_slice();
+    expect_text(&rt, alloc, &["view"], octets, Status::Refused, text);
 }
 
 // The frame of a body of 1,023 flags, under an id without a row.
@@ -133,27 +134,28 @@ fn checks(rt: HostRuntime) {
         "7e000200000139123456780000327e7e000200000139123456780000327e => ok frames=2\n",
         "7e0102000201391234567800004142327e => ok frames=1\n",
     ];
-    expect_octets(&rt, &["check"], Status::Done, done);
+    expect_octets(&rt, rt.alloc(), &["check"], Status::Done, done);
     let refused: &[&str] = &[
         "7e000200000139123456780000337e7e000200000139123456780000327e => 0+12 refused CheckMismatch computed=32 found=33\n",
         "7e0002 => 3+0 refused Truncated\n",
         // a reply to a registration with an octet too many
         "7e81000004013912345678000000050341f27e => 0+15 refused Trailing\n",
     ];
-    expect_octets(&rt, &["check"], Status::Refused, refused);
+    expect_octets(&rt, rt.alloc(), &["check"], Status::Refused, refused);
 }
 
 #[test]
 fn checks_of_digits(rt: HostRuntime) {
+    let alloc = rt.alloc();
     let words = &["check", "--hex"];
     let digits = b"7e 00020000 0139 1234\t5678\r\n0000 3\n2 7e";
-    expect_text(&rt, words, digits, Status::Done, "ok frames=1\n");
+    expect_text(&rt, alloc, words, digits, Status::Done, "ok frames=1\n");
     let refused: &[&str] = &[
         "7e 0200001b 013912345678 0005 000000000000000000000000000000000000000000000000000000 2c 7e => 0+34 refused Truncated\n",
         "7e7ex => 0+0 refused EmptyFrame\n",
         "x => hex refused at 0\n",
     ];
-    expect(&rt, words, Status::Refused, refused);
+    expect(&rt, alloc, words, Status::Refused, refused);
 }
 
 #[test]
@@ -162,12 +164,12 @@ fn views_of_digits(rt: HostRuntime) {
     let done: &[&str] = &[
         "7E 00020000 0139 1234\t5678\r\n0000 3\n2 7E => 0 2013 0x0002 heartbeat phone=013912345678 serial=0 body=0\nframes=1 refused=0\n",
     ];
-    expect(&rt, words, Status::Done, done);
+    expect(&rt, rt.alloc(), words, Status::Done, done);
     let refused: &[&str] = &[
         "7e 0200001b 013912345678 0005 000000000000000000000000000000000000000000000000000000 2c 7e => 0+34 refused Truncated\nframes=0 refused=1\n",
         "7e 7 => hex refused at 4\n",
         "7e000200000139123456780000327e 7e0 => 0 2013 0x0002 heartbeat phone=013912345678 serial=0 body=0\nhex refused at 34\n",
         "7e000200000139123456780000327e7eg => 0 2013 0x0002 heartbeat phone=013912345678 serial=0 body=0\nhex refused at 32\n",
     ];
-    expect(&rt, words, Status::Refused, refused);
+    expect(&rt, rt.alloc(), words, Status::Refused, refused);
 }

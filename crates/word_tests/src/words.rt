@@ -27,7 +27,7 @@ fn words_that_are_no_command(rt: HostRuntime) {
     ];
     for &words in rows {
         expect_one(&rt, alloc, words, HEARTBEAT, (1, 0), Status::Usage, USAGE);
-        expect_text(&rt, words, b"", Status::Usage, USAGE);
+        expect_text(&rt, alloc, words, b"", Status::Usage, USAGE);
     }
 }
 
@@ -49,14 +49,15 @@ const REPORT: &[&str] = &[
 // Nobody is there to be dialled.
 #[test]
 fn reports(rt: HostRuntime) {
+    let alloc = rt.alloc();
     let fix = b"00000000000000030000000106bc3e40000000000000240101000000\n";
     let text = "try 1 dial\ntry 2 dial\naccepted=0 of 1\n";
-    expect_text(&rt, REPORT, fix, Status::Unsent, text);
-    expect_text(&rt, REPORT, b"", Status::Done, "accepted=0 of 0\n");
+    expect_text(&rt, alloc, REPORT, fix, Status::Unsent, text);
+    expect_text(&rt, alloc, REPORT, b"", Status::Done, "accepted=0 of 0\n");
     let short = b"000000000000000300000000000000000000000000002401010000";
     let text = "line 1+22 refused Truncated\n";
-    expect_text(&rt, REPORT, short, Status::Refused, text);
-    expect_text(&rt, &REPORT[..10], b"", Status::Usage, USAGE);
+    expect_text(&rt, alloc, REPORT, short, Status::Refused, text);
+    expect_text(&rt, alloc, &REPORT[..10], b"", Status::Usage, USAGE);
 }
 
 const VIEW: Option<Task> = Some(Task::Tell(Command {
