@@ -43,6 +43,23 @@ fn expect(rt: &impl Abort, alloc: Global, id: u16, body: &[u8], written: &str) {
     );
 }
 
+// A row's id, body and line. The first two are digits, `-` where the body is empty, and the line stands behind ` => `.
+fn parts<'a>(rt: &impl Abort, alloc: Global, row: &'a str) -> (u16, Vec<u8>, &'a str) {
+    let (read, written) = row.split_once(" => ").expect(rt, "a row");
+    let (id, digits) = read.split_once(" ").expect(rt, "two words");
+    let id = u16::from_str_radix(id, 16).expect(rt, "an id");
+    let digits = if digits == "-" { "" } else { digits };
+    let body = hex::decode(alloc, digits.as_bytes()).expect(rt, "a body");
+    (id, body, written)
+}
+
+fn expect_rows(rt: &impl Abort, alloc: Global, rows: &[&str]) {
+    for row in rows {
+        let (id, body, written) = parts(rt, alloc, row);
+        expect(rt, alloc, id, body.as_slice(), written);
+    }
+}
+
 fn octets(rt: &impl Abort, alloc: Global, octets: &[u8]) -> Octets {
     Octets::from_vec(Vec::from_slice(alloc, octets).expect(rt, "octets"))
 }
@@ -63,133 +80,49 @@ fn expect_line(
 
 #[test]
 fn responses_and_registrations(rt: HostRuntime) {
-    let rows: &[(u16, &[u8], &str)] = &[
-        (
-            0x0001,
-            b"\0\x07\x81\x03\x03",
-            "7 2013 0x0001 terminal-ack phone=013912345678 serial=3 body=5 reply=7 id=0x8103 result=3\n",
-        ),
-        (
-            0x8001,
-            b"\xff\xff\x02\0\x04",
-            "7 2013 0x8001 platform-ack phone=013912345678 serial=3 body=5 reply=65535 id=0x0200 result=4\n",
-        ),
-        (
-            0x0003,
-            b"",
-            "7 2013 0x0003 deregister phone=013912345678 serial=3 body=0\n",
-        ),
-        (
-            0x0100,
-            b"\0\x2c\x01\x2c\x37\x30\x31\x31\x31\x41\x31\0\0\0\0\0\0\0\0\0\0\0\0\0\0\0\0\0\0\x31\x32\x33\x34\x35\x36\x37\x02",
-            "7 2013 0x0100 register phone=013912345678 serial=3 body=37 province=44 city=300 maker=3730313131 model=4131000000000000000000000000000000000000 terminal=31323334353637 colour=2 plate=-\n",
-        ),
-        (
-            0x8100,
-            b"\0\x05\x04",
-            "7 2013 0x8100 register-reply phone=013912345678 serial=3 body=3 reply=5 result=4\n",
-        ),
-        (
-            0x8100,
-            b"\0\x05\0\x41",
-            "7 2013 0x8100 register-reply phone=013912345678 serial=3 body=4 reply=5 result=0 code=41\n",
-        ),
-        (
-            0x0102,
-            b"",
-            "7 2013 0x0102 auth phone=013912345678 serial=3 body=0 code=-\n",
-        ),
+    let rows: &[&str] = &[
+        "0001 0007810303 => 7 2013 0x0001 terminal-ack phone=013912345678 serial=3 body=5 reply=7 id=0x8103 result=3\n",
+        "8001 ffff020004 => 7 2013 0x8001 platform-ack phone=013912345678 serial=3 body=5 reply=65535 id=0x0200 result=4\n",
+        "0003 - => 7 2013 0x0003 deregister phone=013912345678 serial=3 body=0\n",
+        "0100 002c012c373031313141310000000000000000000000000000000000003132333435363702 => 7 2013 0x0100 register phone=013912345678 serial=3 body=37 province=44 city=300 maker=3730313131 model=4131000000000000000000000000000000000000 terminal=31323334353637 colour=2 plate=-\n",
+        "8100 000504 => 7 2013 0x8100 register-reply phone=013912345678 serial=3 body=3 reply=5 result=4\n",
+        "8100 00050041 => 7 2013 0x8100 register-reply phone=013912345678 serial=3 body=4 reply=5 result=0 code=41\n",
+        "0102 - => 7 2013 0x0102 auth phone=013912345678 serial=3 body=0 code=-\n",
     ];
-    for &(id, body, written) in rows {
-        expect(&rt, rt.alloc(), id, body, written);
-    }
+    expect_rows(&rt, rt.alloc(), rows);
 }
 
 #[test]
 fn positions_and_batches(rt: HostRuntime) {
-    let rows: &[(u16, &[u8], &str)] = &[
-        (
-            0x0200,
-            b"\0\0\0\x01\0\x0c\0\x03\x01\x31\x2d\0\x06\xbc\x3e\x40\0\x64\x02\x58\0\x5a\x24\x02\x29\x23\x59\x59\x01\x04\0\0\0\x0a\x02\x02\0\x05\x03\x02\x01\0\x04\x02\0\x01\x11\x01\x01\x11\x05\x02\0\0\0\x07\x12\x06\x01\0\0\0\x08\x01\x13\x07\0\0\0\x09\0\x3c\x01\x25\x04\0\0\0\x80\x2a\x02\0\x03\x2b\x04\0\x01\0\x02\x30\x01\x1f\x31\x01\x0c\x14\x04\0\0\0\x01\xe0\0",
-            "7 2013 0x0200 position phone=013912345678 serial=3 body=103 alarm=0x00000001 status=0x000c0003 lat=20000000 lon=113000000 altitude=100 speed=600 direction=90 time=2024-02-29T23:59:59+08:00 item=0x01:10 item=0x02:5 item=0x03:256 item=0x04:1 item=0x11:1 item=0x11:2:7 item=0x12:1:8:1 item=0x13:9:60:1 item=0x25:128 item=0x2a:3 item=0x2b:65538 item=0x30:31 item=0x31:12 item=0x14:00000001 item=0xe0:-\n",
-        ),
-        (
-            0x0201,
-            b"\0\x09\0\0\0\0\0\0\0\0\0\0\0\0\0\0\0\0\0\0\0\0\0\0\x23\x02\x29\0\0\0",
-            "7 2013 0x0201 position-reply phone=013912345678 serial=3 body=30 reply=9 alarm=0x00000000 status=0x00000000 lat=0 lon=0 altitude=0 speed=0 direction=0 time=-\n",
-        ),
-        (
-            0x0704,
-            b"\0\0\x01",
-            "7 2013 0x0704 batch phone=013912345678 serial=3 body=3 count=0 kind=1\n",
-        ),
-        (
-            0x0704,
-            b"\0\x02\0\0\x1c\0\0\0\x01\0\x0c\0\x03\x01\x31\x2d\0\x06\xbc\x3e\x40\0\x64\x02\x58\0\x5a\x24\x02\x29\x23\x59\x59\0\x20\0\0\0\0\0\0\0\0\0\0\0\0\0\0\0\0\0\0\0\0\0\0\x23\x02\x29\0\0\0\x02\x02\0\x05",
-            "7 2013 0x0704 batch phone=013912345678 serial=3 body=67 count=2 kind=0 length=28 alarm=0x00000001 status=0x000c0003 lat=20000000 lon=113000000 altitude=100 speed=600 direction=90 time=2024-02-29T23:59:59+08:00 length=32 alarm=0x00000000 status=0x00000000 lat=0 lon=0 altitude=0 speed=0 direction=0 time=- item=0x02:5\n",
-        ),
+    let rows: &[&str] = &[
+        "0200 00000001000c000301312d0006bc3e4000640258005a24022923595901040000000a020200050302010004020001110101110502000000071206010000000801130700000009003c012504000000802a0200032b040001000230011f31010c140400000001e000 => 7 2013 0x0200 position phone=013912345678 serial=3 body=103 alarm=0x00000001 status=0x000c0003 lat=20000000 lon=113000000 altitude=100 speed=600 direction=90 time=2024-02-29T23:59:59+08:00 item=0x01:10 item=0x02:5 item=0x03:256 item=0x04:1 item=0x11:1 item=0x11:2:7 item=0x12:1:8:1 item=0x13:9:60:1 item=0x25:128 item=0x2a:3 item=0x2b:65538 item=0x30:31 item=0x31:12 item=0x14:00000001 item=0xe0:-\n",
+        "0201 000900000000000000000000000000000000000000000000230229000000 => 7 2013 0x0201 position-reply phone=013912345678 serial=3 body=30 reply=9 alarm=0x00000000 status=0x00000000 lat=0 lon=0 altitude=0 speed=0 direction=0 time=-\n",
+        "0704 000001 => 7 2013 0x0704 batch phone=013912345678 serial=3 body=3 count=0 kind=1\n",
+        "0704 000200001c00000001000c000301312d0006bc3e4000640258005a24022923595900200000000000000000000000000000000000000000000023022900000002020005 => 7 2013 0x0704 batch phone=013912345678 serial=3 body=67 count=2 kind=0 length=28 alarm=0x00000001 status=0x000c0003 lat=20000000 lon=113000000 altitude=100 speed=600 direction=90 time=2024-02-29T23:59:59+08:00 length=32 alarm=0x00000000 status=0x00000000 lat=0 lon=0 altitude=0 speed=0 direction=0 time=- item=0x02:5\n",
     ];
-    for &(id, body, written) in rows {
-        expect(&rt, rt.alloc(), id, body, written);
-    }
+    expect_rows(&rt, rt.alloc(), rows);
 }
 
 #[test]
 fn parameters(rt: HostRuntime) {
-    let rows: &[(u16, &[u8], &str)] = &[
-        (
-            0x8103,
-            b"\x04\0\0\0\x81\x02\0\x2c\0\0\0\x84\x01\x02\0\0\0\x01\x02\0\x3c\0\0\0\x83\0",
-            "7 2013 0x8103 set-params phone=013912345678 serial=3 body=26 count=4 param=0x00000081:44 param=0x00000084:2 param=0x00000001:003c param=0x00000083:-\n",
-        ),
-        (
-            0x8106,
-            b"\x01\0\0\0\x01",
-            "7 2013 0x8106 query-some phone=013912345678 serial=3 body=5 count=1 id=0x00000001\n",
-        ),
-        (
-            0x8106,
-            b"\0",
-            "7 2013 0x8106 query-some phone=013912345678 serial=3 body=1 count=0\n",
-        ),
-        (
-            0x0104,
-            b"\0\x07\x02\0\0\0\x01\x04\0\0\0\x3c\0\0\0\x13\x03abc",
-            "7 2013 0x0104 params phone=013912345678 serial=3 body=20 reply=7 count=2 param=0x00000001:60 param=0x00000013:616263\n",
-        ),
+    let rows: &[&str] = &[
+        "8103 040000008102002c0000008401020000000102003c0000008300 => 7 2013 0x8103 set-params phone=013912345678 serial=3 body=26 count=4 param=0x00000081:44 param=0x00000084:2 param=0x00000001:003c param=0x00000083:-\n",
+        "8106 0100000001 => 7 2013 0x8106 query-some phone=013912345678 serial=3 body=5 count=1 id=0x00000001\n",
+        "8106 00 => 7 2013 0x8106 query-some phone=013912345678 serial=3 body=1 count=0\n",
+        "0104 00070200000001040000003c0000001303616263 => 7 2013 0x0104 params phone=013912345678 serial=3 body=20 reply=7 count=2 param=0x00000001:60 param=0x00000013:616263\n",
     ];
-    for &(id, body, written) in rows {
-        expect(&rt, rt.alloc(), id, body, written);
-    }
+    expect_rows(&rt, rt.alloc(), rows);
 }
 
 #[test]
 fn tracks_texts_and_orders(rt: HostRuntime) {
-    let rows: &[(u16, &[u8], &str)] = &[
-        (
-            0x8202,
-            b"\0\0",
-            "7 2013 0x8202 track phone=013912345678 serial=3 body=2 interval=0 validity=-\n",
-        ),
-        (
-            0x8202,
-            b"\0\x05\0\0\x02\x58",
-            "7 2013 0x8202 track phone=013912345678 serial=3 body=6 interval=5 validity=600\n",
-        ),
-        (
-            0x8300,
-            b"\x01\x02\x41",
-            "7 2013 0x8300 text phone=013912345678 serial=3 body=3 flag=1 text=0241\n",
-        ),
-        (
-            0x8105,
-            b"\x03",
-            "7 2013 0x8105 control phone=013912345678 serial=3 body=1 command=3 text=-\n",
-        ),
+    let rows: &[&str] = &[
+        "8202 0000 => 7 2013 0x8202 track phone=013912345678 serial=3 body=2 interval=0 validity=-\n",
+        "8202 000500000258 => 7 2013 0x8202 track phone=013912345678 serial=3 body=6 interval=5 validity=600\n",
+        "8300 010241 => 7 2013 0x8300 text phone=013912345678 serial=3 body=3 flag=1 text=0241\n",
+        "8105 03 => 7 2013 0x8105 control phone=013912345678 serial=3 body=1 command=3 text=-\n",
     ];
-    for &(id, body, written) in rows {
-        expect(&rt, rt.alloc(), id, body, written);
-    }
+    expect_rows(&rt, rt.alloc(), rows);
 }
 
 #[test]
@@ -205,46 +138,16 @@ fn a_text_of_a_kind(rt: HostRuntime) {
 
 #[test]
 fn regions_and_their_deletion(rt: HostRuntime) {
-    let rows: &[(u16, &[u8], &str)] = &[
-        (
-            0x8600,
-            b"\x01\x01\0\0\0\x09\0\0\x01\x31\x2d\0\x06\xbc\x3e\x40\0\0\0\x64",
-            "7 2013 0x8600 circles phone=013912345678 serial=3 body=20 setting=1 count=1 circle=9:0x0000:20000000:113000000:100:-:-:-:-\n",
-        ),
-        (
-            0x8602,
-            b"\0\x01\0\0\0\x07\0\0\x01\x31\x2d\x0a\x06\xbc\x3e\x40\x01\x31\x2d\0\x06\xbc\x3e\x4a",
-            "7 2013 0x8602 rectangles phone=013912345678 serial=3 body=24 setting=0 count=1 rectangle=7:0x0000:20000010:113000000:20000000:113000010:-:-:-:-\n",
-        ),
-        (
-            0x8604,
-            b"\0\0\0\x09\0\0\0\x03\0\0\0\0\x06\xbc\x3e\x36\0\0\0\x0a\x06\xbc\x3e\x4a\0\0\0\0\x06\xbc\x3e\x4a",
-            "7 2013 0x8604 polygon phone=013912345678 serial=3 body=32 polygon=9:0x0000:-:-:-:- count=3 vertex=0:112999990 vertex=10:113000010 vertex=0:113000010\n",
-        ),
-        (
-            0x8604,
-            b"\0\0\0\x09\x80\x02\0\x50\x05\0\0",
-            "7 2013 0x8604 polygon phone=013912345678 serial=3 body=11 polygon=9:0x8002:-:-:80:5 count=0\n",
-        ),
-        (
-            0x8606,
-            b"\0\0\0\x05\0\x01\x24\x01\x01\0\0\0\x24\x01\x02\0\0\0\0\x01\0\0\0\x06\0\0\0\x07\x01\x31\x2d\0\x06\xbc\x3e\x40\x0a\x03\0\x3c\0\x1e\0\x50\x05",
-            "7 2013 0x8606 route phone=013912345678 serial=3 body=45 route=5:0x0001:240101000000:240102000000 count=1 point=6:7:20000000:113000000:10:0x03:60:30:80:5\n",
-        ),
-        (
-            0x8603,
-            b"\0",
-            "7 2013 0x8603 delete-rectangles phone=013912345678 serial=3 body=1 count=0\n",
-        ),
-        (
-            0x8607,
-            b"\x02\0\0\0\x09\0\0\x01\0",
-            "7 2013 0x8607 delete-routes phone=013912345678 serial=3 body=9 count=2 id=9 id=256\n",
-        ),
+    let rows: &[&str] = &[
+        "8600 010100000009000001312d0006bc3e4000000064 => 7 2013 0x8600 circles phone=013912345678 serial=3 body=20 setting=1 count=1 circle=9:0x0000:20000000:113000000:100:-:-:-:-\n",
+        "8602 000100000007000001312d0a06bc3e4001312d0006bc3e4a => 7 2013 0x8602 rectangles phone=013912345678 serial=3 body=24 setting=0 count=1 rectangle=7:0x0000:20000010:113000000:20000000:113000010:-:-:-:-\n",
+        "8604 00000009000000030000000006bc3e360000000a06bc3e4a0000000006bc3e4a => 7 2013 0x8604 polygon phone=013912345678 serial=3 body=32 polygon=9:0x0000:-:-:-:- count=3 vertex=0:112999990 vertex=10:113000010 vertex=0:113000010\n",
+        "8604 0000000980020050050000 => 7 2013 0x8604 polygon phone=013912345678 serial=3 body=11 polygon=9:0x8002:-:-:80:5 count=0\n",
+        "8606 0000000500012401010000002401020000000001000000060000000701312d0006bc3e400a03003c001e005005 => 7 2013 0x8606 route phone=013912345678 serial=3 body=45 route=5:0x0001:240101000000:240102000000 count=1 point=6:7:20000000:113000000:10:0x03:60:30:80:5\n",
+        "8603 00 => 7 2013 0x8603 delete-rectangles phone=013912345678 serial=3 body=1 count=0\n",
+        "8607 020000000900000100 => 7 2013 0x8607 delete-routes phone=013912345678 serial=3 body=9 count=2 id=9 id=256\n",
     ];
-    for &(id, body, written) in rows {
-        expect(&rt, rt.alloc(), id, body, written);
-    }
+    expect_rows(&rt, rt.alloc(), rows);
 }
 
 #[test]
@@ -381,44 +284,18 @@ fn expect_in_place(rt: &impl Abort, alloc: Global, header: &Header, body: &[u8],
 
 #[test]
 fn orders_in_place(rt: HostRuntime) {
-    let rows: &[(u16, &[u8], &str)] = &[
-        (
-            0x0003,
-            b"",
-            "7 2013 0x0003 deregister phone=013912345678 serial=3 body=0\n",
-        ),
-        (
-            0x8104,
-            b"",
-            "7 2013 0x8104 query-params phone=013912345678 serial=3 body=0\n",
-        ),
-        (
-            0x8201,
-            b"",
-            "7 2013 0x8201 query-position phone=013912345678 serial=3 body=0\n",
-        ),
-        (
-            0x8202,
-            b"\0\0",
-            "7 2013 0x8202 track phone=013912345678 serial=3 body=2 interval=0 validity=-\n",
-        ),
-        (
-            0x8202,
-            b"\0\x05\0\0\x02\x58",
-            "7 2013 0x8202 track phone=013912345678 serial=3 body=6 interval=5 validity=600\n",
-        ),
-        (
-            0x8300,
-            b"\x01\x02\x41",
-            "7 2013 0x8300 text phone=013912345678 serial=3 body=3 flag=1 text=0241\n",
-        ),
-        (
-            0x8105,
-            b"\x03\xd6\0",
-            "7 2013 0x8105 control phone=013912345678 serial=3 body=3 command=3 text=d600\n",
-        ),
+    let rows: &[&str] = &[
+        "0003 - => 7 2013 0x0003 deregister phone=013912345678 serial=3 body=0\n",
+        "8104 - => 7 2013 0x8104 query-params phone=013912345678 serial=3 body=0\n",
+        "8201 - => 7 2013 0x8201 query-position phone=013912345678 serial=3 body=0\n",
+        "8202 0000 => 7 2013 0x8202 track phone=013912345678 serial=3 body=2 interval=0 validity=-\n",
+        "8202 000500000258 => 7 2013 0x8202 track phone=013912345678 serial=3 body=6 interval=5 validity=600\n",
+        "8300 010241 => 7 2013 0x8300 text phone=013912345678 serial=3 body=3 flag=1 text=0241\n",
+        "8105 03d600 => 7 2013 0x8105 control phone=013912345678 serial=3 body=3 command=3 text=d600\n",
     ];
-    for &(id, body, written) in rows {
+    for row in rows {
+        let (id, body, written) = parts(&rt, rt.alloc(), row);
+        let body = body.as_slice();
         expect_in_place(&rt, rt.alloc(), &header(id, None), body, written);
     }
 }

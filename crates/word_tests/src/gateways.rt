@@ -1,48 +1,24 @@
 //! Scripts that `gateway` plays. Each text was typed from its row, or worked out by hand.
 
-use crate::scene::{expect, repeated, run};
+use crate::scene::{expect, expect_text, repeated, run};
 use jt_cli::Status;
 
 #[test]
 fn fixes_that_are_passed_on(rt: HostRuntime) {
-    let rows: &[(&[u8], &str)] = &[
-        (b"", "recorded=0 middle=0 upstream=0\n"),
-        (
-            b"a fix 7\npump\n",
-            "pump 0\nrecorded=1 middle=0 upstream=0\n",
-        ),
+    let rows: &[&str] = &[
+        " => recorded=0 middle=0 upstream=0\n",
+        "a fix 7\npump\n => pump 0\nrecorded=1 middle=0 upstream=0\n",
         // one fix is passed on
-        (
-            b"a open\na run\na fix 0\na tick 0\na run\npump\nb open\nb run\n",
-            "a 1 register registered\na 1 auth accepted\na 1 unit 2 stored 2\npump 1\n\
-            b 1 register registered\nb 1 auth accepted\nb 1 unit 2 stored 2\n\
-            recorded=1 middle=1 upstream=1\n",
-        ),
+        "a open\na run\na fix 0\na tick 0\na run\npump\nb open\nb run\n => a 1 register registered\na 1 auth accepted\na 1 unit 2 stored 2\npump 1\nb 1 register registered\nb 1 auth accepted\nb 1 unit 2 stored 2\nrecorded=1 middle=1 upstream=1\n",
         // the middle starts anew
-        (
-            b"a open\na run\na fix 0\na tick 0\na run\npump\nrestart middle\npump\n",
-            "a 1 register registered\na 1 auth accepted\na 1 unit 2 stored 2\npump 1\npump 0\n\
-            recorded=1 middle=1 upstream=0\n",
-        ),
+        "a open\na run\na fix 0\na tick 0\na run\npump\nrestart middle\npump\n => a 1 register registered\na 1 auth accepted\na 1 unit 2 stored 2\npump 1\npump 0\nrecorded=1 middle=1 upstream=0\n",
         // The middle stored two fixes before it started anew; the one that was recorded upstream is sent by the terminal that
         // starts anew, the other by the next pump, and none twice.
-        (
-            b"# a gateway of two fixes\na open\na run\na fix 0\na tick 0\na run\npump\na fix 1\na tick 0\na run\n\
-            restart middle\n\npump\nb open\nb run\npump\n",
-            "a 1 register registered\na 1 auth accepted\na 1 unit 2 stored 2\npump 1\na 1 unit 3 stored 3\npump 1\n\
-            b 1 register registered\nb 1 auth accepted\nb 1 unit 2 stored 2\npump 0\n\
-            recorded=2 middle=2 upstream=2\n",
-        ),
+        "# a gateway of two fixes\na open\na run\na fix 0\na tick 0\na run\npump\na fix 1\na tick 0\na run\nrestart middle\n\npump\nb open\nb run\npump\n => a 1 register registered\na 1 auth accepted\na 1 unit 2 stored 2\npump 1\na 1 unit 3 stored 3\npump 1\nb 1 register registered\nb 1 auth accepted\nb 1 unit 2 stored 2\npump 0\nrecorded=2 middle=2 upstream=2\n",
         // both ends of both worlds start anew
-        (
-            b"a restart terminal\nb restart terminal\na restart platform\nb restart platform\n",
-            "recorded=0 middle=0 upstream=0\n",
-        ),
+        "a restart terminal\nb restart terminal\na restart platform\nb restart platform\n => recorded=0 middle=0 upstream=0\n",
         // The same octets are a fix in the other world.
-        (
-            b"a raw 000000000000000301312d0006bc3e40000000000000240101000000\n",
-            "recorded=1 middle=0 upstream=0\n",
-        ),
+        "a raw 000000000000000301312d0006bc3e40000000000000240101000000\n => recorded=1 middle=0 upstream=0\n",
     ];
     expect(&rt, rt.alloc(), &["gateway"], Status::Done, rows);
 }
@@ -85,22 +61,14 @@ const BAD: &[&[u8]] = &[
 #[test]
 fn bad_lines_of_gateways(rt: HostRuntime) {
     let alloc = rt.alloc();
+    let first = "line 1 refused\n";
     for &line in BAD {
-        expect(
-            &rt,
-            alloc,
-            &["gateway"],
-            Status::Refused,
-            &[(line, "line 1 refused\n")],
-        );
+        expect_text(&rt, alloc, &["gateway"], line, Status::Refused, first);
     }
-    let rows: &[(&[u8], &str)] = &[
-        (
-            b"# one\n\na fix 1\npump\nb fix 1\npump\n",
-            "pump 0\nline 5 refused\n",
-        ),
-        (b"a open\nb cut 1\n", "line 2 refused\n"),
-        (b"b open\na cut 1\n", "line 2 refused\n"),
+    let rows: &[&str] = &[
+        "# one\n\na fix 1\npump\nb fix 1\npump\n => pump 0\nline 5 refused\n",
+        "a open\nb cut 1\n => line 2 refused\n",
+        "b open\na cut 1\n => line 2 refused\n",
     ];
     expect(&rt, alloc, &["gateway"], Status::Refused, rows);
 }
@@ -123,7 +91,9 @@ fn a_pump_without_room_for_all(rt: HostRuntime) {
 // One fix more than the vault of world a may hold.
 #[test]
 fn a_fix_without_room(rt: HostRuntime) {
-    let script = repeated(&rt, rt.alloc(), b"a fix 0\n", b"a fix 0\n", LIMIT, b"");
-    let row: &[(&[u8], &str)] = &[(script.as_slice(), "vault full at 100000\n")];
-    expect(&rt, rt.alloc(), &["gateway"], Status::StoreFault, row);
+    let alloc = rt.alloc();
+    let script = repeated(&rt, alloc, b"a fix 0\n", b"a fix 0\n", LIMIT, b"");
+    let script = script.as_slice();
+    let text = "vault full at 100000\n";
+    expect_text(&rt, alloc, &["gateway"], script, Status::StoreFault, text);
 }

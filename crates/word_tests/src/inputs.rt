@@ -111,62 +111,44 @@ fn is_viewed(
     is_reported(rt, alloc, &mut source, VIEW_HEX, 1 << 40, status, written)
 }
 
-// An octet is two digits in either case, and blanks stand anywhere. Wrong octets, and a digit left at the end, are refused
-// at their place. The rows with more than one octet are the body of a frame under an id without a row.
-#[test]
-fn hexadecimal_input(rt: HostRuntime) {
-    let rows: &[(&[u8], Status, &str)] = &[
-        (b"", Status::Done, "frames=0 refused=0\n"),
-        (b"7e 7", Status::Refused, "hex refused at 4\n"),
-        (b"7e0", Status::Refused, "hex refused at 3\n"),
-        (b"7eg", Status::Refused, "hex refused at 2\n"),
-        (b"7e07e/", Status::Refused, "hex refused at 5\n"),
-        (
-            b"7e0f01000401391234567800009aBcDeF0327e",
-            Status::Done,
-            "0 2013 0x0f01 opaque phone=013912345678 serial=0 body=4 body-octets=9abcdef0\nframes=1 refused=0\n",
-        ),
-        (
-            b"7e0f0100030139123456780000 \t\r\n0 1\t2\r3\n\n4  5\r\n5a7e",
-            Status::Done,
-            "0 2013 0x0f01 opaque phone=013912345678 serial=0 body=3 body-octets=012345\nframes=1 refused=0\n",
-        ),
-        (
-            b"00\x0C11",
-            Status::Refused,
-            "0+0 refused Stray\nhex refused at 2\n",
-        ),
-        (
-            b"ff@",
-            Status::Refused,
-            "0+0 refused Stray\nhex refused at 2\n",
-        ),
-        (
-            b"ff`",
-            Status::Refused,
-            "0+0 refused Stray\nhex refused at 2\n",
-        ),
-        (
-            b"ffG",
-            Status::Refused,
-            "0+0 refused Stray\nhex refused at 2\n",
-        ),
-        (
-            b"ff:",
-            Status::Refused,
-            "0+0 refused Stray\nhex refused at 2\n",
-        ),
-        (b" \n", Status::Done, "frames=0 refused=0\n"),
-        (b"f", Status::Refused, "hex refused at 1\n"),
-    ];
-    for &(text, status, written) in rows {
-        for cut in 0..=text.len() {
+// Views the digits of each row, ` => ` and what is written of them, cut at each place.
+fn expect_in_pieces(rt: &impl Abort, alloc: Global, status: Status, rows: &[&str]) {
+    for row in rows {
+        let (digits, written) = row.split_once(" => ").expect(rt, "a row");
+        let digits = digits.as_bytes();
+        for cut in 0..=digits.len() {
             assert!(rt;
-                is_viewed(&rt, rt.alloc(), text, cut, status, written),
+                is_viewed(rt, alloc, digits, cut, status, written),
                 "{written}"
             );
         }
     }
+}
+
+// An octet is two digits in either case, and blanks stand anywhere. Wrong octets, and a digit left at the end, are refused
+// at their place. The rows with more than one octet are the body of a frame under an id without a row.
+#[test]
+fn hexadecimal_input(rt: HostRuntime) {
+    let done: &[&str] = &[
+        " => frames=0 refused=0\n",
+        "7e0f01000401391234567800009aBcDeF0327e => 0 2013 0x0f01 opaque phone=013912345678 serial=0 body=4 body-octets=9abcdef0\nframes=1 refused=0\n",
+        "7e0f0100030139123456780000 \t\r\n0 1\t2\r3\n\n4  5\r\n5a7e => 0 2013 0x0f01 opaque phone=013912345678 serial=0 body=3 body-octets=012345\nframes=1 refused=0\n",
+        " \n => frames=0 refused=0\n",
+    ];
+    expect_in_pieces(&rt, rt.alloc(), Status::Done, done);
+    let refused: &[&str] = &[
+        "7e 7 => hex refused at 4\n",
+        "7e0 => hex refused at 3\n",
+        "7eg => hex refused at 2\n",
+        "7e07e/ => hex refused at 5\n",
+        "00\x0C11 => 0+0 refused Stray\nhex refused at 2\n",
+        "ff@ => 0+0 refused Stray\nhex refused at 2\n",
+        "ff` => 0+0 refused Stray\nhex refused at 2\n",
+        "ffG => 0+0 refused Stray\nhex refused at 2\n",
+        "ff: => 0+0 refused Stray\nhex refused at 2\n",
+        "f => hex refused at 1\n",
+    ];
+    expect_in_pieces(&rt, rt.alloc(), Status::Refused, refused);
 }
 
 // Whether there is a message, and this is its line, where its frame stands at octet 7.

@@ -1,95 +1,53 @@
 //! Scripts that `orders` plays. Each text was typed from its row, or worked out by hand. All is of 2013: no line of a script makes the
 //! terminal one of 2019.
 
-use crate::scene::{expect, expect_behind, repeated};
+use crate::scene::{expect, expect_behind, expect_text, repeated};
 use jt_cli::Status;
 
 const OBEYED: &str = "order 0 performed 0\norder 0 answered 0\nissued=1 performed=1 answered=1\n";
 
-const THREE: &str =
-    "order 0 performed 0\norder 0 answered 0\norder 1 performed 0\norder 1 answered 0\n\
-    order 2 performed 0\norder 2 answered 0\nissued=3 performed=3 answered=3\n";
-
 #[test]
 fn orders_are_obeyed(rt: HostRuntime) {
-    let rows: &[(&[u8], &str)] = &[
-        (b"", "issued=0 performed=0 answered=0\n"),
-        (
-            b"# a comment\n\nopen\nrun\n",
-            "issued=0 performed=0 answered=0\n",
-        ),
+    let rows: &[&str] = &[
+        " => issued=0 performed=0 answered=0\n",
+        "# a comment\n\nopen\nrun\n => issued=0 performed=0 answered=0\n",
         // nobody is there
-        (
-            b"issue 8300 0141\nissue 8300 0142\nrun\ntick 1000\ndown all\nlost\n",
-            "issued=2 performed=0 answered=0\n",
-        ),
+        "issue 8300 0141\nissue 8300 0142\nrun\ntick 1000\ndown all\nlost\n => issued=2 performed=0 answered=0\n",
         // two orders
-        (
-            b"issue 8300 0141\nissue 8103 0100000001040000001e\nopen\nrun\n",
-            "order 0 performed 0\norder 0 answered 0\norder 1 performed 0\norder 1 answered 0\n\
-            issued=2 performed=2 answered=2\n",
-        ),
+        "issue 8300 0141\nissue 8103 0100000001040000001e\nopen\nrun\n => order 0 performed 0\norder 0 answered 0\norder 1 performed 0\norder 1 answered 0\nissued=2 performed=2 answered=2\n",
         // The same order three times is three orders.
-        (
-            b"issue 8300 0141\nissue 8300 0141\nissue 8300 0141\nopen\nrun\n",
-            THREE,
-        ),
+        "issue 8300 0141\nissue 8300 0141\nissue 8300 0141\nopen\nrun\n => order 0 performed 0\norder 0 answered 0\norder 1 performed 0\norder 1 answered 0\norder 2 performed 0\norder 2 answered 0\nissued=3 performed=3 answered=3\n",
         // The order is performed on the first line and its answer is lost with that line; on the second the terminal answers from its
         // log.
-        (
-            b"issue 8300 0141\nopen\nup 1 all\ndown all\nup 1 all\ndown all\nrestart terminal\ncut 1\nopen\nrun\n",
-            OBEYED,
-        ),
+        "issue 8300 0141\nopen\nup 1 all\ndown all\nup 1 all\ndown all\nrestart terminal\ncut 1\nopen\nrun\n => order 0 performed 0\norder 0 answered 0\nissued=1 performed=1 answered=1\n",
         // The session sends an order once it is issued; the terminal performs it once it reads it, and it is answered once that is taken.
-        (
-            b"open\nrun\nissue 8300 0141\nissue 8300 0142\nup 1 all\ndown all\ndown all\nup 1 all\n",
-            "order 0 performed 0\norder 0 answered 0\nissued=2 performed=1 answered=1\n",
-        ),
+        "open\nrun\nissue 8300 0141\nissue 8300 0142\nup 1 all\ndown all\ndown all\nup 1 all\n => order 0 performed 0\norder 0 answered 0\nissued=2 performed=1 answered=1\n",
         // Several lines, with what is printed of each between them.
-        (
-            b"open\nrun\nissue 8300 0141\ndown all\nissue 8300 0142\nup 1 all\nrun\nissue 8300 0143\nrun\n",
-            THREE,
-        ),
+        "open\nrun\nissue 8300 0141\ndown all\nissue 8300 0142\nup 1 all\nrun\nissue 8300 0143\nrun\n => order 0 performed 0\norder 0 answered 0\norder 1 performed 0\norder 1 answered 0\norder 2 performed 0\norder 2 answered 0\nissued=3 performed=3 answered=3\n",
         // The terminal answers order 0, and beats behind that. The session takes both octet by octet, so order 1 comes down first, of 17
         // octets, and the response to the heartbeat, of 20, behind it.
-        (
-            b"open\nrun\nissue 8300 0141\nissue 8300 0142\ndown all\ntick 60000\nup 1 all\ndown 17\n",
-            "order 0 performed 0\norder 0 answered 0\norder 1 performed 0\nissued=2 performed=2 answered=1\n",
-        ),
+        "open\nrun\nissue 8300 0141\nissue 8300 0142\ndown all\ntick 60000\nup 1 all\ndown 17\n => order 0 performed 0\norder 0 answered 0\norder 1 performed 0\nissued=2 performed=2 answered=1\n",
     ];
     expect(&rt, rt.alloc(), &["orders"], Status::Done, rows);
 }
 
 #[test]
 fn results_by_the_tables(rt: HostRuntime) {
-    let rows: &[(&[u8], &str)] = &[
+    let rows: &[&str] = &[
         // A text is shown; the terminal has no control; a circle is set; one that is not there cannot be modified; the circles are
         // deleted; and then none is there to be modified. Circle 5 has attribute 0, a place and a radius.
-        (
-            b"issue 8300 0141\n\
-            issue 8105 01\n\
-            issue 8600 0101000000050000000000000000000000000001\n\
-            issue 8600 0201000000060000000000000000000000000001\n\
-            issue 8600 0201000000050000000000000000000000000002\n\
-            issue 8601 00\n\
-            issue 8600 0201000000050000000000000000000000000002\n\
-            open\n\
-            run\n",
-            "order 0 performed 0\norder 0 answered 0\norder 1 performed 3\norder 1 answered 3\n\
-            order 2 performed 0\norder 2 answered 0\norder 3 performed 1\norder 3 answered 1\n\
-            order 4 performed 0\norder 4 answered 0\norder 5 performed 0\norder 5 answered 0\n\
-            order 6 performed 1\norder 6 answered 1\nissued=7 performed=7 answered=7\n",
-        ),
+        "issue 8300 0141\n\
+        issue 8105 01\n\
+        issue 8600 0101000000050000000000000000000000000001\n\
+        issue 8600 0201000000060000000000000000000000000001\n\
+        issue 8600 0201000000050000000000000000000000000002\n\
+        issue 8601 00\n\
+        issue 8600 0201000000050000000000000000000000000002\n\
+        open\n\
+        run\n => \
+        order 0 performed 0\norder 0 answered 0\norder 1 performed 3\norder 1 answered 3\norder 2 performed 0\norder 2 answered 0\norder 3 performed 1\norder 3 answered 1\norder 4 performed 0\norder 4 answered 0\norder 5 performed 0\norder 5 answered 0\norder 6 performed 1\norder 6 answered 1\nissued=7 performed=7 answered=7\n",
         // The terminal that starts anew makes its tables from its log: the circle is there, and the one that was not set is not.
-        (
-            b"issue 8600 0101000000050000000000000000000000000001\n\
-            open\nrun\nrestart terminal\ncut 1\n\
-            issue 8600 0201000000050000000000000000000000000002\n\
-            issue 8600 0201000000060000000000000000000000000002\n\
-            open\nrun\n",
-            "order 0 performed 0\norder 0 answered 0\norder 1 performed 0\norder 1 answered 0\n\
-            order 2 performed 1\norder 2 answered 1\nissued=3 performed=3 answered=3\n",
-        ),
+        "issue 8600 0101000000050000000000000000000000000001\nopen\nrun\nrestart terminal\ncut 1\nissue 8600 0201000000050000000000000000000000000002\nissue 8600 0201000000060000000000000000000000000002\nopen\nrun\n => order 0 performed 0\norder 0 answered 0\norder 1 performed 0\norder 1 answered 0\norder 2 performed 1\norder 2 answered 1\nissued=3 performed=3 answered=3\n",
     ];
     expect(&rt, rt.alloc(), &["orders"], Status::Done, rows);
 }
@@ -187,30 +145,22 @@ const BAD: &[&[u8]] = &[
 #[test]
 fn bad_lines_of_orders(rt: HostRuntime) {
     let alloc = rt.alloc();
+    let first = "line 1 refused\n";
     for &line in BAD {
-        expect(
-            &rt,
-            alloc,
-            &["orders"],
-            Status::Refused,
-            &[(line, "line 1 refused\n")],
-        );
+        expect_text(&rt, alloc, &["orders"], line, Status::Refused, first);
     }
-    let rows: &[(&[u8], &str)] = &[(
-        b"# one\n\nopen\nissue 8300 0141\nrun\nup 2 all\nissue 8300 0141\n",
-        "order 0 performed 0\norder 0 answered 0\nline 6 refused\n",
-    )];
+    let rows: &[&str] = &[
+        "# one\n\nopen\nissue 8300 0141\nrun\nup 2 all\nissue 8300 0141\n => order 0 performed 0\norder 0 answered 0\nline 6 refused\n",
+    ];
     expect(&rt, alloc, &["orders"], Status::Refused, rows);
 }
 
 // Digits of either case, and the shortest bodies.
 #[test]
 fn orders_of_all_kinds(rt: HostRuntime) {
-    let rows: &[(&[u8], &str)] = &[(
-        b"issue 8300 00\nissue 8105 fF\nissue 8103 00\nissue 8600 0000\nissue 8601 00\nissue 8602 0000\n\
-        issue 8603 00\nissue 8604 0000000000000000\nissue 8605 00\nissue 8606 0000000000000000\nissue 8607 00\n",
-        "issued=11 performed=0 answered=0\n",
-    )];
+    let rows: &[&str] = &[
+        "issue 8300 00\nissue 8105 fF\nissue 8103 00\nissue 8600 0000\nissue 8601 00\nissue 8602 0000\nissue 8603 00\nissue 8604 0000000000000000\nissue 8605 00\nissue 8606 0000000000000000\nissue 8607 00\n => issued=11 performed=0 answered=0\n",
+    ];
     expect(&rt, rt.alloc(), &["orders"], Status::Done, rows);
 }
 
@@ -219,20 +169,10 @@ fn orders_of_all_kinds(rt: HostRuntime) {
 fn long_bodies(rt: HostRuntime) {
     let alloc = rt.alloc();
     let longest = repeated(&rt, alloc, b"issue 8300 00", b"41", 1022, b"");
-    expect(
-        &rt,
-        alloc,
-        &["orders"],
-        Status::Done,
-        &[(longest.as_slice(), UNREAD)],
-    );
+    let longest = longest.as_slice();
+    expect_text(&rt, alloc, &["orders"], longest, Status::Done, UNREAD);
     let longer = repeated(&rt, alloc, b"issue 8300 00", b"41", 1023, b"");
     let bad = "line 1 refused\n";
-    expect(
-        &rt,
-        alloc,
-        &["orders"],
-        Status::Refused,
-        &[(longer.as_slice(), bad)],
-    );
+    let longer = longer.as_slice();
+    expect_text(&rt, alloc, &["orders"], longer, Status::Refused, bad);
 }

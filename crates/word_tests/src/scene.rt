@@ -137,20 +137,48 @@ pub(crate) fn expect_one(
     drop(written);
 }
 
-/// Runs the words over the octets of each row, and compares the status and the text of the row.
+/// The same where no call fails.
+pub(crate) fn expect_text(
+    rt: &impl Abort,
+    alloc: Global,
+    words: &[&str],
+    octets: &[u8],
+    status: Status,
+    text: &str,
+) {
+    expect_one(rt, alloc, words, octets, (0, 0), status, text);
+}
+
+/// Runs the words over the input of each row. A row is an input, ` => ` and all that is written of it.
 pub(crate) fn expect(
     rt: &impl Abort,
     alloc: Global,
     words: &[&str],
     status: Status,
-    rows: &[(&[u8], &str)],
+    rows: &[&str],
 ) {
-    for &(octets, text) in rows {
-        expect_one(rt, alloc, words, octets, (0, 0), status, text);
+    for row in rows {
+        let (input, text) = row.split_once(" => ").expect(rt, "a row");
+        expect_text(rt, alloc, words, input.as_bytes(), status, text);
     }
 }
 
-/// The same of octets that stand behind these in each row.
+/// The same of rows whose inputs are the digits of octets.
+pub(crate) fn expect_octets(
+    rt: &impl Abort,
+    alloc: Global,
+    words: &[&str],
+    status: Status,
+    rows: &[&str],
+) {
+    for row in rows {
+        let (digits, text) = row.split_once(" => ").expect(rt, "a row");
+        let octets = hex::decode(alloc, digits.as_bytes()).expect(rt, "octets");
+        expect_text(rt, alloc, words, octets.as_slice(), status, text);
+    }
+}
+
+/// Runs the words over these octets and those behind them in each row, and compares the text of the row.
 pub(crate) fn expect_behind(
     rt: &impl Abort,
     alloc: Global,
@@ -160,8 +188,7 @@ pub(crate) fn expect_behind(
 ) {
     for &(more, text) in rows {
         let octets = repeated(rt, alloc, front, b"", 0, more);
-        let octets = octets.as_slice();
-        expect_one(rt, alloc, words, octets, (0, 0), Status::Done, text);
+        expect_text(rt, alloc, words, octets.as_slice(), Status::Done, text);
     }
 }
 

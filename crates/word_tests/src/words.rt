@@ -1,6 +1,6 @@
 //! Words, what they ask, and what is answered to those that ask nothing.
 
-use crate::scene::{HEARTBEAT, expect, expect_one, words_of};
+use crate::scene::{HEARTBEAT, expect_one, expect_text, words_of};
 use jt_cli::{Command, Encoding, Report, Status, Task};
 use jt_relay_command::RelayWords;
 use jt_value::{Edition, Phone};
@@ -27,7 +27,7 @@ fn words_that_are_no_command(rt: HostRuntime) {
     ];
     for &words in rows {
         expect_one(&rt, alloc, words, HEARTBEAT, (1, 0), Status::Usage, USAGE);
-        expect(&rt, alloc, words, Status::Usage, &[(b"", USAGE)]);
+        expect_text(&rt, alloc, words, b"", Status::Usage, USAGE);
     }
 }
 
@@ -50,20 +50,14 @@ const REPORT: &[&str] = &[
 #[test]
 fn reports(rt: HostRuntime) {
     let alloc = rt.alloc();
-    let fix: &[u8] = b"00000000000000030000000106bc3e40000000000000240101000000\n";
+    let fix = b"00000000000000030000000106bc3e40000000000000240101000000\n";
     let text = "try 1 dial\ntry 2 dial\naccepted=0 of 1\n";
-    expect(&rt, alloc, REPORT, Status::Unsent, &[(fix, text)]);
-    expect(
-        &rt,
-        alloc,
-        REPORT,
-        Status::Done,
-        &[(b"", "accepted=0 of 0\n")],
-    );
-    let short: &[u8] = b"000000000000000300000000000000000000000000002401010000";
+    expect_text(&rt, alloc, REPORT, fix, Status::Unsent, text);
+    expect_text(&rt, alloc, REPORT, b"", Status::Done, "accepted=0 of 0\n");
+    let short = b"000000000000000300000000000000000000000000002401010000";
     let text = "line 1+22 refused Truncated\n";
-    expect(&rt, alloc, REPORT, Status::Refused, &[(short, text)]);
-    expect(&rt, alloc, &REPORT[..10], Status::Usage, &[(b"", USAGE)]);
+    expect_text(&rt, alloc, REPORT, short, Status::Refused, text);
+    expect_text(&rt, alloc, &REPORT[..10], b"", Status::Usage, USAGE);
 }
 
 const VIEW: Option<Task> = Some(Task::Tell(Command {
