@@ -1,7 +1,7 @@
 #!/usr/bin/python3
 """Tests the interface over HTTP and the operator's page of the built service, over a fleet that reports meanwhile:
 
-    tools/page_trial.py PROGRAM [--shots FOLDER] [--only WORD] [--many N] [--keep]
+    tools/page_trial.py PROGRAM [--shots FOLDER] [--only WORD] [--lorries N] [--many N] [--keep]
 
 PROGRAM is crates/dewfelt/out/dewfelt, or page/mock.py for work on the page. It makes a folder: a fleet, and a platform.db with a day
 of 24 lorries that ends now (samples/day.fixes, turned and shifted). It starts `dewfelt serve` over it, and lets the lorries dial and
@@ -35,6 +35,8 @@ import test_page  # noqa: E402
 from test_positions import MAKE  # noqa: E402
 
 LORRIES = 24
+# Seconds in which the file has to be open: the program without proof takes minutes for it.
+READY = 600
 # Fixes behind now, which mock.py plays.
 PLAYED = 60
 TOKENS = ("http.token", "http.read.token")
@@ -67,14 +69,15 @@ class Serving:
 
     def start(self):
         self.run = subprocess.Popen(self.words(), stdin=subprocess.PIPE, stdout=self.log, stderr=self.log)
-        for _ in range(600):
+        until = time.monotonic() + READY
+        while time.monotonic() < until:
             if self.run.poll() is not None:
                 raise SystemExit(f"the program ended with status {self.run.returncode}:\n{pathlib.Path(self.folder, 'log').read_text()}")
             with contextlib.suppress(OSError), urllib.request.urlopen(f"http://{self.http}/readyz", timeout=5) as answer:
                 if answer.status == 200:
                     return self
             time.sleep(0.1)
-        raise SystemExit("the service is not ready after a minute")
+        raise SystemExit(f"the service is not ready after {READY} s")
 
     def end(self):
         self.run.stdin.close()
@@ -217,6 +220,7 @@ def words():
     asked.add_argument("program")
     asked.add_argument("--shots")
     asked.add_argument("--only", default="")
+    asked.add_argument("--lorries", type=int, default=LORRIES, metavar="N", help="at least 12; fewer for a program without proof, which is slow")
     asked.add_argument("--many", type=int, default=0, metavar="N")
     asked.add_argument("--keep", action="store_true", help="leave the folder")
     return asked.parse_args()
@@ -226,8 +230,8 @@ def main():
     asked = words()
     folder = tempfile.mkdtemp(prefix="page-")
     day = page_fleet.sample()
-    lorries = [page_fleet.Lorry(number, day) for number in range(LORRIES)]
-    never = [page_fleet.Lorry(LORRIES + number, day) for number in range(2)]
+    lorries = [page_fleet.Lorry(number, day) for number in range(asked.lorries)]
+    never = [page_fleet.Lorry(asked.lorries + number, day) for number in range(2)]
     serving = Serving(os.path.abspath(asked.program), folder)
     write_folder(folder, lorries, never, time.time(), PLAYED if serving.is_mock else 0)
     print(f"over {folder}", flush=True)
