@@ -81,7 +81,11 @@ fn no_access(alloc: Global, request: &Request<Bytes>) -> Refused {
 
 // Whether a request's target is a path alone, with its query.
 fn is_origin_form(request: &Request<Bytes>) -> bool {
-    request.uri().scheme_str().is_none() && request.uri().host().is_none()
+    let is_path = match request.uri().path().as_bytes().first() {
+        Some(octet) => *octet == b'/',
+        None => false,
+    };
+    is_path && request.uri().scheme_str().is_none() && request.uri().host().is_none()
 }
 
 // The names of a host that listens at an address.

@@ -103,6 +103,19 @@ pub fn read_settings_of<R: Files + AllocGlobal>(rt: &R, folder: &str) -> Result<
     }
 }
 
+// Why the file of the fleet can't be read: by itself, or since there is no folder.
+fn no_fleet<R: Files + AllocGlobal>(
+    rt: &R,
+    folder: &str,
+    path: &str,
+    error: &io::Error,
+) -> Trouble {
+    match fs::metadata(rt, folder) {
+        Ok(_) => Trouble::of_error(rt.alloc(), Status::Fleet, path, error),
+        Err(missing) => Trouble::of_error(rt.alloc(), Status::Folder, folder, &missing),
+    }
+}
+
 /// The text of the file of the fleet, and the fleet that it names.
 pub fn read_fleet_of<R: Files + AllocGlobal>(
     rt: &R,
@@ -114,9 +127,7 @@ pub fn read_fleet_of<R: Files + AllocGlobal>(
     };
     let text = match fs::read(rt, path.as_str()) {
         Ok(text) => text,
-        Err(error) => {
-            return Err(Trouble::of_error(alloc, Status::Fleet, path.as_str(), &error));
-        }
+        Err(error) => return Err(no_fleet(rt, folder, path.as_str(), &error)),
     };
     match read_fleet(alloc, text.as_slice()) {
         Ok(fleet) => Ok((text, fleet)),

@@ -23,6 +23,7 @@ pub(crate) fn say_start<T: Wait + Clock + Drop>(told: &mut Told<T>, settings: &S
         Some(count) => line.number("strangers_of_address", count.number as u64),
         None => line.text("strangers_of_address", "none"),
     }
+    line.text("until_input_ends", yes(settings.until_input_ends));
     match settings.http {
         Http::At(address) => line.address("http", address),
         Http::Off => line.text("http", "none"),

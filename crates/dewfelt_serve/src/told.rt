@@ -11,6 +11,7 @@ use jt_service::{Away, Counts, Ended, ServiceEnd, Tell};
 use jt_session::Report;
 use jt_value::Phone;
 use std::alloc::{AllocError, Global};
+use std::collections::BTreeMap;
 use std::io;
 use std::net::SocketAddr;
 use std::sync::{Arc, Mutex, Wait};
@@ -55,6 +56,8 @@ pub struct Told<R> {
     before: u64,
     last: u32,
     seen: Seen,
+    // How many units were stored for each session that goes on, where there are any.
+    stored: BTreeMap<u32, u64>,
     end: Option<ServiceEnd>,
     // Who tells the board, where there is one.
     teller: Option<Teller<R>>,
@@ -80,7 +83,7 @@ fn put_report(line: &mut Line, report: &Report) {
 }
 
 // A session's end, under the number that lines have for it.
-fn put_session(line: &mut Line, number: u64, ended: &Ended) {
+fn put_session(line: &mut Line, number: u64, ended: &Ended, stored: u64) {
     line.number("session", number);
     put_peer(line, ended.peer);
     if let Some(phone) = &ended.phone {
@@ -88,6 +91,7 @@ fn put_session(line: &mut Line, number: u64, ended: &Ended) {
     }
     line.text("end", end_word(ended.cut, ended.report.end));
     put_report(line, &ended.report);
+    line.number("stored", stored);
     line.number("seconds", ended.milliseconds / 1_000);
 }
 
@@ -127,6 +131,7 @@ impl<R: Wait + Clock + Drop> Told<R> {
             before: 0,
             last: 0,
             seen: Seen::new(alloc)?,
+            stored: BTreeMap::new(alloc),
             end: None,
             teller: None,
         })
@@ -254,6 +259,7 @@ impl<R: Wait + Clock + Drop> Told<R> {
         self.before = self.number_of(self.last);
         self.last = 0;
         self.seen.clear();
+        self.stored.clear();
         if let Some(teller) = &mut self.teller {
             teller.begin_anew(self.before);
         }
@@ -276,12 +282,22 @@ impl<R: Wait + Clock + Drop> Told<R> {
         }
     }
 
-    fn note_unit(&mut self, reply: &Reply) {
+    // One more unit was stored for a session. Where memory is refused for its count, the line of its end tells fewer.
+    fn count_stored(&mut self, session: u32) {
+        let before = self.stored.get(&session).copied().unwrap_or(0);
+        let _ = self.stored.insert(session, before.saturating_add(1));
+    }
+
+    fn note_unit(&mut self, session: u32, reply: &Reply) {
         match reply {
-            Reply::Stored(_) => self.tally.stored = self.tally.stored.saturating_add(1),
+            Reply::Stored(_) => {
+                self.tally.stored = self.tally.stored.saturating_add(1);
+                self.count_stored(session);
+            }
             Reply::Repeat(_) => self.tally.repeats = self.tally.repeats.saturating_add(1),
             Reply::Renumbered(_) => {
                 self.tally.renumbered = self.tally.renumbered.saturating_add(1);
+                self.count_stored(session);
             }
             _ => {}
         }
@@ -322,7 +338,7 @@ impl<R: Wait + Clock + Drop> Tell for Told<R> {
                     self.note_phone("deregister", entry.session, phone);
                 }
             }
-            Request::Unit { .. } => self.note_unit(&entry.reply),
+            Request::Unit { .. } => self.note_unit(entry.session, &entry.reply),
             Request::Other { .. } | Request::Close => {}
         }
     }
@@ -348,13 +364,14 @@ impl<R: Wait + Clock + Drop> Tell for Told<R> {
         }
         self.tally.ended = self.tally.ended.saturating_add(1);
         self.tally.frames = self.tally.frames.saturating_add(ended.report.frames);
+        let stored = self.stored.remove(&ended.report.session).unwrap_or(0);
         let line = if ended.phone.is_some() {
             Some(self.line("session"))
         } else {
             self.stranger_line("session")
         };
         if let Some(mut line) = line {
-            put_session(&mut line, self.number_of(ended.report.session), ended);
+            put_session(&mut line, self.number_of(ended.report.session), ended, stored);
             self.put(line);
         }
     }
