@@ -15,6 +15,8 @@ use std::net::SocketAddr;
 
 const NO_TOKEN: &str = "send the token of the file http.token as `Authorization: Bearer ..`";
 
+const OTHER_TOKEN: &str = "this token is not known here";
+
 const OTHER_HOST: &str =
     "this server does not answer to the host that was asked for; say a proxy's name by --http-name";
 
@@ -65,6 +67,16 @@ fn is_read(request: &Request<Bytes>) -> bool
 {
     let method = request.method().as_str();
     method == "GET" || method == "HEAD"
+}
+
+// Why a request has no access.
+fn no_access(alloc: Global, request: &Request<Bytes>) -> Refused {
+    let detail = if request.headers().contains_key(AUTHORIZATION) {
+        OTHER_TOKEN
+    } else {
+        NO_TOKEN
+    };
+    Problem::new(alloc, StatusCode::UNAUTHORIZED, detail)
 }
 
 // Whether a request's target is a path alone, with its query.
@@ -177,7 +189,7 @@ impl Gate {
         ensures read { IsOk result → IsRead request.now }
     {
         let Some(access) = self.access_of(request) else {
-            return Err(Problem::new(alloc, StatusCode::UNAUTHORIZED, NO_TOKEN));
+            return Err(no_access(alloc, request));
         };
         if !self.is_our_origin(request) {
             return Err(Problem::new(alloc, StatusCode::FORBIDDEN, OTHER_ORIGIN));

@@ -51,6 +51,7 @@ fn put_map(writer: &mut Writer, has_base: bool) -> Result<(), AllocError> {
     put_text(writer, "attribution", "")?;
     put_text(writer, "datum", "wgs84")?;
     put_truth(writer, "base", has_base)?;
+    put_some_text(writer, "view", None)?;
     writer.end_object()
 }
 

@@ -110,7 +110,7 @@ const ROWS: &[Row] = &[
     (
         b"GET /api/v1/server HTTP/1.1\r\nHost: 127.0.0.1:8080\r\nAuthorization: Bearer Read\r\n\r\n",
         "HTTP/1.1 401",
-        "",
+        "\"detail\":\"this token is not known here\"",
     ),
     (
         b"GET /api/v1/server HTTP/1.1\r\nHost: 127.0.0.1:8080\r\nAuthorization: Bearer read\r\n\r\n",

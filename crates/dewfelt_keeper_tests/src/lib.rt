@@ -6,4 +6,6 @@ mod fleets;
 #[cfg(test)]
 mod registry_tests;
 #[cfg(test)]
+mod row_tests;
+#[cfg(test)]
 mod shared_tests;

@@ -12,7 +12,7 @@ returns-in_ok-push-in-Ok-Some-clause-answer g c =
     let key = key_of c.args.phone.now in
     let answer = rw c.in-Ok-Some.field-0-is at c.in-Ok-Some.ensures.answer in
     let more = added t key (g.K.Keeper.limit c.args.keeper.now) c.args.number c.in-Ok-Some.row c.args.page.now.items answer.1 c.in-Ok-Some.ensures.rows in
-    (answer.0, subst (λ (items : List Row). WhereKnown t (λ x. AddsFrom (x.rows key) c.args.number c.args.page.now.items items (Some (c.in-Ok-Some.row.number + 1)))) (sym c.in_ok-push-in-Ok-Some.ensures.items) more)
+    (answer.0, subst (λ (items : List Row). WhereKnown t (λ x. AddsFrom (x.rows key) c.args.number c.args.page.now.items items (Some (c.in-Ok-Some.row.number + 1)))) (sym {A = List Row} c.in_ok-push-in-Ok-Some.ensures.items) more)
 
 pub returns-in-Ok-None-clause-answer : goal.returns-in-Ok-None-clause-answer
 returns-in-Ok-None-clause-answer g c =
