@@ -371,7 +371,12 @@ impl<R: Wait + Clock + Drop> Tell for Told<R> {
             self.stranger_line("session")
         };
         if let Some(mut line) = line {
-            put_session(&mut line, self.number_of(ended.report.session), ended, stored);
+            put_session(
+                &mut line,
+                self.number_of(ended.report.session),
+                ended,
+                stored,
+            );
             self.put(line);
         }
     }
