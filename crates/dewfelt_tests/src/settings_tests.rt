@@ -39,7 +39,9 @@ pub(crate) fn said(alloc: Global, line: &str, file: &str) -> Result<String, Allo
                 Some(name) => name.as_str(),
                 None => "-",
             };
-            format!(in alloc; "{folder} {listen} {links} {quiet} {strangers} {of} {http} {name} {ends}")
+            format!(in alloc;
+                "{folder} {listen} {links} {quiet} {strangers} {of} {http} {name} {ends}"
+            )
         }
         Command::Check(folder, _) => format!(in alloc; "check {folder}"),
         Command::Page(folder, _) => format!(in alloc; "page {folder}"),
@@ -58,7 +60,11 @@ pub(crate) fn said(alloc: Global, line: &str, file: &str) -> Result<String, Allo
 #[test]
 fn settings_of_words_and_files(rt: HostRuntime) -> Result<(), Fail> {
     let rows: &[(&str, &str, &str)] = &[
-        ("serve d", "", "d 0.0.0.0:8808 1024 180 512 0 127.0.0.1:8080 - false"),
+        (
+            "serve d",
+            "",
+            "d 0.0.0.0:8808 1024 180 512 0 127.0.0.1:8080 - false",
+        ),
         (
             "serve --links 500 d",
             "links = 7",
