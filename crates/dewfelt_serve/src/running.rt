@@ -23,7 +23,7 @@ pub(crate) struct Run<'w, R, T> {
     pub(crate) watch: &'w Watch<Told<T>>,
     pub(crate) settings: &'w Settings,
     /// The interface over HTTP, where there is one.
-    pub(crate) interface: Option<&'w Interface>,
+    pub(crate) interface: &'w Option<Interface>,
 }
 
 fn limits_of(settings: &Settings) -> Limits {

@@ -144,7 +144,7 @@ fn start_web<'t, E, R, T, H, Q>(
     alloc: Global,
     watch: &'t Watch<Told<T>>,
     door: Option<H>,
-    interface: Option<&'t Interface>,
+    interface: &'t Option<Interface>,
     rows: &'t Q,
 ) -> bool
 where
@@ -300,7 +300,7 @@ where
         alloc,
         watch: &watch,
         settings,
-        interface: interface.as_ref(),
+        interface: &interface,
     };
     status_of(serve_beside(run, parts, writer, &rows, &is_over, &is_done))
 }
