@@ -83,11 +83,14 @@ fn pages_of<R: Abort + Wait + Clock + RandomSource + AllocGlobal>(rt: &R, limit:
     let mut text = String::new(rt.alloc());
     let mut from = Some(0);
     let mut count: usize = 0;
-    while let Some(next) = from {
+    for _ in 0..=COUNT {
+        let Some(next) = from else {
+            break;
+        };
         from = read_page(rt, &kept, &mut text, next, limit);
         count = count.saturating_add(1);
-        assert!(rt; count <= COUNT as usize);
     }
+    assert!(rt; from.is_none());
     assert!(rt; text.as_str() == lines(rt, rt.alloc()).as_str());
     count
 }
