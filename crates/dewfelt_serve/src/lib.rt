@@ -33,12 +33,12 @@ pub use folder::{Trouble, clerk_of, lock, path_in, read_fleet_of, read_settings_
 pub use ground::{Ground, HasGround};
 pub use interface::{Interface, Web};
 pub use kept_rows::KeptRows;
-pub use living::Living;
+pub use living::{Living, Root};
 pub use over_folder::{OverFolder, serve_over};
 pub use page_line::{page, page_of};
 pub use present::Present;
 pub use serving::{Flags, Service, serve};
 pub use status::Status;
-pub use tending::Tending;
+pub use tending::{Tended, Tending};
 pub use tokens::{Tokens, tokens_of};
 pub use told::Told;

@@ -23,27 +23,36 @@ pub struct Living<W, S: Stores> {
     present: Arc<Mutex<Present<S::Keeper>>>,
 }
 
-impl<W, S: Stores> Living<W, S> {
-    /// What hubs are made of over this folder, with this secret.
-    pub fn of(
-        rt: W,
-        stores: S,
-        alloc: Global,
-        folder: &str,
-        secret: &[u8],
-        present: Arc<Mutex<Present<S::Keeper>>>,
-    ) -> Result<Living<W, S>, AllocError>
-    where
-        W: Drop,
-        S: Drop,
-    {
-        Ok(Living {
+/// What hubs have of a folder: its store's path, and a secret.
+#[derive(Drop)]
+pub struct Root<W> {
+    rt: W,
+    path: String,
+    secret: Octets,
+}
+
+impl<W: Clone + Drop> Root<W> {
+    /// What hubs have of this folder, with this secret.
+    pub fn of(rt: &W, alloc: Global, folder: &str, secret: &[u8]) -> Result<Root<W>, AllocError> {
+        Ok(Root {
             path: path_in(alloc, folder, "platform.db")?,
             secret: Octets::from_vec(Vec::from_slice(alloc, secret)?),
+            rt: rt.clone()?,
+        })
+    }
+}
+
+impl<W, S: Stores> Living<W, S> {
+    /// What hubs are made of over this root.
+    pub fn of(root: Root<W>, stores: S, present: Arc<Mutex<Present<S::Keeper>>>) -> Living<W, S> {
+        let Root { rt, path, secret } = root;
+        Living {
             rt,
             stores,
+            path,
+            secret,
             present,
-        })
+        }
     }
 }
 

@@ -2,10 +2,10 @@
 
 use crate::interface::Web;
 use crate::kept_rows::KeptRows;
-use crate::living::Living;
+use crate::living::{Living, Root};
 use crate::present::Present;
 use crate::serving::{Flags, Service, serve};
-use crate::tending::Tending;
+use crate::tending::{Tended, Tending};
 use crate::{Status, Told};
 use dewfelt_board::Board;
 use dewfelt_commands::{Clerk, Stores};
@@ -15,6 +15,7 @@ use jt_outside::Sink;
 use jt_service::Door;
 use jt_store::Registrations;
 use std::alloc::{AllocError, Global};
+use std::mem::replace;
 use std::random::RandomSource;
 use std::rt::Files;
 use std::sync::{Arc, Mutex, Wait};
@@ -53,55 +54,133 @@ fn board_of<H>(web: &Option<Web<H>>) -> Result<Option<Arc<Mutex<Board>>>, AllocE
     }
 }
 
-// The service of what is given.
-fn service_of<W, F, S, D, K, T, H>(
-    rt: &W,
-    alloc: Global,
+// The present fleet and store, for each of those who share them.
+#[derive(Drop)]
+struct Presents<K> {
+    ground: Arc<Mutex<Present<K>>>,
+    chores: Arc<Mutex<Present<K>>>,
+    rows: Arc<Mutex<Present<K>>>,
+}
+
+impl<K: Drop> Presents<K> {
+    fn of(alloc: Global, present: Present<K>) -> Result<Presents<K>, AllocError> {
+        let ground = Arc::new(alloc, Mutex::new(present))?;
+        let chores = ground.clone()?;
+        let rows = ground.clone()?;
+        Ok(Presents {
+            ground,
+            chores,
+            rows,
+        })
+    }
+}
+
+// What a service over a folder has beside what is given.
+#[derive(Drop)]
+struct Beside<W, K> {
+    root: Root<W>,
+    tended: Tended,
+    presents: Presents<K>,
+    rt: W,
+}
+
+impl<W: Clone + Drop, K: Drop> Beside<W, K> {
+    fn of(
+        rt: &W,
+        alloc: Global,
+        folder: &str,
+        secret: &[u8],
+        present: Present<K>,
+    ) -> Result<Beside<W, K>, AllocError> {
+        let presents = Presents::of(alloc, present)?;
+        let root = Root::of(rt, alloc, folder, secret)?;
+        let tended = Tended::of(alloc, folder)?;
+        Ok(Beside {
+            root,
+            tended,
+            presents,
+            rt: rt.clone()?,
+        })
+    }
+}
+
+// The service of what is given, and of what it has beside that.
+fn put_together<W, F, S, D, K, T, H>(
     over: OverFolder<F, S, D, K, T, H>,
-) -> Result<
-    Service<D, Living<W, S>, Tending<F, S::Keeper>, K, T, H, KeptRows<W, S::Keeper>>,
-    AllocError,
->
+    beside: Beside<W, S::Keeper>,
+) -> Service<D, Living<W, S>, Tending<F, S::Keeper>, K, T, H, KeptRows<W, S::Keeper>>
 where
     W: Wait + Clone + Drop,
     F: Files + AllocGlobal + Clone + Drop,
     S: Stores + Drop,
     D: Drop,
     K: Drop,
-    T: Wait + Clock + Clone + Drop,
+    T: Wait + Clock + Drop,
     H: Drop,
 {
     let OverFolder {
-        folder,
+        folder: _,
         files,
         stores,
-        text,
-        fleet,
+        text: _,
+        fleet: _,
         clerk,
         door,
         sink,
         told,
         web,
     } = over;
-    let present = Arc::new(alloc, Mutex::new(Present::of(text, board_of(&web)?)))?;
-    let other = present.clone()?;
-    let rows = KeptRows::of(rt.clone()?, present.clone()?);
-    Ok(Service {
-        door,
-        ground: Living::of(rt.clone()?, stores, alloc, folder, fleet.secret(), present)?,
-        chores: Tending::of(files, folder, clerk, other)?,
-        sink,
-        told: told.telling(board_of(&web)?)?,
-        web,
+    let Beside {
+        root,
+        tended,
+        presents,
+        rt,
+    } = beside;
+    let Presents {
+        ground,
+        chores,
         rows,
-    })
+    } = presents;
+    Service {
+        door,
+        ground: Living::of(root, stores, ground),
+        chores: Tending::of(files, tended, clerk, chores),
+        sink,
+        told,
+        web,
+        rows: KeptRows::of(rt, rows),
+    }
+}
+
+// What a service has beside what is given. Its text is taken.
+fn beside_of<W, F, S, D, K, T, H>(
+    rt: &W,
+    alloc: Global,
+    over: &mut OverFolder<F, S, D, K, T, H>,
+) -> Result<Beside<W, S::Keeper>, AllocError>
+where
+    W: Wait + Clone + Drop,
+    S: Stores + Drop,
+    T: Wait + Clock + Clone + Drop,
+{
+    let board = board_of(&over.web)?;
+    over.told.tell_board(board)?;
+    let board = board_of(&over.web)?;
+    let text = replace(&mut over.text, Vec::new(alloc));
+    Beside::of(
+        rt,
+        alloc,
+        over.folder,
+        over.fleet.secret(),
+        Present::of(text, board),
+    )
 }
 
 /// Serves a folder, as `serve` does: its fleet is read again where it changed, and commands are answered.
 pub fn serve_over<R, F, S, D, K, T, H>(
     rt: &R,
     alloc: Global,
-    over: OverFolder<F, S, D, K, T, H>,
+    mut over: OverFolder<F, S, D, K, T, H>,
     settings: &Settings,
     flags: Flags,
 ) -> Status
@@ -119,8 +198,8 @@ where
     H: Door + Send + Drop,
     H::Link: Send,
 {
-    match service_of(rt, alloc, over) {
-        Ok(service) => serve(rt, alloc, service, settings, flags),
+    match beside_of(rt, alloc, &mut over) {
+        Ok(beside) => serve(rt, alloc, put_together(over, beside), settings, flags),
         Err(_) => Status::Memory,
     }
 }

@@ -12,7 +12,7 @@ use dewfelt_fleet::{Fleet, NoFleet, read_fleet};
 use jt_service::Watch;
 use jt_store::{Registrations, StoreError};
 use jt_value::{Phone, Seq};
-use std::alloc::AllocError;
+use std::alloc::{AllocError, Global};
 use std::io;
 use std::mem::replace;
 use std::rt::Files;
@@ -36,22 +36,40 @@ pub struct Tending<F, K> {
     is_folder_said: bool,
 }
 
+/// The paths of a folder's store and of its fleet.
+#[derive(Drop)]
+pub struct Tended {
+    store: String,
+    fleet: String,
+}
+
+impl Tended {
+    /// Those of this folder.
+    pub fn of(alloc: Global, folder: &str) -> Result<Tended, AllocError> {
+        Ok(Tended {
+            store: path_in(alloc, folder, "platform.db")?,
+            fleet: path_in(alloc, folder, "fleet")?,
+        })
+    }
+}
+
 impl<F, K> Tending<F, K>
 where
     F: Files + AllocGlobal + Clone + Drop,
     K: Registrations + Drop,
 {
-    /// Tends the folder, by this clerk.
+    /// Tends the folder of these paths, by this clerk.
     pub fn of(
         files: F,
-        folder: &str,
+        tended: Tended,
         clerk: Clerk,
         present: Arc<Mutex<Present<K>>>,
-    ) -> Result<Tending<F, K>, AllocError> {
+    ) -> Tending<F, K> {
         let alloc = files.alloc();
-        Ok(Tending {
-            store: path_in(alloc, folder, "platform.db")?,
-            fleet: FleetFile::new(path_in(alloc, folder, "fleet")?),
+        let Tended { store, fleet } = tended;
+        Tending {
+            store,
+            fleet: FleetFile::new(fleet),
             files,
             clerk,
             present,
@@ -59,7 +77,7 @@ where
             has_read: false,
             is_fault_said: false,
             is_folder_said: false,
-        })
+        }
     }
 
     // Ends the links of those that were forgotten.

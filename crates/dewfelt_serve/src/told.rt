@@ -138,17 +138,15 @@ impl<R: Wait + Clock + Drop> Told<R> {
     }
 
     /// Has a board told of all that is told, where there is one. Its sessions have the numbers of lines.
-    pub fn telling(self, board: Option<Arc<Mutex<Board>>>) -> Result<Told<R>, AllocError>
+    pub(crate) fn tell_board(&mut self, board: Option<Arc<Mutex<Board>>>) -> Result<(), AllocError>
     where
         R: Clone,
     {
-        let Some(board) = board else {
-            return Ok(self);
-        };
-        let rt = self.rt.clone()?;
-        let mut told = self;
-        told.teller = Some(Teller::new(rt, board));
-        Ok(told)
+        if let Some(board) = board {
+            let rt = self.rt.clone()?;
+            self.teller = Some(Teller::new(rt, board));
+        }
+        Ok(())
     }
 
     pub(crate) fn alloc(&self) -> Global {
