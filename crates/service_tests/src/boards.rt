@@ -1,7 +1,7 @@
 //! What a board shows of a service over a folder.
 
 use crate::links::{TERMINAL, TestLink, peer};
-use crate::serving::{Lines, Taker, flag, make_folder, settings};
+use crate::serving::{Lines, Nobody, Taker, flag, make_folder, settings};
 use dewfelt_board::{Board, Vehicle};
 use dewfelt_commands::Stores;
 use dewfelt_serve::{
@@ -86,21 +86,6 @@ impl Stores for KeptStores {
         let _ = keeper.register(alloc, &GONE, &registered(alloc, b"C", b"3")?);
         let _ = keeper.append(alloc, &KEPT, &row);
         Ok(keeper)
-    }
-}
-
-// No browser comes.
-#[derive(Drop)]
-struct Nobody<'w, R> {
-    rt: &'w R,
-}
-
-impl<'w, R: Wait + Clock> Door for Nobody<'w, R> {
-    type Link = TestLink<'w, R>;
-
-    fn next(&mut self) -> Arrived<TestLink<'w, R>> {
-        std::thread::sleep(self.rt, std::time::Duration::from_millis(20));
-        Arrived::Nobody
     }
 }
 

@@ -166,6 +166,21 @@ impl<'w, R: Wait + Clock, F: Files> Door for Acts<'w, R, F> {
     }
 }
 
+/// No browser comes.
+#[derive(Drop)]
+pub(crate) struct Nobody<'w, R> {
+    pub(crate) rt: &'w R,
+}
+
+impl<'w, R: Wait + Clock> Door for Nobody<'w, R> {
+    type Link = TestLink<'w, R>;
+
+    fn next(&mut self) -> Arrived<TestLink<'w, R>> {
+        std::thread::sleep(self.rt, std::time::Duration::from_millis(20));
+        Arrived::Nobody
+    }
+}
+
 /// There are no rows that a browser reads.
 #[derive(Drop)]
 struct NoRows;
@@ -308,7 +323,7 @@ where
         },
         sink: Taker::new(rt, lines),
         told: Told::new(alloc, clock).expect(rt, "there is memory"),
-        web: None::<Web<Acts<R, F>>>,
+        web: None::<Web<Nobody<R>>>,
         rows: NoRows,
     };
     serve(rt, alloc, service, &settings(), flags)
@@ -422,7 +437,7 @@ fn over_folder<'w, R, F>(
     lines: &'w Lines,
     folder: &'static str,
     door: Acts<'w, R, F>,
-) -> OverFolder<'static, F, MemStores, Acts<'w, R, F>, Taker<'w, R>, F, Acts<'w, R, F>>
+) -> OverFolder<'static, F, MemStores, Acts<'w, R, F>, Taker<'w, R>, F, Nobody<'w, R>>
 where
     R: Wait + Clock + Abort,
     F: Files<File = File> + Wait + Clock + AllocGlobal + Clone + Drop,
