@@ -2,8 +2,6 @@
 #![tactic(auto)]
 
 #[cfg(test)]
-mod boards;
-#[cfg(test)]
 mod counting;
 #[cfg(test)]
 mod links;
@@ -13,3 +11,5 @@ mod rows;
 mod serving;
 #[cfg(test)]
 mod sockets;
+#[cfg(test)]
+mod tokens;

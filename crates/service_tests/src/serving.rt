@@ -31,19 +31,19 @@ use std::{fs, io};
 
 /// The lines of a service.
 #[derive(Drop)]
-pub(crate) struct Lines {
+struct Lines {
     octets: Mutex<Vec<u8>>,
 }
 
 impl Lines {
-    pub(crate) fn new(alloc: Global) -> Lines {
+    fn new(alloc: Global) -> Lines {
         Lines {
             octets: Mutex::new(Vec::new(alloc)),
         }
     }
 
     // How often a text stands in the lines.
-    pub(crate) fn count<R: Wait>(&self, rt: &R, text: &str) -> usize {
+    fn count<R: Wait>(&self, rt: &R, text: &str) -> usize {
         let octets = self.octets.lock(rt);
         octets
             .as_slice()
@@ -55,14 +55,14 @@ impl Lines {
 
 /// Takes lines.
 #[derive(Drop)]
-pub(crate) struct Taker<'w, R> {
+struct Taker<'w, R> {
     rt: &'w R,
     lines: &'w Lines,
     faults: u64,
 }
 
 impl<'w, R> Taker<'w, R> {
-    pub(crate) fn new(rt: &'w R, lines: &'w Lines) -> Taker<'w, R>
+    fn new(rt: &'w R, lines: &'w Lines) -> Taker<'w, R>
         ensures { result ≡ 0 }
     {
         Taker {
@@ -168,8 +168,8 @@ impl<'w, R: Wait + Clock, F: Files> Door for Acts<'w, R, F> {
 
 /// No browser comes.
 #[derive(Drop)]
-pub(crate) struct Nobody<'w, R> {
-    pub(crate) rt: &'w R,
+struct Nobody<'w, R> {
+    rt: &'w R,
 }
 
 impl<'w, R: Wait + Clock> Door for Nobody<'w, R> {
@@ -266,12 +266,12 @@ impl<'w, T: Wait + Clock + Drop> Chores<T> for Renews<'w> {
     }
 }
 
-pub(crate) fn flag(rt: &impl Abort, alloc: Global) -> Arc<AtomicBool> {
+fn flag(rt: &impl Abort, alloc: Global) -> Arc<AtomicBool> {
     Arc::new(alloc, AtomicBool::new(false)).expect(rt, "there is memory")
 }
 
 // Two links, and no interface over HTTP.
-pub(crate) fn settings() -> Settings {
+fn settings() -> Settings {
     let mut choices = Choices::none();
     choices.links = Count::of(2);
     choices.http = Some(Http::Off);
@@ -406,8 +406,8 @@ fn a_service_begins_anew(rt: HostRuntime) {
 
 /// Stores in memory, each of which is new.
 #[derive(Drop)]
-pub(crate) struct MemStores {
-    pub(crate) alloc: Global,
+struct MemStores {
+    alloc: Global,
 }
 
 impl Stores for MemStores {
@@ -419,11 +419,7 @@ impl Stores for MemStores {
 }
 
 // A folder with the file of a fleet, whose path it gives.
-pub(crate) fn make_folder<F: Files + AllocGlobal>(
-    files: &F,
-    folder: &str,
-    text: &str,
-) -> io::Result<String> {
+fn make_folder<F: Files + AllocGlobal>(files: &F, folder: &str, text: &str) -> io::Result<String> {
     fs::create_dir(files, folder)?;
     let path = format!(in files.alloc(); "{folder}/fleet")?;
     fs::write(files, path.as_str(), text)?;
