@@ -328,6 +328,25 @@ def test_vehicle(page):
         assert page.js(f"return document.querySelector('#b-{part}').hidden") == (part not in has), part
 
 
+def test_press_outlasts_answers(page):
+    """A press that is held while answers come still ends on what was pressed."""
+    page.open()
+    phone = page.js("return [...dewfelt.page.vehicles.values()].find((v) => v.x !== null && v.link === 'open').phone")
+    page.search(phone)
+    page.click(f'[data-phone="{phone}"]')
+    page.until("return document.querySelector('#b-follow')")
+    ActionChains(page.d).click_and_hold(page.one("#b-follow")).perform()
+    answered = page.js("return dewfelt.page.answered")
+    page.until(f"return dewfelt.page.answered > {answered} + 2500")
+    assert not page.js("return dewfelt.page.follow")
+    ActionChains(page.d).release().perform()
+    page.until("return dewfelt.page.follow", 2)
+    pressed = page.js("return document.querySelector('#b-follow').innerText")
+    page.click("#b-follow")
+    page.until("return !dewfelt.page.follow")
+    page.until(f"return document.querySelector('#b-follow').innerText !== {json.dumps(pressed)}", 2)
+
+
 def test_follows(page):
     """What changes is shown without a press."""
     page.open()
