@@ -1,29 +1,23 @@
 //! What requests are answered by.
 
 ghost use Rattle.std.specs.Prelude.{◌≡◌, ◌≤◌, OnOk};
-ghost use Rattle.dewfelt_http.specs.Access.{IsAnswered};
+ghost use Rattle.dewfelt_http.specs.Answered.{IsAnswered};
 
-use crate::collections::{counts_text, ended_text, sessions_text, strangers_text};
-use crate::gate::{Access, Admitted};
 use crate::metrics::metrics_text;
-use crate::positions::{positions_text, vehicles_text};
-use crate::problem::{Problem, Refused, read_rows};
-use crate::query::{Query, Word};
-use crate::route::{Open, Route};
-use crate::rows::{RowsPage, rows_page};
 use crate::sending::{
     guard_headers, send, send_file, send_json, send_not_ready, send_problem, send_tagged,
 };
 use crate::sending_rows::{send_rows, send_track};
 use crate::server_json::{ROWS_LIMIT, SESSIONS_LIMIT, VEHICLES_LIMIT, ready_text, server_text};
-use crate::sight::Sight;
 use crate::site::{Base, Site};
-use crate::track::{Range, track_of};
-use crate::track_json::Owner;
-use crate::track_page::TrackPage;
-use crate::vehicle_json::{changes_text, vehicle_text};
 use bytes::Bytes;
+use dewfelt_asked::{Access, Admitted, Open, Problem, Query, Refused, Route, Word, read_rows};
 use dewfelt_board::{Vehicle, phone_text};
+use dewfelt_shown::{
+    Sight, changes_text, counts_text, ended_text, positions_text, sessions_text, strangers_text,
+    vehicle_text, vehicles_text,
+};
+use dewfelt_tracks::{Owner, Range, RowsPage, TrackPage, rows_page, track_of};
 use http::header::HeaderValue;
 use http::{Request, StatusCode};
 use http_server::{Response, Service};
@@ -374,7 +368,7 @@ impl<'a, S: Sight> Desk<'a, S> {
 
 impl<'a, S: Sight> Service for Desk<'a, S> {
     ghost use Rattle.std.specs.Prelude.{◌≡◌};
-    ghost use Rattle.dewfelt_http.specs.Access.{IsAnswered};
+    ghost use Rattle.dewfelt_http.specs.Answered.{IsAnswered};
 
     // The desk stays as it is; who is not admitted is refused.
     ghost answers = { λ old request response new.

@@ -1,10 +1,10 @@
 //! Metrics, as Prometheus reads them (text format 0.0.4).
 
 use crate::requests::{CLASSES, Requests};
-use crate::route::Route;
-use crate::sight::Sizes;
 use crate::site::Site;
+use dewfelt_asked::Route;
 use dewfelt_board::{Counters, Ending, RegistrationResult, UnitReply};
+use dewfelt_shown::Sizes;
 use std::alloc::{AllocError, Global};
 
 // The head of a metric of this type.

@@ -1,6 +1,6 @@
 //! How many requests were answered.
 
-use crate::route::Route;
+use dewfelt_asked::Route;
 use http::StatusCode;
 use std::alloc::{AllocError, Global};
 use std::sync::atomic::{AtomicU64, Ordering};

@@ -2,8 +2,9 @@
 
 ghost use Rattle.std.specs.Prelude.{◌≡◌, ◌≤◌, OnOk};
 
-use crate::problem::Problem;
+use crate::problem_text::problem_text;
 use bytes::Bytes;
+use dewfelt_asked::Problem;
 use dewfelt_page::{File, Kind};
 use http::header::{HeaderName, HeaderValue, IF_NONE_MATCH};
 use http::{Request, StatusCode};
@@ -124,7 +125,7 @@ pub fn send_problem(
 ) -> Result<(), AllocError>
     ensures status { OnOk result (response.new.status ≡ problem.now.status) }
 {
-    let text = problem.text(alloc)?;
+    let text = problem_text(alloc, problem)?;
     response.status = problem.status;
     put_wanted(response, problem)?;
     send(

@@ -1,9 +1,8 @@
 //! How pages of rows and of tracks are put into responses.
 
-use crate::query::Form;
-use crate::rows::RowsPage;
 use crate::sending::{put_header, send};
-use crate::track_page::TrackPage;
+use dewfelt_asked::Form;
+use dewfelt_tracks::{RowsPage, TrackPage};
 use http::header::{HeaderName, HeaderValue};
 use http_server::Response;
 use std::alloc::{AllocError, Global};

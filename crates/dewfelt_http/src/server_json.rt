@@ -1,9 +1,9 @@
 //! What the server is, as JSON.
 
-use crate::gate::Access;
-use crate::plain::{put_count, put_some_text, put_text, put_time, put_truth};
-use crate::sight::Sizes;
 use crate::site::Site;
+use dewfelt_asked::Access;
+use dewfelt_shown::{Sizes, put_count, put_some_text, put_text, put_time, put_truth};
+use dewfelt_tracks::FIXES_LIMIT;
 use json::Writer;
 use std::alloc::{AllocError, Global};
 
@@ -15,9 +15,6 @@ pub const SESSIONS_LIMIT: u32 = 1_000;
 
 /// So many rows an answer has at most (this project's own).
 pub const ROWS_LIMIT: u32 = 1_000;
-
-/// So many fixes an answer has at most (this project's own).
-pub const FIXES_LIMIT: u32 = 20_000;
 
 /// A request's body has so many octets at most (this project's own).
 pub const BODY_LIMIT: usize = 65_536;

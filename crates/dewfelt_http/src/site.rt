@@ -1,7 +1,7 @@
 //! What answers are made of beside the board.
 
-use crate::gate::Gate;
 use crate::requests::Requests;
+use dewfelt_asked::Gate;
 use sha2::{Digest, Sha256};
 use std::alloc::{AllocError, Global};
 use std::net::SocketAddr;

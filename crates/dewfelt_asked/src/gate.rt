@@ -103,7 +103,7 @@ fn push_names(
 }
 
 impl Gate {
-    ghost use Rattle.dewfelt_http.specs.Access.{HasHost, HasOrigin, IsAllowed, IsRead, MayAsk, is_host};
+    ghost use Rattle.dewfelt_asked.specs.Access.{HasHost, HasOrigin, IsAllowed, IsRead, MayAsk, is_host};
 
     /// The gate of a listener at this address, that proxies call by these names, each with its port where that is part of it. The
     /// tokens are not empty.

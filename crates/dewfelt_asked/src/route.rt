@@ -1,7 +1,7 @@
 //! What paths stand for.
 
 ghost use Rattle.std.specs.Prelude.{IsSome, IsTrue};
-ghost use Rattle.dewfelt_http.specs.Paths.{is_open};
+ghost use Rattle.dewfelt_asked.specs.Paths.{is_open};
 
 use dewfelt_board::digits_of;
 use dewfelt_page::{File, file_at};

@@ -1,11 +1,10 @@
 //! A track as GeoJSON.
 
-use crate::moments::put_position_time;
-use crate::numbers::put_tenths;
-use crate::plain::{put_hex, put_text, put_time, put_truth};
 use crate::track::Track;
-use crate::vehicle_json::put_coordinates;
 use dewfelt_board::LastFix;
+use dewfelt_shown::{
+    put_coordinates, put_hex, put_position_time, put_tenths, put_text, put_time, put_truth,
+};
 use json::Writer;
 use std::alloc::{AllocError, Global};
 

@@ -3,7 +3,7 @@ use Rattle.std.proofs.Common.{sym, ◌∙◌, ap}
 use Rattle.std.proofs.lemmas.Slice.Eq.{bytes_eq-Decides}
 use Rattle.http_header.specs.HeaderMap.{get}
 use Rattle.sha2.specs.Sha256.{sha256}
-use Rattle.dewfelt_http.proofs.gate.Gate.access_of.Goals as goal
+use Rattle.dewfelt_asked.proofs.gate.Gate.access_of.Goals as goal
 
 -- both digests are the same, and one is of what stands behind `Bearer `
 pub returns-then-eq : goal.returns-then-eq

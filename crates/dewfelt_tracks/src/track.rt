@@ -1,17 +1,17 @@
 //! The fixes of a phone between two moments.
 
-use crate::problem::{Problem, Refused, read_rows};
-use crate::query::{Place, Query, Word};
 use crate::rows::PIECE;
-use crate::server_json::FIXES_LIMIT;
-use crate::sight::Sight;
-use crate::times::seconds_of;
+use dewfelt_asked::{Place, Problem, Query, Refused, Word, read_rows, seconds_of};
 use dewfelt_board::{LastFix, row_fixes};
+use dewfelt_shown::Sight;
 use jt_store::Row;
 use std::alloc::{AllocError, Global};
 
 // So many seconds a range has at most: 31 days (this project's own).
 const RANGE_LIMIT: u64 = 31 * 86_400;
+
+/// So many fixes an answer has at most (this project's own).
+pub const FIXES_LIMIT: u32 = 20_000;
 
 // Every row's number is below this one.
 const NUMBERS: u64 = 1 << 47;

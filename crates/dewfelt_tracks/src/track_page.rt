@@ -1,9 +1,9 @@
 //! A page of a track: in which form it is told, and where the next one begins.
 
-use crate::query::{Form, Place};
 use crate::track::Track;
 use crate::track_json::{Owner, track_json};
 use crate::track_text::{track_csv, track_gpx};
+use dewfelt_asked::{Form, Place};
 use dewfelt_log::time_text;
 use std::alloc::{AllocError, Global};
 

@@ -1,11 +1,10 @@
 //! A track as comma-separated values and as GPX.
 
-use crate::numbers::{degrees_text, tenths_text};
-use crate::times::seconds_of;
 use crate::track::Track;
-use crate::vehicle_json::{SOUTH, WEST};
+use dewfelt_asked::seconds_of;
 use dewfelt_board::LastFix;
 use dewfelt_log::time_text;
+use dewfelt_shown::{SOUTH, WEST, degrees_text, tenths_text};
 use std::alloc::{AllocError, Global};
 
 const CSV_HEAD: &str = "phone,number,time,latitude,longitude,speed,altitude,direction,mileage\n";

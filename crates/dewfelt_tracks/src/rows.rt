@@ -1,9 +1,8 @@
 //! Rows of a phone, as lines of JSON.
 
-use crate::plain::{put_count, put_hex, put_text};
-use crate::problem::{Refused, read_rows};
-use crate::sight::Sight;
+use dewfelt_asked::{Refused, read_rows};
 use dewfelt_board::phone_text;
+use dewfelt_shown::{Sight, put_count, put_hex, put_text};
 use json::Writer;
 use jt_store::Row;
 use std::alloc::{AllocError, Global};

@@ -1,5 +1,5 @@
--- Who is answered.
-use Rattle.std.specs.Prelude.{◌≡◌, ◌⊎◌, ◌≤◌, ℕ, Bool, List, ◌++◌, None, Some, IsTrue, drop, codes, string_bytes}
+-- Who asks. To be believed.
+use Rattle.std.specs.Prelude.{◌≡◌, ◌⊎◌, ℕ, Bool, List, ◌++◌, None, Some, IsTrue, drop, codes, string_bytes}
 use Rattle.std.specs.List.{list_any}
 use Rattle.std.specs.Str.{bytes_eq}
 use Rattle.http.specs.declared.request.Request.{Request}
@@ -7,14 +7,13 @@ use Rattle.http.specs.Request.{head_of}
 use Rattle.http_header.specs.FieldValue.{FieldValue}
 use Rattle.http_header.specs.HeaderMap.{get}
 use Rattle.http_uri.specs.Uri.{uri_path}
-use Rattle.http_server.specs.declared.response.Response.{Response}
 use Rattle.sha2.specs.Sha256.{sha256}
-use Rattle.dewfelt_http.specs.Paths.{is_open}
-use Rattle.dewfelt_http.specs.declared.gate.Gate.{Gate}
-use Rattle.dewfelt_http.specs.declared.gate.Access.{Access}
-use Rattle.dewfelt_http.specs.declared.gate.Access.TheVariants.{Read, Operate}
-use Rattle.dewfelt_http.specs.declared.gate.Admitted.{Admitted}
-use Rattle.dewfelt_http.specs.declared.gate.Admitted.TheVariants as admitted
+use Rattle.dewfelt_asked.specs.Paths.{is_open}
+use Rattle.dewfelt_asked.specs.declared.gate.Gate.{Gate}
+use Rattle.dewfelt_asked.specs.declared.gate.Access.{Access}
+use Rattle.dewfelt_asked.specs.declared.gate.Access.TheVariants.{Read, Operate}
+use Rattle.dewfelt_asked.specs.declared.gate.Admitted.{Admitted}
+use Rattle.dewfelt_asked.specs.declared.gate.Admitted.TheVariants as admitted
 
 -- whether a text names one of the hosts
 abbrev pub is_host : Gate → List ℕ → Bool
@@ -55,7 +54,3 @@ pub record IsAdmitted (gate : Gate) (request : Request (List ℕ)) : Type 0 wher
   pub reads : IsRead request
   pub admitted : Admitted
   pub may : MayAsk gate request admitted
-
--- the answer refuses, or the request is admitted
-abbrev pub IsAnswered : Gate → Request (List ℕ) → Response → Type 0
-IsAnswered gate request response = (400 ≤ response.status) ⊎ IsAdmitted gate request

@@ -2,9 +2,7 @@
 
 ghost use Rattle.std.specs.Prelude.{◌≡◌, ◌≤◌};
 
-use crate::plain::{put_count, put_text};
 use http::StatusCode;
-use json::Writer;
 use jt_store::{Row, StoreError};
 use std::alloc::{AllocError, Global};
 
@@ -19,22 +17,6 @@ pub struct Problem {
     /// The methods that the path answers, where it does not answer the one that was asked.
     pub is_method: bool,
     pub ghost refuses: { 400 ≤ status },
-}
-
-// The type and the title of a status.
-fn named(status: u16) -> (&'static str, &'static str) {
-    match status {
-        400 => (
-            "urn:dewfelt:problem:the-request-is-wrong",
-            "The request is wrong",
-        ),
-        401 => ("urn:dewfelt:problem:a-token-is-needed", "A token is needed"),
-        403 => ("urn:dewfelt:problem:not-allowed", "Not allowed"),
-        404 => ("urn:dewfelt:problem:not-here", "Not here"),
-        405 => ("urn:dewfelt:problem:not-this-method", "Not this method"),
-        421 => ("urn:dewfelt:problem:not-this-host", "Not this host"),
-        _ => ("urn:dewfelt:problem:not-ready", "Not ready"),
-    }
 }
 
 /// Why a call gives no answer.
@@ -111,27 +93,5 @@ impl Problem {
             }),
             Err(_) => Refused::Memory,
         }
-    }
-
-    // The members, behind the type.
-    fn put_rest(&self, writer: &mut Writer) -> Result<(), AllocError> {
-        put_count(writer, "status", self.status.as_u16() as u64)?;
-        put_text(writer, "detail", self.detail.as_str())?;
-        if let Some(parameter) = self.parameter {
-            put_text(writer, "parameter", parameter)?;
-        }
-        Ok(())
-    }
-
-    /// The problem as JSON.
-    pub fn text(&self, alloc: Global) -> Result<Vec<u8>, AllocError> {
-        let mut writer = Writer::new(Vec::new(alloc));
-        let (kind, title) = named(self.status.as_u16());
-        writer.begin_object()?;
-        put_text(&mut writer, "type", kind)?;
-        put_text(&mut writer, "title", title)?;
-        self.put_rest(&mut writer)?;
-        writer.end_object()?;
-        Ok(writer.into_inner())
     }
 }
