@@ -1,6 +1,6 @@
 //! The command `check`.
 
-use crate::folder::{Trouble, read_fleet_of, read_settings_of};
+use crate::folder::{Trouble, read_fleet_of, settings_of};
 use dewfelt_fleet::Fleet;
 use dewfelt_settings::{Choices, Settings};
 use std::alloc::{AllocError, Global};
@@ -21,17 +21,25 @@ fn text_of(
     )
 }
 
+fn said_of(
+    alloc: Global,
+    folder: &str,
+    settings: &Settings,
+    fleet: &Fleet,
+) -> Result<String, Trouble> {
+    match text_of(alloc, folder, settings, fleet) {
+        Ok(text) => Ok(text),
+        Err(_) => Err(Trouble::memory(alloc)),
+    }
+}
+
 /// Reads the files of a folder. Says what a service would be, or what is wrong.
 pub fn check<R: Files + AllocGlobal>(
     rt: &R,
     folder: &str,
     words: &Choices,
 ) -> Result<String, Trouble> {
-    let file = read_settings_of(rt, folder)?;
+    let settings = settings_of(rt, folder, words)?;
     let (_text, fleet) = read_fleet_of(rt, folder)?;
-    let settings = Settings::of(words, &file);
-    match text_of(rt.alloc(), folder, &settings, &fleet) {
-        Ok(text) => Ok(text),
-        Err(_) => Err(Trouble::memory(rt.alloc())),
-    }
+    said_of(rt.alloc(), folder, &settings, &fleet)
 }

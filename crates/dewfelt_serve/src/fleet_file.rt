@@ -1,5 +1,6 @@
 //! The file of the fleet, looked at each second.
 
+use crate::reading::read_whole;
 use std::rt::Files;
 use std::time::SystemTime;
 use std::{fs, io};
@@ -54,7 +55,7 @@ impl FleetFile {
         if !stays || stamp == self.read {
             return None;
         }
-        let text = fs::read(rt, self.path.as_str());
+        let text = read_whole(rt, self.path.as_str());
         if text.is_ok() {
             self.read = stamp;
         }

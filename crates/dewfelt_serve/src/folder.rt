@@ -1,9 +1,10 @@
 //! The files of a folder.
 
 use crate::Status;
+use crate::reading::read_whole;
 use dewfelt_commands::{Clerk, Failed, Locked, try_lock};
 use dewfelt_fleet::{BadLine, Fleet, NoFleet, read_fleet};
-use dewfelt_settings::{Choices, Wrong, read_file};
+use dewfelt_settings::{Choices, Settings, Wrong, read_file};
 use std::alloc::{AllocError, Global};
 use std::fs::File;
 use std::io::ErrorKind;
@@ -90,7 +91,7 @@ pub fn read_settings_of<R: Files + AllocGlobal>(rt: &R, folder: &str) -> Result<
     let Ok(path) = path_in(alloc, folder, "dewfelt.toml") else {
         return Err(Trouble::memory(alloc));
     };
-    match fs::read(rt, path.as_str()) {
+    match read_whole(rt, path.as_str()) {
         Ok(octets) => match read_file(alloc, octets.as_slice()) {
             Ok(choices) => Ok(choices),
             Err(wrong) => Err(Trouble::of_wrong(alloc, path.as_str(), &wrong)),
@@ -101,6 +102,16 @@ pub fn read_settings_of<R: Files + AllocGlobal>(rt: &R, folder: &str) -> Result<
         }
         Err(error) => Err(Trouble::of_error(alloc, Status::Settings, path.as_str(), &error)),
     }
+}
+
+/// The settings of a service over a folder, started by these words.
+pub fn settings_of<R: Files + AllocGlobal>(
+    rt: &R,
+    folder: &str,
+    words: &Choices,
+) -> Result<Settings, Trouble> {
+    let file = read_settings_of(rt, folder)?;
+    Ok(Settings::of(words, &file))
 }
 
 // Why the file of the fleet can't be read: by itself, or since there is no folder.
@@ -125,7 +136,7 @@ pub fn read_fleet_of<R: Files + AllocGlobal>(
     let Ok(path) = path_in(alloc, folder, "fleet") else {
         return Err(Trouble::memory(alloc));
     };
-    let text = match fs::read(rt, path.as_str()) {
+    let text = match read_whole(rt, path.as_str()) {
         Ok(text) => text,
         Err(error) => return Err(no_fleet(rt, folder, path.as_str(), &error)),
     };

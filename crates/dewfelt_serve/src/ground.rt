@@ -18,6 +18,8 @@ pub struct Ground<P> {
     pub vehicles: usize,
     /// How many registrations went when the store was opened for it, since the fleet does not allow them.
     pub forgotten: usize,
+    /// How many octets the store's file has.
+    pub octets: u64,
 }
 
 /// Who has what the hubs of a service are made of, one after another.
@@ -26,6 +28,9 @@ pub trait HasGround {
 
     /// What the next hub is made of, over a store that is open: one that is not is opened.
     fn next(&mut self, alloc: Global) -> Result<Ground<Self::Keeper>, StoreError>;
+
+    /// What the system says of a store that does not open, where it says anything.
+    fn said(&self, alloc: Global) -> Option<String>;
 
     /// Lets go of a store that failed. The hub over it is gone.
     fn let_go(&mut self);

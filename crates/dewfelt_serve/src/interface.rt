@@ -1,6 +1,7 @@
 //! The interface over HTTP of a service.
 
 use crate::folder::path_in;
+use crate::reading::read_whole;
 use crate::saying::VERSION;
 use crate::tokens::{TOKEN, Tokens, tokens_of};
 use crate::{Status, Trouble};
@@ -8,6 +9,7 @@ use dewfelt_board::Board;
 use dewfelt_http::{Base, Gate, Requests, Site};
 use dewfelt_settings::{HostName, Settings};
 use std::alloc::{AllocError, Global};
+use std::io;
 use std::io::ErrorKind;
 use std::net::SocketAddr;
 use std::random::RandomSource;
@@ -15,7 +17,6 @@ use std::rt::Files;
 use std::sync::atomic::{AtomicBool, Ordering};
 use std::sync::{Arc, Mutex};
 use std::time::Clock;
-use std::{fs, io};
 
 /// What the interface over HTTP of a service answers by.
 #[derive(Drop)]
@@ -58,7 +59,7 @@ fn base_of<R: Files + AllocGlobal>(rt: &R, folder: &str) -> Result<Option<Base>,
     let Ok(path) = path_in(alloc, folder, "map.geojson") else {
         return Err(Trouble::memory(alloc));
     };
-    match fs::read(rt, path.as_str()) {
+    match read_whole(rt, path.as_str()) {
         Ok(content) => match Base::of(alloc, content) {
             Ok(base) => Ok(Some(base)),
             Err(_) => Err(Trouble::memory(alloc)),

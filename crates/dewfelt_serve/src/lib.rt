@@ -1,6 +1,7 @@
 //! The commands of `dewfelt` over a folder: what is served, what is wrong with its files, and the lines of what happens.
 #![tactic(auto)]
 
+mod announcing;
 mod answering;
 mod checking;
 mod chores;
@@ -17,6 +18,7 @@ mod opening;
 mod over_folder;
 mod page_line;
 mod present;
+mod reading;
 mod running;
 mod saying;
 mod seen;

@@ -2,7 +2,7 @@
 
 use crate::Told;
 use crate::ground::{Ground, HasGround};
-use crate::saying::say_opened;
+use crate::saying::{say_opened, say_unopened};
 use jt_service::Watch;
 use jt_store::StoreError;
 use std::alloc::Global;
@@ -90,8 +90,8 @@ impl<G: HasGround> Opener<G> {
             }
             Err(fault) => {
                 if !self.is_said {
-                    let word = fault_word(fault);
-                    watch.told().lock(rt).say("fault", "opening", word);
+                    let said = self.ground.said(alloc);
+                    say_unopened(&mut watch.told().lock(rt), fault_word(fault), said);
                 }
                 self.is_said = true;
                 self.tried = Some(began);

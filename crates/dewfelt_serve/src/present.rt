@@ -21,6 +21,27 @@ pub struct Present<K> {
     board: Option<Arc<Mutex<Board>>>,
 }
 
+// A registry over the store at this path, under no fleet so far.
+fn registry_at<S: Stores>(
+    alloc: Global,
+    stores: &S,
+    path: &str,
+) -> Result<Registry<S::Keeper>, StoreError> {
+    let keeper = stores.at(path)?;
+    Ok(Registry::new(keeper, Fleet::new(alloc, Seq::new(alloc))))
+}
+
+// Puts a registry under a fleet. Answers how many registrations went.
+fn apply_all<K: Registrations + Drop>(
+    alloc: Global,
+    registry: &mut Registry<K>,
+    fleet: Fleet,
+) -> Result<usize, StoreError> {
+    let mut forgotten = Seq::new(alloc);
+    registry.apply(alloc, fleet, &mut forgotten)?;
+    Ok(forgotten.len())
+}
+
 impl<K: Registrations + Drop> Present<K> {
     /// A fleet of this text, in which no line is bad, over a store that is not open. The board shows it.
     pub(crate) fn of(text: Vec<u8>, board: Option<Arc<Mutex<Board>>>) -> Present<K> {
@@ -129,15 +150,34 @@ impl<K: Registrations + Drop> Present<K> {
         if self.registry.is_some() {
             return Ok(0);
         }
-        let fleet = self.fleet(alloc)?;
-        let nobody = Fleet::new(alloc, Seq::new(alloc));
-        let mut registry = Registry::new(stores.at(path)?, nobody);
-        let mut forgotten = Seq::new(alloc);
-        registry.apply(alloc, fleet, &mut forgotten)?;
+        let (registry, forgotten) = self.under_fleet(alloc, stores, path)?;
+        self.share(rt, alloc, registry)?;
+        Ok(forgotten)
+    }
+
+    // A registry over the store at this path, which has the registrations that the fleet allows. Answers how many others went.
+    fn under_fleet<S: Stores<Keeper = K>>(
+        &self,
+        alloc: Global,
+        stores: &S,
+        path: &str,
+    ) -> Result<(Registry<K>, usize), StoreError> {
+        let mut registry = registry_at(alloc, stores, path)?;
+        let forgotten = apply_all(alloc, &mut registry, self.fleet(alloc)?)?;
+        Ok((registry, forgotten))
+    }
+
+    // Has the board show a registry, and the threads share it.
+    fn share<R: Wait>(
+        &mut self,
+        rt: &R,
+        alloc: Global,
+        registry: Registry<K>,
+    ) -> Result<(), StoreError> {
         let registry = Arc::new(alloc, Mutex::new(registry))?;
         self.show(rt, alloc, &*registry)?;
         self.registry = Some(registry);
-        Ok(forgotten.len())
+        Ok(())
     }
 
     /// Closes the store.

@@ -1,6 +1,7 @@
 //! Hub after hub of a service.
 
 use crate::Told;
+use crate::announcing::Announced;
 use crate::ground::{Ground, HasGround};
 use crate::interface::Interface;
 use crate::opening::Opener;
@@ -46,6 +47,12 @@ where
         self.watch.told().lock(self.rt).say(event, key, value);
     }
 
+    /// Says that links are accepted from now on.
+    pub(crate) fn say_ready(&self) {
+        say_listening(&mut self.watch.told().lock(self.rt), self.settings);
+        self.set_ready(true);
+    }
+
     // Says at the interface whether links are served.
     fn set_ready(&self, is_ready: bool) {
         if let Some(interface) = self.interface {
@@ -66,13 +73,15 @@ where
             secret,
             vehicles: _,
             forgotten: _,
+            octets: _,
         } = ground;
         let journal = Witnessed::of(self.rt, self.watch);
         let Ok(hub) = Hub::begin_with(self.alloc, keeper, fleet, secret, journal) else {
             return ServiceEnd::Memory;
         };
         let limits = limits_of(self.settings);
-        let (end, hub) = serve_on(self.rt, self.alloc, door, hub, limits, self.watch);
+        let mut door = Announced::of(door, self);
+        let (end, hub) = serve_on(self.rt, self.alloc, &mut door, hub, limits, self.watch);
         drop(hub);
         end
     }
@@ -105,8 +114,6 @@ where
             let Some(ground) = opener.next(self.rt, self.alloc, self.watch) else {
                 return ServiceEnd::Stopped;
             };
-            say_listening(&mut self.watch.told().lock(self.rt), self.settings);
-            self.set_ready(true);
             let end = self.serve_hub(door, ground);
             self.set_ready(false);
             if let Some(end) = self.after(end, &mut opener) {

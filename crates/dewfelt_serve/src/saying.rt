@@ -50,7 +50,22 @@ pub(crate) fn say_opened<T: Wait + Clock + Drop, P>(
     line.number("plates", ground.fleet.plates.len() as u64);
     line.number("terminals", ground.fleet.terminals.len() as u64);
     line.number("forgotten", ground.forgotten as u64);
+    line.number("octets", ground.octets);
     line.number("milliseconds", milliseconds);
+    told.put(line);
+}
+
+/// The store does not open, of which the system says this, where it says anything.
+pub(crate) fn say_unopened<T: Wait + Clock + Drop>(
+    told: &mut Told<T>,
+    why: &str,
+    said: Option<String>,
+) {
+    let mut line = told.line("fault");
+    line.text("opening", why);
+    if let Some(said) = said {
+        line.text("said", said.as_str());
+    }
     told.put(line);
 }
 

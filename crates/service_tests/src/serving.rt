@@ -225,6 +225,7 @@ impl Openings {
             secret: self.secret.copy(alloc)?,
             vehicles: 0,
             forgotten: 0,
+            octets: 0,
         })
     }
 }
@@ -244,6 +245,10 @@ impl HasGround for Openings {
             Opening::Opens => {}
         }
         self.ground(alloc, failing)
+    }
+
+    fn said(&self, alloc: Global) -> Option<String> {
+        String::from_str(alloc, "it is gone").ok()
     }
 
     fn let_go(&mut self) {}
@@ -365,7 +370,7 @@ fn a_store_is_tried_again(rt: HostRuntime) {
     let openings: &[Opening] = &[Opening::Fails, Opening::FailsLater, Opening::Opens];
     let wanted: &[(&str, usize)] = &[
         (" event=start version=0.1.0 listen=0.0.0.0:8808 links=2 ", 1),
-        (" event=fault opening=failed\n", 1),
+        (" event=fault opening=failed said=\"it is gone\"\n", 1),
         (" event=opened ", 2),
         (" event=listening ", 2),
         (
