@@ -1,13 +1,11 @@
 //! The interface over HTTP of a service.
 
-use crate::folder::path_in;
-use crate::reading::read_whole;
-use crate::saying::VERSION;
 use crate::tokens::{TOKEN, Tokens, tokens_of};
-use crate::{Status, Trouble};
 use dewfelt_board::Board;
+use dewfelt_folder::{Status, Trouble, path_in, read_whole};
 use dewfelt_http::{Base, Gate, Requests, Site};
 use dewfelt_settings::{HostName, Settings};
+use dewfelt_told::VERSION;
 use std::alloc::{AllocError, Global};
 use std::io;
 use std::io::ErrorKind;

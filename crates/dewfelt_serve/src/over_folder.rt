@@ -2,15 +2,14 @@
 
 use crate::interface::Web;
 use crate::kept_rows::KeptRows;
-use crate::living::{Living, Root};
-use crate::present::Present;
 use crate::serving::{Flags, Service, serve};
-use crate::tending::{Tended, Tending};
-use crate::{Status, Told};
 use dewfelt_board::Board;
 use dewfelt_commands::{Clerk, Stores};
 use dewfelt_fleet::Fleet;
+use dewfelt_folder::Status;
 use dewfelt_settings::Settings;
+use dewfelt_tending::{Living, Present, Root, Tended, Tending};
+use dewfelt_told::Told;
 use jt_outside::Sink;
 use jt_service::Door;
 use jt_store::Registrations;

@@ -1,8 +1,7 @@
 //! The command `page`.
 
-use crate::Status;
-use crate::folder::{Trouble, path_in, settings_of};
 use crate::tokens::operating_token_of;
+use dewfelt_folder::{Status, Trouble, path_in, settings_of};
 use dewfelt_settings::{Choices, Http, Settings};
 use std::alloc::{AllocError, Global};
 use std::net::{IpAddr, Ipv4Addr, Ipv6Addr, SocketAddr};

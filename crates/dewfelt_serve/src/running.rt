@@ -1,12 +1,11 @@
 //! Hub after hub of a service.
 
-use crate::Told;
 use crate::announcing::Announced;
-use crate::ground::{Ground, HasGround};
 use crate::interface::Interface;
 use crate::opening::Opener;
-use crate::saying::say_listening;
 use dewfelt_settings::Settings;
+use dewfelt_tending::{Ground, HasGround};
+use dewfelt_told::{Told, say_listening};
 use jt_platform::Hub;
 use jt_service::{Door, Limits, ServiceEnd, Watch, Witnessed, serve_on};
 use jt_store::Keeper;

@@ -1,8 +1,6 @@
 //! The tokens of a folder.
 
-use crate::folder::path_in;
-use crate::reading::read_whole;
-use crate::{Status, Trouble};
+use dewfelt_folder::{Status, Trouble, path_in, read_whole};
 use dewfelt_http::{TOKEN_DIGITS, make_token};
 use std::fs::OpenOptions;
 use std::io::ErrorKind;

@@ -1,7 +1,7 @@
 -- The exit statuses of `dewfelt`, but for those of the commands beside a service: this project's own. To be believed.
 use Rattle.std.specs.Prelude.{ℕ}
-use Rattle.dewfelt_serve.specs.declared.status.Status.{Status}
-use Rattle.dewfelt_serve.specs.declared.status.Status.TheVariants.{Done, Settings, Usage, Fleet, Output, Listen, Busy, Memory, Folder, Threads, Http}
+use Rattle.dewfelt_folder.specs.declared.status.Status.{Status}
+use Rattle.dewfelt_folder.specs.declared.status.Status.TheVariants.{Done, Settings, Usage, Fleet, Output, Listen, Busy, Memory, Folder, Threads, Http}
 
 abbrev pub number_of : Status → ℕ
 number_of Done = 0

@@ -1,18 +1,17 @@
 //! Lines of what a service does by itself.
 
 use crate::Told;
-use crate::ground::Ground;
-use crate::interface::Interface;
 use dewfelt_fleet::BadLine;
 use dewfelt_settings::{Http, Settings};
+use std::net::SocketAddr;
 use std::sync::Wait;
 use std::time::Clock;
 
 /// The version of the program.
-pub(crate) const VERSION: &str = "0.1.0";
+pub const VERSION: &str = "0.1.0";
 
 /// The service starts, with these settings.
-pub(crate) fn say_start<T: Wait + Clock + Drop>(told: &mut Told<T>, settings: &Settings) {
+pub fn say_start<T: Wait + Clock + Drop>(told: &mut Told<T>, settings: &Settings) {
     let mut line = told.line("start");
     line.text("version", VERSION);
     line.address("listen", settings.listen);
@@ -32,35 +31,42 @@ pub(crate) fn say_start<T: Wait + Clock + Drop>(told: &mut Told<T>, settings: &S
 }
 
 /// Browsers are answered at this address, who bring the token of this file.
-pub(crate) fn say_http<T: Wait + Clock + Drop>(told: &mut Told<T>, interface: &Interface) {
+pub fn say_http<T: Wait + Clock + Drop>(told: &mut Told<T>, address: SocketAddr, token_file: &str) {
     let mut line = told.line("http");
-    line.address("address", interface.address);
-    line.text("token_file", interface.token_file.as_str());
+    line.address("address", address);
+    line.text("token_file", token_file);
     told.put(line);
 }
 
-/// The store is open, which took so long, for a hub of this ground.
-pub(crate) fn say_opened<T: Wait + Clock + Drop, P>(
-    told: &mut Told<T>,
-    ground: &Ground<P>,
-    milliseconds: u64,
-) {
+/// What a store has that was opened, and the fleet over it.
+#[derive(Clone, Copy)]
+pub struct Opened {
+    /// How many vehicles are bound, and how many other plates and terminal ids there are.
+    pub vehicles: usize,
+    pub plates: usize,
+    pub terminals: usize,
+    /// How many registrations went, since the fleet does not allow them.
+    pub forgotten: usize,
+    /// How many octets its file has.
+    pub octets: u64,
+    /// How long it took.
+    pub milliseconds: u64,
+}
+
+/// The store is open.
+pub fn say_opened<T: Wait + Clock + Drop>(told: &mut Told<T>, opened: Opened) {
     let mut line = told.line("opened");
-    line.number("vehicles", ground.vehicles as u64);
-    line.number("plates", ground.fleet.plates.len() as u64);
-    line.number("terminals", ground.fleet.terminals.len() as u64);
-    line.number("forgotten", ground.forgotten as u64);
-    line.number("octets", ground.octets);
-    line.number("milliseconds", milliseconds);
+    line.number("vehicles", opened.vehicles as u64);
+    line.number("plates", opened.plates as u64);
+    line.number("terminals", opened.terminals as u64);
+    line.number("forgotten", opened.forgotten as u64);
+    line.number("octets", opened.octets);
+    line.number("milliseconds", opened.milliseconds);
     told.put(line);
 }
 
 /// The store does not open, of which the system says this, where it says anything.
-pub(crate) fn say_unopened<T: Wait + Clock + Drop>(
-    told: &mut Told<T>,
-    why: &str,
-    said: Option<String>,
-) {
+pub fn say_unopened<T: Wait + Clock + Drop>(told: &mut Told<T>, why: &str, said: Option<String>) {
     let mut line = told.line("fault");
     line.text("opening", why);
     if let Some(said) = said {
@@ -70,7 +76,7 @@ pub(crate) fn say_unopened<T: Wait + Clock + Drop>(
 }
 
 /// Links are accepted from now on.
-pub(crate) fn say_listening<T: Wait + Clock + Drop>(told: &mut Told<T>, settings: &Settings) {
+pub fn say_listening<T: Wait + Clock + Drop>(told: &mut Told<T>, settings: &Settings) {
     let mut line = told.line("listening");
     line.address("at", settings.listen);
     told.put(line);
@@ -78,17 +84,17 @@ pub(crate) fn say_listening<T: Wait + Clock + Drop>(told: &mut Told<T>, settings
 
 /// What a newer fleet has, and what came of it.
 #[derive(Clone, Copy)]
-pub(crate) struct FleetTaken {
+pub struct FleetTaken {
     /// How many vehicles are bound, and how many other plates and terminal ids there are.
-    pub(crate) vehicles: usize,
-    pub(crate) plates: usize,
-    pub(crate) terminals: usize,
+    pub vehicles: usize,
+    pub plates: usize,
+    pub terminals: usize,
     /// How many phones are registered no more.
-    pub(crate) forgotten: usize,
+    pub forgotten: usize,
     /// Whether the service begins anew.
-    pub(crate) renews: bool,
+    pub renews: bool,
     /// Whether its secret is another one, which is taken at the next start.
-    pub(crate) has_new_secret: bool,
+    pub has_new_secret: bool,
 }
 
 fn yes(is_so: bool) -> &'static str {
@@ -96,7 +102,7 @@ fn yes(is_so: bool) -> &'static str {
 }
 
 /// A newer fleet was taken.
-pub(crate) fn say_fleet<T: Wait + Clock + Drop>(told: &mut Told<T>, taken: FleetTaken) {
+pub fn say_fleet<T: Wait + Clock + Drop>(told: &mut Told<T>, taken: FleetTaken) {
     let mut line = told.line("fleet");
     line.text("result", "taken");
     line.number("vehicles", taken.vehicles as u64);
@@ -111,7 +117,7 @@ pub(crate) fn say_fleet<T: Wait + Clock + Drop>(told: &mut Told<T>, taken: Fleet
 }
 
 /// A line of the file of the fleet is bad, and the fleet stays as it was.
-pub(crate) fn say_bad_fleet<T: Wait + Clock + Drop>(told: &mut Told<T>, bad: &BadLine) {
+pub fn say_bad_fleet<T: Wait + Clock + Drop>(told: &mut Told<T>, bad: &BadLine) {
     let mut line = told.line("fleet");
     line.text("result", "bad");
     line.number("line", bad.number);

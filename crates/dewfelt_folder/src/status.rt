@@ -30,7 +30,7 @@ pub enum Status {
 }
 
 impl Status {
-    ghost use Rattle.dewfelt_serve.specs.Statuses.{number_of};
+    ghost use Rattle.dewfelt_folder.specs.Statuses.{number_of};
 
     /// The exit status of the program.
     pub fn number(self) -> u8

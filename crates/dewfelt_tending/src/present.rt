@@ -44,7 +44,7 @@ fn apply_all<K: Registrations + Drop>(
 
 impl<K: Registrations + Drop> Present<K> {
     /// A fleet of this text, in which no line is bad, over a store that is not open. The board shows it.
-    pub(crate) fn of(text: Vec<u8>, board: Option<Arc<Mutex<Board>>>) -> Present<K> {
+    pub fn of(text: Vec<u8>, board: Option<Arc<Mutex<Board>>>) -> Present<K> {
         Present {
             text,
             registry: None,
@@ -124,7 +124,7 @@ impl<K: Registrations + Drop> Present<K> {
     }
 
     /// The registry, where the store is open.
-    pub(crate) fn registry(&self) -> Option<&Mutex<Registry<K>>> {
+    pub fn registry(&self) -> Option<&Mutex<Registry<K>>> {
         match &self.registry {
             Some(registry) => Some(&**registry),
             None => None,

@@ -1,14 +1,12 @@
 //! The chores over a folder: its fleet is read again where it changed, and commands are answered.
 
-use crate::Told;
 use crate::chores::Chores;
 use crate::desk::Desk;
-use crate::fleet_file::FleetFile;
-use crate::folder::path_in;
 use crate::present::Present;
-use crate::saying::{FleetTaken, say_bad_fleet, say_fleet};
 use dewfelt_commands::Clerk;
 use dewfelt_fleet::{Fleet, NoFleet, read_fleet};
+use dewfelt_folder::{FleetFile, path_in};
+use dewfelt_told::{FleetTaken, Told, say_bad_fleet, say_fleet};
 use jt_service::Watch;
 use jt_store::{Registrations, StoreError};
 use jt_value::{Phone, Seq};

@@ -56,7 +56,7 @@ fn write_once<R: Wait + Clock, T: Wait + Clock + Drop, K: Sink>(
 }
 
 /// Writes lines as they come until the service is done, and the last ones then.
-pub(crate) fn write_lines<R: Wait + Clock, T: Wait + Clock + Drop, K: Sink>(
+pub fn write_lines<R: Wait + Clock, T: Wait + Clock + Drop, K: Sink>(
     rt: &R,
     watch: &Watch<Told<T>>,
     mut sink: K,

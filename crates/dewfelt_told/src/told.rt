@@ -138,7 +138,7 @@ impl<R: Wait + Clock + Drop> Told<R> {
     }
 
     /// Has a board told of all that is told, where there is one. Its sessions have the numbers of lines.
-    pub(crate) fn tell_board(&mut self, board: Option<Arc<Mutex<Board>>>) -> Result<(), AllocError>
+    pub fn tell_board(&mut self, board: Option<Arc<Mutex<Board>>>) -> Result<(), AllocError>
     where
         R: Clone,
     {
@@ -149,7 +149,8 @@ impl<R: Wait + Clock + Drop> Told<R> {
         Ok(())
     }
 
-    pub(crate) fn alloc(&self) -> Global {
+    /// Where memory for lines comes from.
+    pub fn alloc(&self) -> Global {
         self.alloc
     }
 
@@ -179,14 +180,14 @@ impl<R: Wait + Clock + Drop> Told<R> {
     }
 
     /// Puts a line of a phone that is registered no more, since a command asked for that.
-    pub(crate) fn say_forgot(&mut self, phone: &Phone) {
+    pub fn say_forgot(&mut self, phone: &Phone) {
         if let Ok(digits) = phone_text(self.alloc, phone) {
             self.say("forgot", "phone", digits.as_str());
         }
     }
 
     /// Puts a line of a fault, with what the system says of it.
-    pub(crate) fn say_error(&mut self, what: &str, error: &io::Error) {
+    pub fn say_error(&mut self, what: &str, error: &io::Error) {
         if let Ok(text) = format!(in self.alloc; "{error}") {
             self.say("fault", what, text.as_str());
         }
@@ -253,7 +254,7 @@ impl<R: Wait + Clock + Drop> Told<R> {
     }
 
     /// A hub is gone, and the next one begins: its sessions have numbers behind those that were.
-    pub(crate) fn begin_anew(&mut self) {
+    pub fn begin_anew(&mut self) {
         self.before = self.number_of(self.last);
         self.last = 0;
         self.seen.clear();

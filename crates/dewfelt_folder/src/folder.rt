@@ -20,20 +20,16 @@ pub struct Trouble {
 }
 
 impl Trouble {
-    // The trouble of a file, with what is said of it. Where memory is refused for the line there is none.
-    pub(crate) fn of_file(alloc: Global, status: Status, path: &str, said: &str) -> Trouble {
+    /// The trouble of a file, with what is said of it. Where memory is refused for the line there is none.
+    pub fn of_file(alloc: Global, status: Status, path: &str, said: &str) -> Trouble {
         match format!(in alloc; "{path}: {said}") {
             Ok(text) => Trouble { status, text },
             Err(_) => Trouble::memory(alloc),
         }
     }
 
-    pub(crate) fn of_error(
-        alloc: Global,
-        status: Status,
-        path: &str,
-        error: &io::Error,
-    ) -> Trouble {
+    /// The trouble of a file, with what the system says of it.
+    pub fn of_error(alloc: Global, status: Status, path: &str, error: &io::Error) -> Trouble {
         match format!(in alloc; "{path}: {error}") {
             Ok(text) => Trouble { status, text },
             Err(_) => Trouble::memory(alloc),

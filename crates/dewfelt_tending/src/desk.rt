@@ -1,9 +1,9 @@
 //! What a service does for commands.
 
-use crate::Told;
 use crate::present::Present;
 use dewfelt_commands::{Forgot, Lists, Office, copy_store};
 use dewfelt_keeper::Forgetting;
+use dewfelt_told::Told;
 use jt_service::Watch;
 use jt_store::{Registered, Registrations, StoreError};
 use jt_value::{Phone, Seq};

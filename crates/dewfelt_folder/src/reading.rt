@@ -23,13 +23,13 @@ fn expect_file<R: Files>(rt: &R, path: &str) -> io::Result<()> {
 }
 
 /// The octets of a file. What is no file is an error, and is not read.
-pub(crate) fn read_whole<R: Files + AllocGlobal>(rt: &R, path: &str) -> io::Result<Vec<u8>> {
+pub fn read_whole<R: Files + AllocGlobal>(rt: &R, path: &str) -> io::Result<Vec<u8>> {
     expect_file(rt, path)?;
     fs::read(rt, path)
 }
 
 /// How many octets a file has; 0 where there is none.
-pub(crate) fn octets_of<R: Files>(rt: &R, path: &str) -> u64 {
+pub fn octets_of<R: Files>(rt: &R, path: &str) -> u64 {
     match fs::metadata(rt, path) {
         Ok(about) => about.len(),
         Err(_) => 0,
@@ -42,7 +42,7 @@ fn is_head(octets: &[u8]) -> bool {
 }
 
 /// Looks whether the file of a store can be read and written, and begins as one. An error is what the system says of it.
-pub(crate) fn try_store<R: Files>(rt: &R, path: &str) -> io::Result<()> {
+pub fn try_store<R: Files>(rt: &R, path: &str) -> io::Result<()> {
     expect_file(rt, path)?;
     let mut file = OpenOptions::new().read(true).write(true).open(rt, path)?;
     let mut head = [0; HEAD];

@@ -1,11 +1,10 @@
 //! What hubs are made of over a folder, whose fleet may change.
 
-use crate::folder::path_in;
 use crate::ground::{Ground, HasGround};
 use crate::present::Present;
-use crate::reading::{octets_of, try_store};
 use dewfelt_commands::Stores;
 use dewfelt_fleet::Fleet;
+use dewfelt_folder::{octets_of, path_in, try_store};
 use dewfelt_keeper::{Registry, SharedKeeper};
 use jt_platform::Fleet as Names;
 use jt_store::{Registrations, StoreError};

@@ -1,6 +1,6 @@
 //! What is done each second while a service runs.
 
-use crate::Told;
+use dewfelt_told::Told;
 use jt_service::Watch;
 use std::sync::Wait;
 use std::sync::atomic::{AtomicBool, Ordering};
@@ -19,7 +19,7 @@ pub trait Chores<T> {
 }
 
 /// Does the chores until the service is over, and sets a flag then.
-pub(crate) fn do_chores<R: Wait + Clock, T, C: Chores<T> + Drop>(
+pub fn do_chores<R: Wait + Clock, T, C: Chores<T> + Drop>(
     rt: &R,
     watch: &Watch<Told<T>>,
     mut chores: C,

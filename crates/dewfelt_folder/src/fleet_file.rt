@@ -14,7 +14,7 @@ struct Stamp {
 
 /// The file of a fleet. It is read once it stayed the same from one look to the next, so that one that is being written is not read.
 #[derive(Drop)]
-pub(crate) struct FleetFile {
+pub struct FleetFile {
     path: String,
     // What was seen when it was read last.
     read: Option<Stamp>,
@@ -34,7 +34,7 @@ fn stamp_of<R: Files>(rt: &R, path: &str) -> Option<Stamp> {
 
 impl FleetFile {
     /// A file that was not read yet.
-    pub(crate) fn new(path: String) -> FleetFile {
+    pub fn new(path: String) -> FleetFile {
         FleetFile {
             path,
             read: None,
@@ -43,12 +43,12 @@ impl FleetFile {
     }
 
     /// The file is to be read again, as if it had changed.
-    pub(crate) fn forget(&mut self) {
+    pub fn forget(&mut self) {
         self.read = None;
     }
 
     /// Its octets, where it changed since it was read last and stays so. An error is what the system says of it, at each look.
-    pub(crate) fn look<R: Files + AllocGlobal>(&mut self, rt: &R) -> Option<io::Result<Vec<u8>>> {
+    pub fn look<R: Files + AllocGlobal>(&mut self, rt: &R) -> Option<io::Result<Vec<u8>>> {
         let stamp = stamp_of(rt, self.path.as_str());
         let stays = stamp == self.seen;
         self.seen = stamp;
