@@ -5,8 +5,8 @@ ghost use Rattle.jt_outside.specs.Sink.{TakesOctets, WriteHasCause};
 ghost use Rattle.jt_outside.specs.Link.{Reads, ReadHasCause, wire_of};
 ghost use Rattle.jt_service.specs.Watched.{watched, HeardSo};
 
-use crate::cut::Cut;
 use jt_outside::{Link, LinkGot, Put, Sink};
+use jt_seats::Cut;
 use std::marker::Model;
 
 // What a write tells the warden, so that what came in one read is answered, however long it was.
