@@ -150,6 +150,7 @@ fn made_of(
     folder: &str,
     settings: &Settings,
     address: SocketAddr,
+    ends: Arc<AtomicBool>,
     read: Read,
 ) -> Result<Interface, AllocError> {
     let run = read.run;
@@ -158,20 +159,21 @@ fn made_of(
         token_file: path_in(alloc, folder, TOKEN)?,
         site: read.site(alloc, settings, address)?,
         board: board_of(alloc, run)?,
-        ends: Arc::new(alloc, AtomicBool::new(false))?,
+        ends,
     })
 }
 
 impl Interface {
-    /// The interface of a service over a folder, at this address. Tokens that are missing are made.
+    /// The interface of a service over a folder, at this address, until the flag is set. Tokens that are missing are made.
     pub fn of<R: Files + RandomSource + Clock + AllocGlobal>(
         rt: &R,
         folder: &str,
         settings: &Settings,
         address: SocketAddr,
+        ends: Arc<AtomicBool>,
     ) -> Result<Interface, Trouble> {
         let read = Read::of(rt, folder)?;
-        match made_of(rt.alloc(), folder, settings, address, read) {
+        match made_of(rt.alloc(), folder, settings, address, ends, read) {
             Ok(interface) => Ok(interface),
             Err(_) => Err(Trouble::memory(rt.alloc())),
         }

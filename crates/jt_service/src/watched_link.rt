@@ -12,6 +12,10 @@ use std::marker::Model;
 // What a write tells the warden, so that what came in one read is answered, however long it was.
 const UNCOUNTED: u64 = 0;
 
+// So many octets a read asks for at most: a session answers all that came in one before it looks again whether it is to end, and each
+// unit among them waits for the disk (this project's own).
+const PIECE: usize = 64;
+
 /// Says why a link is to end.
 pub trait Warden {
     /// Why a link that gave so many octets is to end now, if it is.
@@ -50,7 +54,8 @@ fn listen<K: Link, W: Warden>(
         if let Some(cut) = warden.verdict(octets) {
             return Heard::Over(cut);
         }
-        match link.read(buf) {
+        let most = buf.len().min(PIECE);
+        match link.read(&mut buf[..most]) {
             LinkGot::Bytes(count) => return Heard::Bytes(count),
             LinkGot::Quiet => {}
             LinkGot::End => return Heard::End,
