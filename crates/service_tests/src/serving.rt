@@ -31,19 +31,19 @@ use std::{fs, io};
 
 /// The lines of a service.
 #[derive(Drop)]
-struct Lines {
+pub(crate) struct Lines {
     octets: Mutex<Vec<u8>>,
 }
 
 impl Lines {
-    fn new(alloc: Global) -> Lines {
+    pub(crate) fn new(alloc: Global) -> Lines {
         Lines {
             octets: Mutex::new(Vec::new(alloc)),
         }
     }
 
     // How often a text stands in the lines.
-    fn count<R: Wait>(&self, rt: &R, text: &str) -> usize {
+    pub(crate) fn count<R: Wait>(&self, rt: &R, text: &str) -> usize {
         let octets = self.octets.lock(rt);
         octets
             .as_slice()
@@ -55,14 +55,14 @@ impl Lines {
 
 /// Takes lines.
 #[derive(Drop)]
-struct Taker<'w, R> {
+pub(crate) struct Taker<'w, R> {
     rt: &'w R,
     lines: &'w Lines,
     faults: u64,
 }
 
 impl<'w, R> Taker<'w, R> {
-    fn new(rt: &'w R, lines: &'w Lines) -> Taker<'w, R>
+    pub(crate) fn new(rt: &'w R, lines: &'w Lines) -> Taker<'w, R>
         ensures { result ≡ 0 }
     {
         Taker {
@@ -168,8 +168,8 @@ impl<'w, R: Wait + Clock, F: Files> Door for Acts<'w, R, F> {
 
 /// No browser comes.
 #[derive(Drop)]
-struct Nobody<'w, R> {
-    rt: &'w R,
+pub(crate) struct Nobody<'w, R> {
+    pub(crate) rt: &'w R,
 }
 
 impl<'w, R: Wait + Clock> Door for Nobody<'w, R> {
@@ -271,7 +271,7 @@ impl<'w, T: Wait + Clock + Drop> Chores<T> for Renews<'w> {
     }
 }
 
-fn flag(rt: &impl Abort, alloc: Global) -> Arc<AtomicBool> {
+pub(crate) fn flag(rt: &impl Abort, alloc: Global) -> Arc<AtomicBool> {
     Arc::new(alloc, AtomicBool::new(false)).expect(rt, "there is memory")
 }
 
@@ -424,7 +424,11 @@ impl Stores for MemStores {
 }
 
 // A folder with the file of a fleet, whose path it gives.
-fn make_folder<F: Files + AllocGlobal>(files: &F, folder: &str, text: &str) -> io::Result<String> {
+pub(crate) fn make_folder<F: Files + AllocGlobal>(
+    files: &F,
+    folder: &str,
+    text: &str,
+) -> io::Result<String> {
     fs::create_dir(files, folder)?;
     let path = format!(in files.alloc(); "{folder}/fleet")?;
     fs::write(files, path.as_str(), text)?;
