@@ -77,10 +77,13 @@ IsOldestOf seats part (Some place) = (goes_on (seat_at place seats) ≡ true)
 abbrev pub IsOldest : List Seat → Option ℕ → Type 0
 IsOldest seats place = IsOldestOf seats seats place
 
--- whether a moment is before that of the oldest one so far
-abbrev pub is_before : ℕ → Option (ℕ × ℕ) → Bool
-is_before since None = true
-is_before since (Some x) = nat_lt since x.1
+-- the older one of the oldest one so far, by its place and its moment, and the one in a place
+abbrev pub is_later : ℕ → Option (ℕ × ℕ) → Bool
+is_later since None = false
+is_later since (Some x) = nat_le x.1 since
+
+abbrev pub older : Option (ℕ × ℕ) → ℕ → Seat → Option (ℕ × ℕ)
+older oldest place seat = cond (goes_on seat) (cond (is_later seat.since oldest) oldest (Some (place, seat.since))) oldest
 
 -- a link that is to end for this reason
 abbrev pub ended : Cut → Seat → Seat

@@ -3,7 +3,7 @@
 ghost use Rattle.std.specs.Prelude.{◌≡◌};
 ghost use Rattle.std.specs.Option.{option_or};
 ghost use Rattle.jt_value.specs.Sameness.{key_of};
-ghost use Rattle.jt_seats.specs.Seats.{goes_on, is_let_in, is_of, is_phone, is_session, is_stranger};
+ghost use Rattle.jt_seats.specs.Seats.{dismissed, goes_on, is_let_in, is_of, is_phone, is_session, is_stranger};
 ghost use Rattle.jt_seats.specs.Verdicts.{of_seat, of_stranger};
 
 use crate::cut::Cut;
@@ -103,6 +103,17 @@ impl Seat {
             Some(seated) => seated.digits == phone.digits,
             None => false,
         }
+    }
+
+    // The same, to end where the phone was let in on its link.
+    pub(crate) fn dismissed(&self, phone: &Phone) -> Seat
+        ensures { result ≡ dismissed (key_of phone.now) self.now }
+    {
+        let mut seat = *self;
+        if seat.has_phone(phone) {
+            seat.cut = Some(Cut::Dismissed);
+        }
+        seat
     }
 
     // Why its link is to end now, which sent so many octets: by what was decided of it, or by a stranger's limits.

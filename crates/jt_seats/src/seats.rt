@@ -1,9 +1,9 @@
 //! The places of all links.
 
-ghost use Rattle.std.specs.Prelude.{◌≡◌, ◌≤◌, ◌<◌, false, true, not, None, Some, [], All, IfOk, IfErr, IsTrue, OnErr, OnOk, length, map, position, replicate, slice_get, slice_set};
+ghost use Rattle.std.specs.Prelude.{◌≡◌, ◌≤◌, ◌<◌, ◌-◌, ◌^◌, false, true, not, None, Some, [], All, IfOk, IfErr, IsTrue, OnErr, OnOk, length, map, position, replicate, slice_get, slice_set};
 ghost use Rattle.std.specs.Option.{option_map};
 ghost use Rattle.jt_value.specs.Sameness.{key_of};
-ghost use Rattle.jt_seats.specs.Seats.{IsOldest, Refuses, Replaces, away, count, dismissed, free, is_before, is_crowded, is_fair, is_let_in, is_of, is_session, is_stranger, is_strangers, let_in_at, named, seat_at, taken};
+ghost use Rattle.jt_seats.specs.Seats.{IsOldest, Refuses, Replaces, away, count, dismissed, free, is_crowded, is_fair, is_let_in, is_of, is_session, is_stranger, is_strangers, let_in_at, named, older, seat_at, taken};
 ghost use Rattle.jt_seats.specs.Verdicts.{verdict};
 
 use crate::cut::{Away, Cut};
@@ -61,13 +61,16 @@ fn is_strangers(cut: Option<Cut>) -> bool
     )
 }
 
-// Whether this moment is before that of the oldest one, or there is none.
-fn is_before(since: u64, oldest: Option<(usize, u64)>) -> bool
-    ensures { result ≡ is_before since oldest }
+// The older one of the oldest one so far and the one in a place, of those that go on.
+fn older(oldest: Option<(usize, u64)>, place: usize, seat: &Seat) -> Option<(usize, u64)>
+    ensures { result ≡ older oldest place seat.now }
 {
+    if !seat.goes_on() {
+        return oldest;
+    }
     match oldest {
-        Some((_, first)) => since < first,
-        None => true,
+        Some((_, first)) if first <= seat.since => oldest,
+        _ => Some((place, seat.since)),
     }
 }
 
@@ -107,9 +110,18 @@ impl Seats {
         self.seats.get(place).copied()
     }
 
+    // How many places there are.
+    fn len(&self) -> usize
+        ensures { result ≡ length self.now }
+    {
+        self.seats.len()
+    }
+
     // The place of this number; a free one where there is none.
+    #[tactic(auto, using(crate::proofs::Counting::fair_at))]
     fn at(&self, place: usize) -> Seat
-        ensures { result ≡ seat_at place self.now }
+        ensures at { result ≡ seat_at place self.now }
+        ensures fair { IsTrue (is_fair result) }
     {
         match self.seats.get(place) {
             Some(seat) => *seat,
@@ -129,8 +141,11 @@ impl Seats {
     }
 
     // A place that no link has.
+    #[tactic(auto, using(crate::proofs::Counting::free_found))]
     fn free_place(&self) -> Option<usize>
-        ensures { result ≡ position (λ seat. not seat.is_taken) self.now }
+        ensures first { result ≡ position (λ seat. not seat.is_taken) self.now }
+        ensures free { IfSome result (λ place. (place < length self.now)
+            × ((seat_at place self.now).is_taken ≡ false)) }
     {
         self.seats.iter().position(|seat| !seat.is_taken)
     }
@@ -140,6 +155,23 @@ impl Seats {
         ensures { result ≡ count is_stranger self.now }
     {
         self.seats.iter().filter(|seat| seat.is_stranger()).count()
+    }
+
+    // How many links are served.
+    fn taken(&self) -> usize
+        ensures count { result ≡ count (λ seat. seat.is_taken) self.now }
+        ensures places { result ≤ length self.now }
+        ensures fits { result ≤ 2 ^ 32 - 1 }
+    {
+        self.seats.iter().filter(|seat| seat.has_link()).count()
+    }
+
+    // On how many of them somebody was let in.
+    fn let_in_count(&self) -> usize
+        ensures count { result ≡ count is_let_in self.now }
+        ensures fits { result ≤ 2 ^ 32 - 1 }
+    {
+        self.seats.iter().filter(|seat| seat.is_let_in()).count()
     }
 
     // On how many links of the address nobody was let in yet.
@@ -163,14 +195,13 @@ impl Seats {
     }
 
     // The place of the oldest link on which nobody was let in yet, and which goes on.
+    #[tactic(auto, using(crate::proofs::Oldest::oldest_begins, crate::proofs::Oldest::oldest_more, crate::proofs::Oldest::oldest_ends))]
     fn oldest_stranger(&self) -> Option<usize>
         ensures { IsOldest self.now result }
     {
         let mut oldest: Option<(usize, u64)> = None;
-        for (place, seat) in self.seats.iter().enumerate() {
-            if seat.goes_on() && is_before(seat.since, oldest) {
-                oldest = Some((place, seat.since));
-            }
+        for place in 0..self.len() {
+            oldest = older(oldest, place, &self.at(place));
         }
         place_of_oldest(oldest)
     }
@@ -279,16 +310,15 @@ impl Seats {
     }
 
     /// Ends the links on which the phone was let in.
-    #[tactic(auto, using(crate::proofs::Counting::fair_dismissed))]
+    #[tactic(auto, using(crate::proofs::Counting::fair_one, crate::proofs::Counting::strangers_dismissed, crate::proofs::Counting::dismissed_more, crate::proofs::Counting::dismissed_all))]
     pub fn dismiss(&mut self, phone: &Phone)
         ensures dismissed { self.new ≡ map (dismissed (key_of phone.now)) self.old }
         ensures places { length self.new ≡ length self.old }
         ensures strangers { count is_stranger self.new ≡ count is_stranger self.old }
     {
-        for seat in self.seats.iter_mut() {
-            if seat.has_phone(phone) {
-                seat.cut = Some(Cut::Dismissed);
-            }
+        for place in 0..self.len() {
+            let seat = self.at(place);
+            self.set(place, seat.dismissed(phone));
         }
     }
 
@@ -299,8 +329,8 @@ impl Seats {
         // No more than there are places.
         ensures places { result.open ≤ length self.now }
     {
-        let open = self.seats.iter().filter(|seat| seat.has_link()).count();
-        let let_in = self.seats.iter().filter(|seat| seat.is_let_in()).count();
+        let open = self.taken();
+        let let_in = self.let_in_count();
         Counts {
             open: open as u32,
             let_in: let_in as u32,
