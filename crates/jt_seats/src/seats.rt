@@ -1,6 +1,6 @@
 //! The places of all links.
 
-ghost use Rattle.std.specs.Prelude.{◌≡◌, ◌≤◌, ◌<◌, ◌-◌, ◌^◌, false, true, not, None, Some, [], All, IfOk, IfErr, IsTrue, OnErr, OnOk, length, map, position, replicate, slice_get, slice_set};
+ghost use Rattle.std.specs.Prelude.{◌≡◌, ◌≤◌, ◌<◌, ◌-◌, ◌^◌, false, true, not, None, Some, [], All, IfOk, IfErr, IfSome, IsTrue, OnErr, OnOk, length, map, position, replicate, slice_get, slice_set};
 ghost use Rattle.std.specs.Option.{option_map};
 ghost use Rattle.jt_value.specs.Sameness.{key_of};
 ghost use Rattle.jt_seats.specs.Seats.{IsOldest, Refuses, Replaces, away, count, dismissed, free, is_crowded, is_fair, is_let_in, is_of, is_session, is_stranger, is_strangers, let_in_at, named, older, seat_at, taken};

@@ -37,6 +37,17 @@ pub(crate) enum Heard {
     Over(Cut),
 }
 
+// Reads the link once, for so many octets at most.
+#[tactic(auto, using(crate::proofs::Waiting::reads_front))]
+fn read_piece<K: Link>(link: &mut K, buf: &mut [u8]) -> LinkGot
+    requires { 0 < length buf.old }
+    ensures octets { Reads (K.inbound link.old) (K.inbound link.new) result buf.new }
+    ensures written { K.written link.new ≡ K.written link.old }
+{
+    let most = buf.len().min(PIECE);
+    link.read(&mut buf[..most])
+}
+
 // Reads the link until it gives anything, so many times at most, and asks the warden before each time.
 #[tactic(auto, using(crate::proofs::Waiting::kept_gives, crate::proofs::Waiting::kept_none, crate::proofs::Waiting::none_given))]
 fn listen<K: Link, W: Warden>(
@@ -54,8 +65,7 @@ fn listen<K: Link, W: Warden>(
         if let Some(cut) = warden.verdict(octets) {
             return Heard::Over(cut);
         }
-        let most = buf.len().min(PIECE);
-        match link.read(&mut buf[..most]) {
+        match read_piece(link, buf) {
             LinkGot::Bytes(count) => return Heard::Bytes(count),
             LinkGot::Quiet => {}
             LinkGot::End => return Heard::End,
