@@ -5,7 +5,7 @@ use crate::interface::Interface;
 use crate::opening::Opener;
 use dewfelt_settings::Settings;
 use dewfelt_tending::{Ground, HasGround};
-use dewfelt_told::{Told, say_listening};
+use dewfelt_told::Told;
 use jt_platform::Hub;
 use jt_service::{Door, Limits, ServiceEnd, Watch, Witnessed, serve_on};
 use jt_store::Keeper;
@@ -46,16 +46,10 @@ where
         self.watch.told().lock(self.rt).say(event, key, value);
     }
 
-    /// Says that links are accepted from now on.
-    pub(crate) fn say_ready(&self) {
-        say_listening(&mut self.watch.told().lock(self.rt), self.settings);
-        self.set_ready(true);
-    }
-
-    // Says at the interface whether links are served.
-    fn set_ready(&self, is_ready: bool) {
+    // Says at the interface that no links are served.
+    fn set_unready(&self) {
         if let Some(interface) = self.interface {
-            interface.site.set_ready(is_ready);
+            interface.site.set_ready(false);
         }
     }
 
@@ -114,7 +108,7 @@ where
                 return ServiceEnd::Stopped;
             };
             let end = self.serve_hub(door, ground);
-            self.set_ready(false);
+            self.set_unready();
             if let Some(end) = self.after(end, &mut opener) {
                 return end;
             }
