@@ -143,11 +143,16 @@ fn web_of(
     rt: &HostRuntime,
     folder: &str,
     settings: &Settings,
+    stops: &Arc<AtomicBool>,
 ) -> Result<Option<Web<ServiceListen<HostRuntime>>>, Trouble> {
     let Http::At(address) = settings.http else {
         return Ok(None);
     };
-    let interface = Interface::of(rt, folder, settings, address)?;
+    let Ok(ends) = stops.clone() else {
+        return Err(Trouble::memory(rt.alloc()));
+    };
+    // (who stops the service has not to wait for browsers besides)
+    let interface = Interface::of(rt, folder, settings, address, ends)?;
     Ok(Some(Web {
         door: door_of(rt, address, &interface.ends)?,
         interface,
@@ -169,7 +174,7 @@ fn doors_of(
 ) -> Result<Doors, Trouble> {
     Ok(Doors {
         door: door_of(rt, settings.listen, &flags.ends)?,
-        web: web_of(rt, folder, settings)?,
+        web: web_of(rt, folder, settings, &flags.stops)?,
     })
 }
 

@@ -1,8 +1,8 @@
 //! The thread that answers browsers.
 
-use crate::Told;
 use crate::interface::Interface;
 use dewfelt_http::{HasRows, HttpEnd, Shared, serve_http};
+use dewfelt_told::Told;
 use jt_service::{Door, Watch};
 use std::alloc::Global;
 use std::random::RandomSource;

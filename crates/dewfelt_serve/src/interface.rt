@@ -1,13 +1,13 @@
 //! The interface over HTTP of a service.
 
-use crate::folder::path_in;
-use crate::saying::VERSION;
 use crate::tokens::{TOKEN, Tokens, tokens_of};
-use crate::{Status, Trouble};
 use dewfelt_board::Board;
+use dewfelt_folder::{Status, Trouble, path_in, read_whole};
 use dewfelt_http::{Base, Gate, Requests, Site};
 use dewfelt_settings::{HostName, Settings};
+use dewfelt_told::VERSION;
 use std::alloc::{AllocError, Global};
+use std::io;
 use std::io::ErrorKind;
 use std::net::SocketAddr;
 use std::random::RandomSource;
@@ -15,7 +15,6 @@ use std::rt::Files;
 use std::sync::atomic::{AtomicBool, Ordering};
 use std::sync::{Arc, Mutex};
 use std::time::Clock;
-use std::{fs, io};
 
 /// What the interface over HTTP of a service answers by.
 #[derive(Drop)]
@@ -58,7 +57,7 @@ fn base_of<R: Files + AllocGlobal>(rt: &R, folder: &str) -> Result<Option<Base>,
     let Ok(path) = path_in(alloc, folder, "map.geojson") else {
         return Err(Trouble::memory(alloc));
     };
-    match fs::read(rt, path.as_str()) {
+    match read_whole(rt, path.as_str()) {
         Ok(content) => match Base::of(alloc, content) {
             Ok(base) => Ok(Some(base)),
             Err(_) => Err(Trouble::memory(alloc)),
@@ -151,6 +150,7 @@ fn made_of(
     folder: &str,
     settings: &Settings,
     address: SocketAddr,
+    ends: Arc<AtomicBool>,
     read: Read,
 ) -> Result<Interface, AllocError> {
     let run = read.run;
@@ -159,20 +159,21 @@ fn made_of(
         token_file: path_in(alloc, folder, TOKEN)?,
         site: read.site(alloc, settings, address)?,
         board: board_of(alloc, run)?,
-        ends: Arc::new(alloc, AtomicBool::new(false))?,
+        ends,
     })
 }
 
 impl Interface {
-    /// The interface of a service over a folder, at this address. Tokens that are missing are made.
+    /// The interface of a service over a folder, at this address, until the flag is set. Tokens that are missing are made.
     pub fn of<R: Files + RandomSource + Clock + AllocGlobal>(
         rt: &R,
         folder: &str,
         settings: &Settings,
         address: SocketAddr,
+        ends: Arc<AtomicBool>,
     ) -> Result<Interface, Trouble> {
         let read = Read::of(rt, folder)?;
-        match made_of(rt.alloc(), folder, settings, address, read) {
+        match made_of(rt.alloc(), folder, settings, address, ends, read) {
             Ok(interface) => Ok(interface),
             Err(_) => Err(Trouble::memory(rt.alloc())),
         }

@@ -1,7 +1,7 @@
 //! The rows of a store, while a service runs over it.
 
-use crate::present::Present;
 use dewfelt_http::HasRows;
+use dewfelt_tending::Present;
 use jt_store::{Registrations, Row, StoreError};
 use jt_value::Phone;
 use std::alloc::Global;

@@ -1,8 +1,7 @@
 //! When a store that does not open is tried again.
 
-use crate::Told;
-use crate::ground::{Ground, HasGround};
-use crate::saying::say_opened;
+use dewfelt_tending::{Ground, HasGround};
+use dewfelt_told::{Opened, Told, say_opened, say_unopened};
 use jt_service::Watch;
 use jt_store::StoreError;
 use std::alloc::Global;
@@ -28,6 +27,18 @@ fn fault_word(fault: StoreError) -> &'static str {
         StoreError::Failed => "failed",
         StoreError::Full(_) => "full",
         StoreError::Memory => "memory",
+    }
+}
+
+// What is said of a store that was opened for this ground, which took so long.
+fn opened_of<P>(ground: &Ground<P>, milliseconds: u64) -> Opened {
+    Opened {
+        vehicles: ground.vehicles,
+        plates: ground.fleet.plates.len(),
+        terminals: ground.fleet.terminals.len(),
+        forgotten: ground.forgotten,
+        octets: ground.octets,
+        milliseconds,
     }
 }
 
@@ -81,7 +92,7 @@ impl<G: HasGround> Opener<G> {
         match answer {
             Ok(ground) => {
                 if !self.is_open {
-                    say_opened(&mut watch.told().lock(rt), &ground, took);
+                    say_opened(&mut watch.told().lock(rt), opened_of(&ground, took));
                     self.tried = Some(began);
                 }
                 self.is_open = true;
@@ -90,8 +101,8 @@ impl<G: HasGround> Opener<G> {
             }
             Err(fault) => {
                 if !self.is_said {
-                    let word = fault_word(fault);
-                    watch.told().lock(rt).say("fault", "opening", word);
+                    let said = self.ground.said(alloc);
+                    say_unopened(&mut watch.told().lock(rt), fault_word(fault), said);
                 }
                 self.is_said = true;
                 self.tried = Some(began);

@@ -2,15 +2,14 @@
 
 use crate::interface::Web;
 use crate::kept_rows::KeptRows;
-use crate::living::{Living, Root};
-use crate::present::Present;
 use crate::serving::{Flags, Service, serve};
-use crate::tending::{Tended, Tending};
-use crate::{Status, Told};
 use dewfelt_board::Board;
 use dewfelt_commands::{Clerk, Stores};
 use dewfelt_fleet::Fleet;
+use dewfelt_folder::Status;
 use dewfelt_settings::Settings;
+use dewfelt_tending::{Living, Present, Root, Tended, Tending};
+use dewfelt_told::Told;
 use jt_outside::Sink;
 use jt_service::Door;
 use jt_store::Registrations;
@@ -77,29 +76,38 @@ impl<K: Drop> Presents<K> {
 
 // What a service over a folder has beside what is given.
 #[derive(Drop)]
-struct Beside<W, K> {
+struct Beside<W, F, K> {
     root: Root<W>,
+    files: F,
     tended: Tended,
     presents: Presents<K>,
     rt: W,
 }
 
-impl<W: Clone + Drop, K: Drop> Beside<W, K> {
+// What reads and writes a folder's files, and what counts time, for one more who has them.
+fn copies_of<W: Clone + Drop, F: Clone + Drop>(rt: &W, files: &F) -> Result<(W, F), AllocError> {
+    let rt = rt.clone()?;
+    Ok((rt, files.clone()?))
+}
+
+impl<W: Clone + Drop, F: Clone + Drop, K: Drop> Beside<W, F, K> {
     fn of(
         rt: &W,
         alloc: Global,
+        files: &F,
         folder: &str,
         secret: &[u8],
-        present: Present<K>,
-    ) -> Result<Beside<W, K>, AllocError> {
-        let presents = Presents::of(alloc, present)?;
+        presents: Presents<K>,
+    ) -> Result<Beside<W, F, K>, AllocError> {
         let root = Root::of(rt, alloc, folder, secret)?;
         let tended = Tended::of(alloc, folder)?;
+        let (rt, files) = copies_of(rt, files)?;
         Ok(Beside {
             root,
+            files,
             tended,
             presents,
-            rt: rt.clone()?,
+            rt,
         })
     }
 }
@@ -107,8 +115,8 @@ impl<W: Clone + Drop, K: Drop> Beside<W, K> {
 // The service of what is given, and of what it has beside that.
 fn put_together<W, F, S, D, K, T, H>(
     over: OverFolder<F, S, D, K, T, H>,
-    beside: Beside<W, S::Keeper>,
-) -> Service<D, Living<W, S>, Tending<F, S::Keeper>, K, T, H, KeptRows<W, S::Keeper>>
+    beside: Beside<W, F, S::Keeper>,
+) -> Service<D, Living<W, F, S>, Tending<F, S::Keeper>, K, T, H, KeptRows<W, S::Keeper>>
 where
     W: Wait + Clone + Drop,
     F: Files + AllocGlobal + Clone + Drop,
@@ -132,6 +140,7 @@ where
     } = over;
     let Beside {
         root,
+        files: own,
         tended,
         presents,
         rt,
@@ -143,7 +152,7 @@ where
     } = presents;
     Service {
         door,
-        ground: Living::of(root, stores, ground),
+        ground: Living::of(root, own, stores, ground),
         chores: Tending::of(files, tended, clerk, chores),
         sink,
         told,
@@ -157,9 +166,10 @@ fn beside_of<W, F, S, D, K, T, H>(
     rt: &W,
     alloc: Global,
     over: &mut OverFolder<F, S, D, K, T, H>,
-) -> Result<Beside<W, S::Keeper>, AllocError>
+) -> Result<Beside<W, F, S::Keeper>, AllocError>
 where
     W: Wait + Clone + Drop,
+    F: Clone + Drop,
     S: Stores + Drop,
     T: Wait + Clock + Clone + Drop,
 {
@@ -167,13 +177,9 @@ where
     over.told.tell_board(board)?;
     let board = board_of(&over.web)?;
     let text = replace(&mut over.text, Vec::new(alloc));
-    Beside::of(
-        rt,
-        alloc,
-        over.folder,
-        over.fleet.secret(),
-        Present::of(text, board),
-    )
+    let presents = Presents::of(alloc, Present::of(text, board))?;
+    let secret = over.fleet.secret();
+    Beside::of(rt, alloc, &over.files, over.folder, secret, presents)
 }
 
 /// Serves a folder, as `serve` does: its fleet is read again where it changed, and commands are answered.

@@ -1,8 +1,7 @@
 //! The command `page`.
 
-use crate::Status;
-use crate::folder::{Trouble, path_in, read_settings_of};
 use crate::tokens::operating_token_of;
+use dewfelt_folder::{Status, Trouble, path_in, settings_of};
 use dewfelt_settings::{Choices, Http, Settings};
 use std::alloc::{AllocError, Global};
 use std::net::{IpAddr, Ipv4Addr, Ipv6Addr, SocketAddr};
@@ -66,6 +65,5 @@ pub fn page<R: Files + AllocGlobal>(
     folder: &str,
     words: &Choices,
 ) -> Result<String, Trouble> {
-    let file = read_settings_of(rt, folder)?;
-    page_of(rt, folder, &Settings::of(words, &file))
+    page_of(rt, folder, &settings_of(rt, folder, words)?)
 }

@@ -1,11 +1,11 @@
 //! Hub after hub of a service.
 
-use crate::Told;
-use crate::ground::{Ground, HasGround};
+use crate::announcing::Announced;
 use crate::interface::Interface;
 use crate::opening::Opener;
-use crate::saying::say_listening;
 use dewfelt_settings::Settings;
+use dewfelt_tending::{Ground, HasGround};
+use dewfelt_told::Told;
 use jt_platform::Hub;
 use jt_service::{Door, Limits, ServiceEnd, Watch, Witnessed, serve_on};
 use jt_store::Keeper;
@@ -46,10 +46,10 @@ where
         self.watch.told().lock(self.rt).say(event, key, value);
     }
 
-    // Says at the interface whether links are served.
-    fn set_ready(&self, is_ready: bool) {
+    // Says at the interface that no links are served.
+    fn set_unready(&self) {
         if let Some(interface) = self.interface {
-            interface.site.set_ready(is_ready);
+            interface.site.set_ready(false);
         }
     }
 
@@ -66,13 +66,15 @@ where
             secret,
             vehicles: _,
             forgotten: _,
+            octets: _,
         } = ground;
         let journal = Witnessed::of(self.rt, self.watch);
         let Ok(hub) = Hub::begin_with(self.alloc, keeper, fleet, secret, journal) else {
             return ServiceEnd::Memory;
         };
         let limits = limits_of(self.settings);
-        let (end, hub) = serve_on(self.rt, self.alloc, door, hub, limits, self.watch);
+        let mut door = Announced::of(door, self);
+        let (end, hub) = serve_on(self.rt, self.alloc, &mut door, hub, limits, self.watch);
         drop(hub);
         end
     }
@@ -105,10 +107,8 @@ where
             let Some(ground) = opener.next(self.rt, self.alloc, self.watch) else {
                 return ServiceEnd::Stopped;
             };
-            say_listening(&mut self.watch.told().lock(self.rt), self.settings);
-            self.set_ready(true);
             let end = self.serve_hub(door, ground);
-            self.set_ready(false);
+            self.set_unready();
             if let Some(end) = self.after(end, &mut opener) {
                 return end;
             }

@@ -3,16 +3,14 @@
 ghost use Rattle.std.specs.Thread.{IsSync};
 
 use crate::answering::answer_browsers;
-use crate::chores::{Chores, do_chores};
-use crate::ground::HasGround;
 use crate::interface::{Interface, Web};
 use crate::running::Run;
-use crate::saying::{say_http, say_start};
-use crate::writing::write_lines;
-use crate::{Status, Told};
+use dewfelt_folder::Status;
 use dewfelt_http::HasRows;
 use dewfelt_log::empty_room;
 use dewfelt_settings::Settings;
+use dewfelt_tending::{Chores, HasGround, do_chores};
+use dewfelt_told::{Told, say_http, say_start, write_lines};
 use jt_outside::Sink;
 use jt_service::{Door, ServiceEnd, Watch};
 use std::alloc::Global;
@@ -283,7 +281,7 @@ where
     let (web_door, interface) = parts_of(web);
     say_start(&mut told, settings);
     if let Some(interface) = &interface {
-        say_http(&mut told, interface);
+        say_http(&mut told, interface.address, interface.token_file.as_str());
     }
     let is_over = AtomicBool::new(false);
     let is_done = AtomicBool::new(false);

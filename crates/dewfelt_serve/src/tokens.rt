@@ -1,7 +1,6 @@
 //! The tokens of a folder.
 
-use crate::folder::path_in;
-use crate::{Status, Trouble};
+use dewfelt_folder::{Status, Trouble, path_in, read_whole};
 use dewfelt_http::{TOKEN_DIGITS, make_token};
 use std::fs::OpenOptions;
 use std::io::ErrorKind;
@@ -38,29 +37,38 @@ fn token_in(octets: &[u8]) -> Option<&[u8]> {
     None
 }
 
-// Makes a token, and the file that has it and its line's end. (under another name first, so that the file is never there in part)
-fn make<R: Files + RandomSource + AllocGlobal>(rt: &R, path: &str) -> io::Result<Vec<u8>> {
-    let digits = make_token(rt)?;
-    let token = Vec::from_slice(rt.alloc(), &digits)?;
-    let mut line = token.clone()?;
-    line.push(b'\n')?;
-    let new = format!(in rt.alloc(); "{path}.new")?;
-    let _ = fs::remove_file(rt, new.as_str());
+// A new file that its owner alone may read and write.
+fn create<R: Files>(rt: &R, path: &str, octets: &[u8]) -> io::Result<()> {
+    let _ = fs::remove_file(rt, path);
     let file = OpenOptions::new()
         .write(true)
         .create_new(true)
         .mode(OWNERS)
-        .open(rt, new.as_str())?;
+        .open(rt, path)?;
     drop(file);
-    fs::write(rt, new.as_str(), line.as_slice())?;
-    fs::rename(rt, new.as_str(), path)?;
-    Ok(token)
+    fs::write(rt, path, octets)
+}
+
+// Makes the file that has a token and its line's end. (under another name first, so that the file is never there in part)
+fn put<R: Files + AllocGlobal>(rt: &R, path: &str, token: &[u8]) -> io::Result<()> {
+    let new = format!(in rt.alloc(); "{path}.new")?;
+    let mut line = Vec::from_slice(rt.alloc(), token)?;
+    line.push(b'\n')?;
+    create(rt, new.as_str(), line.as_slice())?;
+    fs::rename(rt, new.as_str(), path)
+}
+
+// Makes a token, and the file that has it.
+fn make<R: Files + RandomSource + AllocGlobal>(rt: &R, path: &str) -> io::Result<Vec<u8>> {
+    let token = make_token(rt)?;
+    put(rt, path, &token)?;
+    Ok(Vec::from_slice(rt.alloc(), &token)?)
 }
 
 // The token of a file; None where there is no file.
 fn read<R: Files + AllocGlobal>(rt: &R, path: &str) -> Result<Option<Vec<u8>>, Trouble> {
     let alloc = rt.alloc();
-    let octets = match fs::read(rt, path) {
+    let octets = match read_whole(rt, path) {
         Ok(octets) => octets,
         Err(error) if error.kind() == ErrorKind::NotFound => return Ok(None),
         Err(error) => return Err(Trouble::of_error(alloc, Status::Http, path, &error)),

@@ -3,7 +3,7 @@ use Rattle.std.specs.Prelude.{◌<◌, ◌≤◌, ℕ, List, Option, None, lengt
 use Rattle.std.specs.Io.KnownBytes.{IsAtEnd}
 use Rattle.jt_outside.specs.Inbound.{Inbound}
 use Rattle.jt_outside.specs.Link.{Wire, Gives, GivesNone}
-use Rattle.jt_service.specs.declared.cut.Cut.{Cut}
+use Rattle.jt_seats.specs.declared.cut.Cut.{Cut}
 use Rattle.jt_service.specs.declared.watched_link.Heard.{Heard}
 use Rattle.jt_service.specs.declared.watched_link.Heard.TheVariants as heard
 

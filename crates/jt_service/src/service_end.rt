@@ -1,6 +1,6 @@
 //! Why a service ends.
 
-use crate::cut::Cut;
+use jt_seats::Cut;
 
 /// Why no more links are served (this project's own).
 #[derive(Clone, Copy, Debug, PartialEq, Eq)]

@@ -74,6 +74,8 @@ fn is_of_listener(error: &io::Error) -> bool {
 }
 
 fn set_waits(stream: &TcpStream) -> io::Result<()> {
+    // (answers are short, and not to wait for one another)
+    let _ = stream.set_nodelay(true);
     stream.set_read_timeout(Some(Duration::from_secs(WAIT)))?;
     stream.set_write_timeout(Some(Duration::from_secs(WRITE_WAIT)))
 }

@@ -8,10 +8,8 @@ ghost use Rattle.jt_service.specs.Roots.{IsNext, IsRoot, IsServed};
 ghost use Rattle.jt_service.specs.Watched.{watched_wire};
 ghost use Rattle.jt_session.specs.declared.end.End.TheVariants as ends;
 
-use crate::cut::{Away, Cut};
 use crate::door::{Arrived, Door};
 use crate::hall::{Arrival, Hall};
-use crate::limits::Limits;
 use crate::root::{Root, Which};
 use crate::service_end::ServiceEnd;
 use crate::telling::{Ended, Tell};
@@ -19,6 +17,7 @@ use crate::watch::{Watch, moment};
 use crate::watched_link::{Warden, WatchedLink};
 use jt_outside::Link;
 use jt_platform::{Hub, Journal};
+use jt_seats::{Away, Cut, Limits};
 use jt_session::{End, Report, serve_link};
 use jt_store::Keeper;
 use jt_turn::{Pass, Turn};

@@ -1,7 +1,7 @@
 //! Who is told of sessions.
 
-use crate::cut::{Away, Cut};
 use jt_platform::Entry;
+use jt_seats::{Away, Cut};
 use jt_session::Report;
 use jt_value::Phone;
 use std::net::SocketAddr;

@@ -1,19 +1,15 @@
 //! What the threads of a service share, and what its caller may ask of it meanwhile.
 
-use crate::cut::{Away, Cut};
-use crate::limits::Limits;
-use crate::seats::{Counts, Seat, Seats};
 use crate::service_end::ServiceEnd;
 use crate::telling::Tell;
 use jt_platform::{Entry, Reply, Request};
+use jt_seats::{Away, Counts, Cut, Limits, Seats, address_number};
 use jt_value::{Memory, Phone};
 use std::alloc::Global;
 use std::net::SocketAddr;
 use std::sync::atomic::{AtomicBool, Ordering};
 use std::sync::{Arc, Mutex, Wait};
 use std::time::Clock;
-
-const MILLISECONDS: u64 = 1_000;
 
 /// What a service and its caller share while it runs: who is told, which links are served, and whether they are to end.
 #[derive(Drop)]
@@ -147,7 +143,11 @@ impl<T: Tell> Watch<T> {
         peer: Option<SocketAddr>,
         limits: &Limits,
     ) -> Result<usize, Away> {
-        self.seats.lock(rt).admit(now, peer, limits)
+        let address = address_number(match peer {
+            Some(peer) => Some(peer.ip()),
+            None => None,
+        });
+        self.seats.lock(rt).admit(now, address, limits)
     }
 
     pub(crate) fn name<R: Wait>(&self, rt: &R, place: usize, session: u32) {
@@ -160,11 +160,7 @@ impl<T: Tell> Watch<T> {
 
     // The phone that was let in on the link in this place.
     pub(crate) fn phone<R: Wait>(&self, rt: &R, place: usize) -> Option<Phone> {
-        self.seat(rt, place)?.phone
-    }
-
-    fn seat<R: Wait>(&self, rt: &R, place: usize) -> Option<Seat> {
-        self.seats.lock(rt).get(place)
+        self.seats.lock(rt).get(place)?.phone
     }
 
     // Sees an entry as the hub makes it.
@@ -188,23 +184,11 @@ impl<T: Tell> Watch<T> {
         octets: u64,
         limits: &Limits,
     ) -> Option<Cut> {
-        if let Some(end) = self.ending() {
-            return Some(end.cut());
-        }
-        let seat = self.seat(rt, place)?;
-        if seat.cut.is_some() {
-            return seat.cut;
-        }
-        if seat.phone.is_some() {
-            return None;
-        }
-        if octets >= limits.stranger_octets {
-            return Some(Cut::StrangerOctets);
-        }
-        let most = limits.stranger_seconds.saturating_mul(MILLISECONDS);
-        if moment(rt).saturating_sub(seat.since) >= most {
-            return Some(Cut::StrangerTime);
-        }
-        None
+        let end = match self.ending() {
+            Some(end) => Some(end.cut()),
+            None => None,
+        };
+        let now = moment(rt);
+        self.seats.lock(rt).verdict(place, end, octets, now, limits)
     }
 }

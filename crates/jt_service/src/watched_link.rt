@@ -5,12 +5,16 @@ ghost use Rattle.jt_outside.specs.Sink.{TakesOctets, WriteHasCause};
 ghost use Rattle.jt_outside.specs.Link.{Reads, ReadHasCause, wire_of};
 ghost use Rattle.jt_service.specs.Watched.{watched, HeardSo};
 
-use crate::cut::Cut;
 use jt_outside::{Link, LinkGot, Put, Sink};
+use jt_seats::Cut;
 use std::marker::Model;
 
 // What a write tells the warden, so that what came in one read is answered, however long it was.
 const UNCOUNTED: u64 = 0;
+
+// So many octets a read asks for at most: a session answers all that came in one before it looks again whether it is to end, and each
+// unit among them waits for the disk (this project's own).
+const PIECE: usize = 64;
 
 /// Says why a link is to end.
 pub trait Warden {
@@ -33,6 +37,17 @@ pub(crate) enum Heard {
     Over(Cut),
 }
 
+// Reads the link once, for so many octets at most.
+#[tactic(auto, using(crate::proofs::Waiting::reads_front))]
+fn read_piece<K: Link>(link: &mut K, buf: &mut [u8]) -> LinkGot
+    requires { 0 < length buf.old }
+    ensures octets { Reads (K.inbound link.old) (K.inbound link.new) result buf.new }
+    ensures written { K.written link.new ≡ K.written link.old }
+{
+    let most = buf.len().min(PIECE);
+    link.read(&mut buf[..most])
+}
+
 // Reads the link until it gives anything, so many times at most, and asks the warden before each time.
 #[tactic(auto, using(crate::proofs::Waiting::kept_gives, crate::proofs::Waiting::kept_none, crate::proofs::Waiting::none_given))]
 fn listen<K: Link, W: Warden>(
@@ -50,7 +65,7 @@ fn listen<K: Link, W: Warden>(
         if let Some(cut) = warden.verdict(octets) {
             return Heard::Over(cut);
         }
-        match link.read(buf) {
+        match read_piece(link, buf) {
             LinkGot::Bytes(count) => return Heard::Bytes(count),
             LinkGot::Quiet => {}
             LinkGot::End => return Heard::End,

@@ -19,6 +19,10 @@ use std::time::{Clock, Duration};
 /// The heartbeat of phone 013912345678, which takes 20 octets of an answer.
 pub const HEARTBEAT: &[u8] = b"\x7e\0\x02\0\0\x019\x124Vx\0\02\x7e";
 
+/// Five of them.
+pub const HEARTBEATS: &[u8] =
+    b"\x7e\0\x02\0\0\x019\x124Vx\0\02\x7e\x7e\0\x02\0\0\x019\x124Vx\0\02\x7e\x7e\0\x02\0\0\x019\x124Vx\0\02\x7e\x7e\0\x02\0\0\x019\x124Vx\0\02\x7e\x7e\0\x02\0\0\x019\x124Vx\0\02\x7e";
+
 /// The registration of phone 333435363738, and its authentication, with a unit behind them: 53, 31 and 43 octets. The answers have
 /// 34, 20 and 20.
 pub const TERMINAL: &[u8] =

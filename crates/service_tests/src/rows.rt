@@ -1,7 +1,7 @@
 ghost use Rattle.std.specs.Prelude.{◌≡◌, []};
 
 use crate::counting::{Counting, NOTHING};
-use crate::links::{HEARTBEAT, Step, Steps, TERMINAL};
+use crate::links::{HEARTBEAT, HEARTBEATS, Step, Steps, TERMINAL};
 use jt_platform::{Fleet, Hub};
 use jt_service::{Limits, ServiceEnd, Watch, Witnessed, serve_on};
 use jt_store::MemKeeper;
@@ -228,7 +228,7 @@ const WITH_STRANGER: Counting = Counting {
     ..STAYED
 };
 
-// A terminal that is let in stays, and a stranger ends by time or by octets.
+// A terminal that is let in stays, and a stranger ends by time.
 #[test]
 fn strangers(rt: HostRuntime) {
     let steps: &[Step] = &[
@@ -249,14 +249,28 @@ fn strangers(rt: HostRuntime) {
         ..WITH_STRANGER
     };
     assert!(rt; told == wanted);
-    // The terminal sends more, in one piece, before it is let in.
+}
+
+// A stranger ends by octets, which are judged after each read of 64: the terminal is let in by its second one.
+#[test]
+fn octets_of_strangers(rt: HostRuntime) {
+    let steps: &[Step] = &[
+        Step::Links(1, TERMINAL, true, 1),
+        Step::LetIn(1),
+        Step::Links(1, HEARTBEATS, true, 2),
+        Step::Open(1),
+        Step::Seconds(1),
+        Step::Stops,
+    ];
     let by_octets = Limits {
-        stranger_octets: 15,
+        stranger_octets: 65,
         ..limits(3)
     };
     let told = served_so(&rt, rt.alloc(), by_octets, steps, ServiceEnd::Stopped);
     let wanted = Counting {
         stranger_octets: 1,
+        read: 202,
+        written: 174,
         ..WITH_STRANGER
     };
     assert!(rt; told == wanted);

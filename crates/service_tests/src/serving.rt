@@ -31,19 +31,19 @@ use std::{fs, io};
 
 /// The lines of a service.
 #[derive(Drop)]
-struct Lines {
+pub(crate) struct Lines {
     octets: Mutex<Vec<u8>>,
 }
 
 impl Lines {
-    fn new(alloc: Global) -> Lines {
+    pub(crate) fn new(alloc: Global) -> Lines {
         Lines {
             octets: Mutex::new(Vec::new(alloc)),
         }
     }
 
     // How often a text stands in the lines.
-    fn count<R: Wait>(&self, rt: &R, text: &str) -> usize {
+    pub(crate) fn count<R: Wait>(&self, rt: &R, text: &str) -> usize {
         let octets = self.octets.lock(rt);
         octets
             .as_slice()
@@ -55,14 +55,14 @@ impl Lines {
 
 /// Takes lines.
 #[derive(Drop)]
-struct Taker<'w, R> {
+pub(crate) struct Taker<'w, R> {
     rt: &'w R,
     lines: &'w Lines,
     faults: u64,
 }
 
 impl<'w, R> Taker<'w, R> {
-    fn new(rt: &'w R, lines: &'w Lines) -> Taker<'w, R>
+    pub(crate) fn new(rt: &'w R, lines: &'w Lines) -> Taker<'w, R>
         ensures { result ≡ 0 }
     {
         Taker {
@@ -168,8 +168,8 @@ impl<'w, R: Wait + Clock, F: Files> Door for Acts<'w, R, F> {
 
 /// No browser comes.
 #[derive(Drop)]
-struct Nobody<'w, R> {
-    rt: &'w R,
+pub(crate) struct Nobody<'w, R> {
+    pub(crate) rt: &'w R,
 }
 
 impl<'w, R: Wait + Clock> Door for Nobody<'w, R> {
@@ -225,6 +225,7 @@ impl Openings {
             secret: self.secret.copy(alloc)?,
             vehicles: 0,
             forgotten: 0,
+            octets: 0,
         })
     }
 }
@@ -244,6 +245,10 @@ impl HasGround for Openings {
             Opening::Opens => {}
         }
         self.ground(alloc, failing)
+    }
+
+    fn said(&self, alloc: Global) -> Option<String> {
+        String::from_str(alloc, "it is gone").ok()
     }
 
     fn let_go(&mut self) {}
@@ -266,7 +271,7 @@ impl<'w, T: Wait + Clock + Drop> Chores<T> for Renews<'w> {
     }
 }
 
-fn flag(rt: &impl Abort, alloc: Global) -> Arc<AtomicBool> {
+pub(crate) fn flag(rt: &impl Abort, alloc: Global) -> Arc<AtomicBool> {
     Arc::new(alloc, AtomicBool::new(false)).expect(rt, "there is memory")
 }
 
@@ -365,7 +370,7 @@ fn a_store_is_tried_again(rt: HostRuntime) {
     let openings: &[Opening] = &[Opening::Fails, Opening::FailsLater, Opening::Opens];
     let wanted: &[(&str, usize)] = &[
         (" event=start version=0.1.0 listen=0.0.0.0:8808 links=2 ", 1),
-        (" event=fault opening=failed\n", 1),
+        (" event=fault opening=failed said=\"it is gone\"\n", 1),
         (" event=opened ", 2),
         (" event=listening ", 2),
         (
@@ -419,7 +424,11 @@ impl Stores for MemStores {
 }
 
 // A folder with the file of a fleet, whose path it gives.
-fn make_folder<F: Files + AllocGlobal>(files: &F, folder: &str, text: &str) -> io::Result<String> {
+pub(crate) fn make_folder<F: Files + AllocGlobal>(
+    files: &F,
+    folder: &str,
+    text: &str,
+) -> io::Result<String> {
     fs::create_dir(files, folder)?;
     let path = format!(in files.alloc(); "{folder}/fleet")?;
     fs::write(files, path.as_str(), text)?;
