@@ -182,6 +182,8 @@ impl<K: Keeper> Registry<K> {
         ensures fleet { self.new.fleet ≡ self.old.fleet }
         ensures free { IfOk result (λ taken. taken ≡ false → WhereKnown (K.tables self.old.keeper)
             (λ t. MayRegister t.registered (key_of phone.now) registered.now)) }
+        ensures taken { IfOk result (λ taken. taken ≡ true → WhereKnown (K.tables self.old.keeper)
+            (λ t. ¬ MayRegister t.registered (key_of phone.now) registered.now)) }
     {
         if let Some(owner) = self.keeper.plate_owner(alloc, registered.plate.as_slice())? {
             if !owner.same(phone) {
