@@ -1,5 +1,6 @@
--- What the calls of a registry do to its keeper's tables (this project's own). To be believed.
-use Rattle.std.specs.Prelude.{◌≡◌, ◌⊎◌, ◌<◌, ◌≤◌, ℕ, true, false, List, [], ◌∷◌, length, Option, Some, None, IsSome}
+-- What the calls of a registry do to its keeper's tables (this project's own). To be believed, but for AddsNext, a step for the
+-- proofs.
+use Rattle.std.specs.Prelude.{◌≡◌, ◌⊎◌, ◌<◌, ◌≤◌, ℕ, true, false, List, [], ◌∷◌, ◌++◌, length, Option, Some, None, IsSome}
 use Rattle.jt_value.specs.declared.phone.Phone.{Phone}
 use Rattle.jt_value.specs.Sameness.{key_of}
 use Rattle.jt_store.specs.declared.row.Registered.{Registered}
@@ -52,3 +53,8 @@ pub record IsPage (registered : List ℕ → Option Registered) (after : Option 
   pub all : AreNext registered after page
   pub few : length page ≤ most
   pub last : length page < most → FindsNext registered (last_behind after page) None
+
+-- the registration behind these digits, put at the end of a page
+abbrev pub AddsNext : (List ℕ → Option Registered) → Option (List ℕ) → List (Phone × Registered) → List (Phone × Registered) → Option Phone → Type 0
+AddsNext registered after old now None = FindsNext registered after None × (now ≡ old)
+AddsNext registered after old now (Some phone) = (r : Registered) × FindsNext registered after (Some (phone, r)) × (now ≡ old ++ (phone, r) ∷ [])
