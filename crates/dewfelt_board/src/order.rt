@@ -80,7 +80,7 @@ impl Order {
         self.changes.retain(|change| !is_of(change, digits));
     }
 
-    /// The vehicle of these digits changed. The number of its change, which is its only one now, or None where memory was refused.
+    /// The vehicle of these digits changed. The number of its change, which is its only one; None where memory was refused.
     pub fn renew(&mut self, digits: [u8; 10]) -> Option<u64>
         ensures number { IfSome result (λ number.
             (number ≡ self.old.last + 1) × (self.new.last ≡ number)) }

@@ -23,7 +23,7 @@ left_if None key t = registered_set key None t
 abbrev pub left_by : FleetValue → List ℕ → Option Tables → Option Tables
 left_by fleet key t = left_if (under fleet.bound key) key t
 
--- the phone is registered so, where the fleet allows it and no other phone has one of the names, and else left without a registration
+-- the phone is registered so, where the fleet allows it and no other phone has one of the names; else it is left without
 abbrev pub IsRegisteredOr : FleetValue → List ℕ → Registered → Tables → Tables → Type 0
 IsRegisteredOr fleet key r old now =
     ((is_allowed fleet key r ≡ true) × MayRegister old.registered key r × (Some now ≡ registered_set key (Some r) (Some old)))

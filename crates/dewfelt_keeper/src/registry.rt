@@ -297,8 +297,8 @@ impl<K: Registrations> Registry<K> {
 
     /// Takes a new fleet, whose rules hold from now on, and brings the registrations in line with it: one that it does not allow is
     /// removed, its phone is put behind those that are `forgotten`, and then each bound phone is registered as it is bound. Rows
-    /// stay. After an error each phone is registered as before, or as it is to be, or is bound and not registered yet; a phone whose
-    /// registration is gone is behind those that are `forgotten`, and so may be the one at which the error came. Full, with
+    /// stay. After an error each phone is registered as before, or as it is to be, or is bound and not registered yet; a phone
+    /// whose registration is gone is behind those that are `forgotten`, and so may be that at which the error came. Full, with
     /// 2^64 - 1, comes where there are more registrations than that.
     pub fn apply(
         &mut self,

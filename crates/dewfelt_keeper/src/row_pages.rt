@@ -58,9 +58,9 @@ pub fn page_of_rows<K: Keeper>(
     Ok(page)
 }
 
-/// Pages, each asked for from the number behind the last row of the one before, are all rows, each once: a page and what follows from
-/// there on are the rows from its number on, also those that came meanwhile; and so are pages of any sizes that have room for them,
-/// of rows that stand still.
+/// Pages, each asked for from the number behind the last row of the one before, are all rows, each once: a page and what follows
+/// from there on are the rows from its number on, also those that came meanwhile; and so are pages of any sizes that have room for
+/// them, of rows that stand still.
 pub fn law_row_pages()
     ensures one { (from most : ℕ) (rows more : List Stored) → Rises 0 (rows ++ more) →
         rows_at from (rows ++ more) ≡ take most (rows_at from rows)

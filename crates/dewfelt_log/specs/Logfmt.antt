@@ -131,8 +131,8 @@ Begins seconds event line =
 abbrev pub Adds : List ℕ → List ℕ → Bool → List ℕ → List ℕ → Type 0
 Adds key value is_whole old new = is_whole ≡ true → new ≡ old ++ 32 ∷ field key (front value)
 
--- a line that is whole and has room came to the lines that wait, with its line feed; or a line was let go, and counted: memory may
--- be refused at any time, so that any line may be lost
+-- a line that is whole and has room came to the lines that wait, with its line feed; or a line was let go, and counted: memory
+-- may be refused at any time, so that any line may be lost
 abbrev pub Puts : List ℕ → Bool → List ℕ → ℕ → List ℕ → ℕ → Type 0
 Puts line is_whole old lost new lost_then =
     ((is_whole ≡ true) × (length new ≤ 2 ^ 18) × (new ≡ old ++ (line ++ 10 ∷ [])) × (lost_then ≡ lost))

@@ -1,4 +1,4 @@
--- Names of hosts, with their ports: this project's own form, which is wider than that of RFC 1123 but for its length. To be believed.
+-- Names of hosts, with their ports: this project's own form, wider than that of RFC 1123 but for its length. To be believed.
 use Rattle.std.specs.Prelude.{ℕ, Bool, ◌≤◌, ◌||◌, ◌&&◌, nat_eq, nat_le, IsTrue, List, codes, length}
 use Rattle.std.specs.List.{list_all, list_any}
 

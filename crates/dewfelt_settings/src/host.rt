@@ -45,8 +45,8 @@ fn kept(octets: &[u8]) -> HostName
 }
 
 impl HostName {
-    /// The name of this text: 1 to 128 small letters, digits, `.`, `-`, `_`, and `:`, `[` and `]` of a port and of an address of IPv6,
-    /// in any order. What is no name of a host is taken too: no browser sends it.
+    /// The name of this text: 1 to 128 small letters, digits, `.`, `-`, `_`, and `:`, `[` and `]` of a port and of an address of
+    /// IPv6, in any order. What is no name of a host is taken too: no browser sends it.
     pub fn of(text: &str) -> Option<HostName>
         ensures { MatchOption result (IsHostName text.now → ⊥)
             (λ name. IsHostName text.now × (take name.count name.octets ≡ text.now)) }
