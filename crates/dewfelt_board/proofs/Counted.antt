@@ -1,6 +1,7 @@
 -- How many of a list pass a test.
-use Rattle.std.proofs.Common.{◌≡◌, suc, ◌+◌, ◌≤◌, List, [], ◌∷◌, ◌++◌, Bool, true, false, cond, Some, None, length, arith, refl, ◌∙◌, ap, filter, slice_get}
+use Rattle.std.proofs.Common.{◌≡◌, suc, ◌+◌, ◌≤◌, List, [], ◌∷◌, ◌++◌, Bool, true, false, cond, Some, None, length, arith, refl, sym, ◌∙◌, ap, filter, slice_get}
 use Rattle.std.specs.Prelude.{find}
+use Rattle.std.proofs.lemmas.Bool.{true≢false}
 
 -- with some left out no more pass
 pub count_filter : {X : Type 0} (test kept : X → Bool) (xs : List X) → length (filter test (filter kept xs)) ≤ length (filter test xs)
@@ -17,6 +18,16 @@ count_filter {X} test kept (x ∷ xs) =
         | false ↦ rest
       ]
     ]
+
+-- with all left out that pass none passes
+pub count_apart : {X : Type 0} (test kept : X → Bool) → ((x : X) → test x ≡ true → kept x ≡ false) → (xs : List X) → length (filter test (filter kept xs)) ≡ 0
+count_apart test kept apart [] = refl
+count_apart {X} test kept apart (x ∷ xs) = by_test (kept x) (test x) refl refl (count_apart test kept apart xs)
+  where
+    by_test : (k t : Bool) → kept x ≡ k → test x ≡ t → length (filter test (filter kept xs)) ≡ 0 → length (filter test (cond k (x ∷ filter kept xs) (filter kept xs))) ≡ 0
+    by_test false t keeps passes rest = rest
+    by_test true true keeps passes rest = absurd (true≢false (sym keeps ∙ apart x passes))
+    by_test true false keeps passes rest = ap (λ b. length (cond b (x ∷ filter test (filter kept xs)) (filter test (filter kept xs)))) passes ∙ rest
 
 -- with the first that passes left out fewer pass
 pub count_filter_found : {X : Type 0} (test kept : X → Bool) (x : X) (xs : List X) → find test xs ≡ Some x → kept x ≡ false → length (filter test (filter kept xs)) + 1 ≤ length (filter test xs)

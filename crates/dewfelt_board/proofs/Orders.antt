@@ -1,9 +1,12 @@
 -- Changes in order of their numbers.
-use Rattle.std.proofs.Common.{◌≡◌, ℕ, zero, suc, ◌+◌, ◌<◌, ◌≤◌, List, [], ◌∷◌, ◌++◌, Bool, true, false, cond, IsTrue, nat_lt, nat_le, arith, refl, sym, ◌∙◌, ap, take, filter}
-use Rattle.std.specs.Prelude.{◌&&◌}
+use Rattle.std.proofs.Common.{◌≡◌, ℕ, zero, suc, ◌+◌, ◌<◌, ◌≤◌, List, [], ◌∷◌, ◌++◌, Bool, true, false, cond, IsTrue, nat_lt, nat_le, arith, refl, sym, ◌∙◌, ap, subst, take, filter, length, ◌-◌, slice_get, Some, None}
+use Rattle.std.specs.Prelude.{◌&&◌, not}
+use Rattle.std.specs.Str.{bytes_eq}
+use Rattle.std.proofs.lemmas.Slice.Eq.{bytes_eq-Decides}
 use Rattle.std.proofs.lemmas.Bool.Decides.{nat_tests}
 use Rattle.dewfelt_board.specs.declared.change.Change.{Change}
-use Rattle.dewfelt_board.specs.Order.{are_rising, behind, last_of}
+use Rattle.dewfelt_board.specs.Order.{are_rising, behind, count_of, last_of, without}
+use Rattle.dewfelt_board.proofs.Counted.{count_apart, count_append, count_append_none, count_filter}
 
 and_first : (a b : Bool) → IsTrue (a && b) → IsTrue a
 and_first true b both = refl
@@ -139,3 +142,51 @@ pages told high limit cs rising =
     let later : told ≤ last_of told (take limit (behind told cs)) = last_above told (high + told) limit (behind told cs) some in
     split told (high + told) limit (behind told cs) some
     ∙ ap (λ (ys : List Change). take limit (behind told cs) ++ ys) (sym (behind_behind told (last_of told (take limit (behind told cs))) cs later))
+
+-- ---- each vehicle has one change
+
+abbrev pub Once : List Change → Type 0
+Once cs = (digits : List ℕ) → count_of digits cs ≤ 1
+
+-- with one left out each has one at most
+pub once_without : (digits : List ℕ) (cs : List Change) → Once cs → Once (without digits cs)
+once_without digits cs once = λ q.
+    let fewer : count_of q (without digits cs) ≤ count_of q cs = count_filter (λ (c : Change). bytes_eq c.digits q) (λ (c : Change). not (bytes_eq c.digits digits)) cs in
+    omega (arith, fewer, once q)
+
+gone : (digits : List ℕ) (cs : List Change) → count_of digits (without digits cs) ≡ 0
+gone digits cs = count_apart (λ (c : Change). bytes_eq c.digits digits) (λ (c : Change). not (bytes_eq c.digits digits)) (λ c is. ap not is) cs
+
+-- with its own in place of the one before
+pub once_renewed : (told : Change) (cs : List Change) → Once cs → Once (without told.digits cs ++ told ∷ [])
+once_renewed told cs once = λ q. by_test q (bytes_eq told.digits q) refl
+  where
+    by_test : (q : List ℕ) (b : Bool) → bytes_eq told.digits q ≡ b → count_of q (without told.digits cs ++ told ∷ []) ≤ 1
+    by_test q true is =
+        let none : count_of q (without told.digits cs) ≡ 0 = subst (λ k. count_of k (without told.digits cs) ≡ 0) ((bytes_eq-Decides told.digits q).0 is) (gone told.digits cs) in
+        let one : count_of q (without told.digits cs ++ told ∷ []) ≤ count_of q (without told.digits cs) + 1 = count_append (λ (c : Change). bytes_eq c.digits q) told (without told.digits cs) in
+        omega (arith, none, one)
+    by_test q false is =
+        let same : count_of q (without told.digits cs ++ told ∷ []) ≡ count_of q (without told.digits cs) = count_append_none (λ (c : Change). bytes_eq c.digits q) told (without told.digits cs) is in
+        omega (arith, same, once_without told.digits cs once q)
+
+-- ---- the last of some changes
+
+last_at : (before : ℕ) (x : Change) (cs : List Change) (c : Change) → slice_get (x ∷ cs) (length cs) ≡ Some c → last_of before (x ∷ cs) ≡ c.number
+last_at before x [] c found = let e : x ≡ c = cc in ap (λ (y : Change). y.number) e
+last_at before x (y ∷ ys) c found = last_at x.number y ys c found
+
+some_at : (x : Change) (cs : List Change) → slice_get (x ∷ cs) (length cs) ≡ None → ⊥
+some_at x [] found = absurd cc
+some_at x (y ∷ ys) found = some_at y ys found
+
+one_less : (n : ℕ) → suc n - 1 ≡ n
+one_less n = omega arith
+
+pub last_found : (before : ℕ) (cs : List Change) (c : Change) → slice_get cs (length cs - 1) ≡ Some c → last_of before cs ≡ c.number
+last_found before [] c found = absurd cc
+last_found before (x ∷ cs) c found = last_at before x cs c (subst (λ n. slice_get (x ∷ cs) n ≡ Some c) (one_less (length cs)) found)
+
+pub last_none : (before : ℕ) (cs : List Change) → slice_get cs (length cs - 1) ≡ None → last_of before cs ≡ before
+last_none before [] none = refl
+last_none before (x ∷ cs) none = absurd (some_at x cs (subst (λ n. slice_get (x ∷ cs) n ≡ None) (one_less (length cs)) none))

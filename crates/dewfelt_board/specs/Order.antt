@@ -1,5 +1,6 @@
--- In which order vehicles changed, and what is told behind a number.
-use Rattle.std.specs.Prelude.{ℕ, Bool, not, ◌==◌, Option, None, Some, List, [], ◌∷◌, ◌&&◌, nat_lt, nat_le, filter, if◌then◌else◌}
+-- In which order vehicles changed, and what is told behind a number (this project's own). To be believed.
+use Rattle.std.specs.Prelude.{ℕ, Bool, true, not, length, Option, None, Some, List, [], ◌∷◌, ◌&&◌, nat_lt, nat_le, filter, if◌then◌else◌}
+use Rattle.std.specs.Str.{bytes_eq}
 use Rattle.dewfelt_board.specs.declared.change.Change.{Change}
 use Rattle.dewfelt_board.specs.declared.cursor.Cursor.{Cursor}
 
@@ -17,11 +18,15 @@ abbrev pub last_of : ℕ → List Change → ℕ
 last_of before [] = before
 last_of before (c ∷ changes) = last_of c.number changes
 
--- the changes without the one of a number
-abbrev pub without : ℕ → List Change → List Change
-without number changes = filter (λ c. not (c.number == number)) changes
+-- the changes without that of the vehicle of these digits
+abbrev pub without : List ℕ → List Change → List Change
+without digits changes = filter (λ c. not (bytes_eq c.digits digits)) changes
 
--- where the reader of a cursor stands, where it is no cursor of before a vehicle left, nor of another run
+-- how many changes the vehicle of these digits has
+abbrev pub count_of : List ℕ → List Change → ℕ
+count_of digits changes = length (filter (λ c. bytes_eq c.digits digits) changes)
+
+-- whether a cursor of this run still holds: no vehicle left since, and it is not ahead
 abbrev pub stands : ℕ → ℕ → Cursor → Bool
 stands left last cursor = nat_le left cursor.point && (nat_le cursor.point last && nat_le cursor.told last)
 
@@ -29,3 +34,13 @@ stands left last cursor = nat_le left cursor.point && (nat_le cursor.point last 
 abbrev pub told_of : ℕ → ℕ → Option Cursor → ℕ
 told_of left last None = 0
 told_of left last (Some cursor) = if stands left last cursor then cursor.told else 0
+
+-- the number of the last change when the reader of a cursor began to read
+abbrev pub point_of : ℕ → ℕ → Option Cursor → ℕ
+point_of left last None = last
+point_of left last (Some cursor) = if stands left last cursor then cursor.point else last
+
+-- whether the reader of a cursor is told all anew
+abbrev pub is_anew : ℕ → ℕ → Option Cursor → Bool
+is_anew left last None = true
+is_anew left last (Some cursor) = not (stands left last cursor)

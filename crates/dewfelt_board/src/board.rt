@@ -110,7 +110,7 @@ impl Board {
         let Some(vehicle) = self.vehicles.get_mut(&Digits::of(digits)) else {
             return;
         };
-        match self.order.renew(vehicle.changed, *digits) {
+        match self.order.renew(*digits) {
             Some(number) => vehicle.changed = number,
             None => raise(&mut self.counters.lost),
         }
@@ -161,8 +161,8 @@ impl Board {
 
     /// The phone is registered no longer.
     pub fn unseat(&mut self, phone: &Phone) {
-        if let Some(vehicle) = self.vehicles.remove(&Digits::of(&phone.digits)) {
-            self.order.leave(vehicle.changed);
+        if self.vehicles.remove(&Digits::of(&phone.digits)).is_some() {
+            self.order.leave(&phone.digits);
         }
     }
 

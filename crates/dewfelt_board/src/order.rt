@@ -1,8 +1,9 @@
 //! In which order vehicles changed.
 
 ghost use Rattle.std.specs.Prelude.{◌≡◌, ◌<◌, ◌≤◌, ◌+◌, ◌++◌, ◌∷◌, ◌↔◌, [], ℕ, List, Option, IfOk, IfSome, IfNone, IsTrue, length, take, if◌then◌else◌};
+ghost use Rattle.std.specs.Str.{bytes_eq};
 ghost use Rattle.dewfelt_board.specs.declared.change.Change.{Change as Told};
-ghost use Rattle.dewfelt_board.specs.Order.{are_rising, behind, last_of, told_of, without};
+ghost use Rattle.dewfelt_board.specs.Order.{are_rising, behind, count_of, is_anew, last_of, point_of, told_of, without};
 
 use crate::change::Change;
 use crate::cursor::Cursor;
@@ -17,6 +18,7 @@ pub struct Order {
     /// The number of the last change by which a vehicle left.
     pub left: u64,
     pub ghost rising: { IsTrue (are_rising 0 changes.items last) },
+    pub ghost once: { (digits : List ℕ) → count_of digits changes.items ≤ 1 },
 }
 
 /// What is told behind a cursor.
@@ -41,6 +43,23 @@ pub fn law_pages()
         ++ behind (last_of told (take limit (behind told changes))) changes }
 {}
 
+// Whether it is the change of the vehicle of these digits.
+fn is_of(change: &Change, digits: &[u8; 10]) -> bool
+    ensures { result ≡ bytes_eq change.now.digits digits.now }
+{
+    change.digits == *digits
+}
+
+// The number of the last of some changes, where the one before them has this number.
+fn last_of(before: u64, changes: &[Change]) -> u64
+    ensures { result ≡ last_of before changes.now }
+{
+    match changes.last() {
+        Some(change) => change.number,
+        None => before,
+    }
+}
+
 impl Order {
     /// No change so far.
     pub fn new(alloc: Global) -> Order
@@ -53,39 +72,38 @@ impl Order {
         }
     }
 
-    // Takes out the change of this number.
-    fn take_out(&mut self, number: u64)
-        ensures changes { self.new.changes.items ≡ without number self.old.changes.items }
+    // Takes out the change of the vehicle of these digits, if it has one.
+    fn take_out(&mut self, digits: &[u8; 10])
+        ensures changes { self.new.changes.items ≡ without digits.now self.old.changes.items }
         ensures last { (self.new.last ≡ self.old.last) × (self.new.left ≡ self.old.left) }
     {
-        self.changes.retain(|change| change.number != number);
+        self.changes.retain(|change| !is_of(change, digits));
     }
 
-    /// A vehicle changed, whose last change has the number `was`; 0 where it never did. The number of its change, or None where
-    /// memory was refused.
-    pub fn renew(&mut self, was: u64, digits: [u8; 10]) -> Option<u64>
+    /// The vehicle of these digits changed. The number of its change, which is its only one; None where memory was refused.
+    pub fn renew(&mut self, digits: [u8; 10]) -> Option<u64>
         ensures number { IfSome result (λ number.
             (number ≡ self.old.last + 1) × (self.new.last ≡ number)) }
         ensures changes { IfSome result (λ number. self.new.changes.items
-            ≡ without was self.old.changes.items
+            ≡ without digits self.old.changes.items
             ++ (record { number = number; digits = digits }) ∷ []) }
         ensures left { self.new.left ≡ self.old.left }
         ensures none { IfNone result (self.new.last ≡ self.old.last) }
     {
         let number = self.last.checked_add(1)?;
-        self.take_out(was);
+        self.take_out(&digits);
         self.changes.push(Change { number, digits }).ok()?;
         self.last = number;
         Some(number)
     }
 
-    /// A vehicle left, whose last change has this number. Whoever follows reads all vehicles anew.
-    pub fn leave(&mut self, was: u64)
-        ensures changes { self.new.changes.items ≡ without was self.old.changes.items }
+    /// The vehicle of these digits left. Whoever follows reads all vehicles anew.
+    pub fn leave(&mut self, digits: &[u8; 10])
+        ensures changes { self.new.changes.items ≡ without digits.now self.old.changes.items }
         ensures left { self.new.left ≡ self.new.last }
         ensures last { self.old.last ≤ self.new.last }
     {
-        self.take_out(was);
+        self.take_out(digits);
         self.last = self.last.saturating_add(1);
         self.left = self.last;
     }
@@ -94,6 +112,8 @@ impl Order {
     // a vehicle left meanwhile.
     fn start(&self, cursor: Option<Cursor>) -> (u64, u64, bool)
         ensures told { result.0 ≡ told_of self.now.left self.now.last cursor }
+        ensures point { result.1 ≡ point_of self.now.left self.now.last cursor }
+        ensures anew { result.2 ≡ is_anew self.now.left self.now.last cursor }
     {
         match cursor {
             Some(cursor)
@@ -139,19 +159,29 @@ impl Order {
     ) -> Result<Page, AllocError>
         ensures changes { IfOk result (λ page. page.changes.items ≡ take limit
             (behind (told_of self.now.left self.now.last cursor) self.now.changes.items)) }
+        ensures more { IfOk result (λ page. IsTrue page.is_more ↔ (limit
+            < length (behind (told_of self.now.left self.now.last cursor) self.now.changes.items))) }
+        ensures told { IfOk result (λ page. page.cursor.told ≡ (if page.is_more
+            then last_of (told_of self.now.left self.now.last cursor) page.changes.items
+            else self.now.last)) }
+        ensures point { IfOk result (λ page. page.cursor.point ≡ (if page.is_more
+            then point_of self.now.left self.now.last cursor else self.now.last)) }
+        ensures full { IfOk result (λ page.
+            page.is_full ≡ is_anew self.now.left self.now.last cursor) }
     {
         let (told, point, is_full) = self.start(cursor);
         let changes = self.first_behind(alloc, told, limit)?;
-        let is_more = changes.len() < self.behind(told);
-        let cursor = match changes.last() {
-            Some(change) if is_more => Cursor {
-                told: change.number,
+        let is_more = limit < self.behind(told);
+        let cursor = if is_more {
+            Cursor {
+                told: last_of(told, changes.as_slice()),
                 point,
-            },
-            _ => Cursor {
+            }
+        } else {
+            Cursor {
                 told: self.last,
                 point: self.last,
-            },
+            }
         };
         Ok(Page {
             changes,

@@ -1,8 +1,7 @@
 //! The terminals that were turned away last.
 
-ghost use Rattle.std.specs.Prelude.{◌≡◌, ◌≤◌, ◌<◌, ℕ, not, nat_eq, find, filter, length, slice_get};
-ghost use Rattle.std.specs.Str.{bytes_eq};
-ghost use Rattle.dewfelt_board.specs.Strangers.{count_from};
+ghost use Rattle.std.specs.Prelude.{◌≡◌, ◌⊎◌, ◌≤◌, ◌<◌, ◌++◌, ◌∷◌, [], ℕ, nat_eq, find, length, slice_get};
+ghost use Rattle.dewfelt_board.specs.Strangers.{Keeps, count_from, joined, known, room, room_of, without};
 
 use crate::stranger::Stranger;
 use std::alloc::{AllocError, Global};
@@ -58,15 +57,15 @@ impl Strangers {
 
     /// Forgets the one of this phone.
     pub fn forget(&mut self, digits: &[u8; 10])
-        ensures { self.new.list.items
-            ≡ filter (λ it. not (bytes_eq it.digits digits.now)) self.old.list.items }
+        ensures { self.new.list.items ≡ without digits.now self.old.list.items }
     {
         self.list.retain(|it| !it.has(digits));
     }
 
     // Makes room for one more of an address.
     fn make_room_of(&mut self, address: u128)
-        ensures { count_from address self.new.list.items < 5 }
+        ensures list { self.new.list.items ≡ room_of address self.old.list.items }
+        ensures room { count_from address self.new.list.items < 5 }
     {
         if self.count(address) < STRANGERS_OF_ADDRESS {
             return;
@@ -79,6 +78,7 @@ impl Strangers {
 
     // Makes room for one more.
     fn make_room(&mut self)
+        ensures list { self.new.list.items ≡ room self.old.list.items }
         ensures room { length self.new.list.items < 100 }
         ensures fewer { (address : ℕ) →
             count_from address self.new.list.items ≤ count_from address self.old.list.items }
@@ -92,28 +92,46 @@ impl Strangers {
         }
     }
 
-    fn known(&self, digits: &[u8; 10]) -> Option<Stranger> {
+    // What is kept of the phone of these digits.
+    fn known(&self, digits: &[u8; 10]) -> Option<Stranger>
+        ensures { result ≡ known digits.now self.now.list.items }
+    {
         self.list.iter().copied().find(|it| it.has(digits))
     }
 
-    // Puts one at the end, for which there is room.
+    // The terminal, with what is known of its phone.
+    fn joined(&self, stranger: Stranger) -> Stranger
+        ensures { result ≡ joined (known stranger.digits self.now.list.items) stranger }
+    {
+        match self.known(&stranger.digits) {
+            Some(known) => {
+                let mut joined = stranger;
+                joined.tried = known.tried.saturating_add(stranger.tried);
+                joined.first = known.first;
+                joined
+            }
+            None => stranger,
+        }
+    }
+
+    // Puts one at the end, for which there is room, where memory is not refused.
     fn push(&mut self, stranger: Stranger)
         requires room { length self.old.list.items < 100 }
         requires room_of_address { count_from stranger.address self.old.list.items < 5 }
+        ensures { (self.new.list.items ≡ self.old.list.items ++ stranger ∷ [])
+            ⊎ (self.new.list.items ≡ self.old.list.items) }
     {
         let _ = self.list.push(stranger);
     }
 
-    /// A terminal was turned away. It takes the place of what is kept of its phone, whose count goes on.
-    pub fn put(&mut self, stranger: Stranger) {
-        let mut stranger = stranger;
-        if let Some(known) = self.known(&stranger.digits) {
-            stranger.tried = known.tried.saturating_add(stranger.tried);
-            stranger.first = known.first;
-        }
+    /// A terminal was turned away. It comes to the end, in place of what is kept of its phone, whose count goes on.
+    pub fn put(&mut self, stranger: Stranger)
+        ensures { Keeps stranger self.old.list.items self.new.list.items }
+    {
+        let joined = self.joined(stranger);
         self.forget(&stranger.digits);
         self.make_room_of(stranger.address);
         self.make_room();
-        self.push(stranger);
+        self.push(joined);
     }
 }

@@ -1,6 +1,7 @@
 //! How a command ends.
 
-ghost use Rattle.std.specs.Prelude.{◌≡◌, IfSome};
+ghost use Rattle.std.specs.Prelude.{◌≡◌, ◌≢◌, MatchOption};
+ghost use Rattle.dewfelt_commands.specs.declared.outcome.Outcome.{Outcome as Status};
 
 /// How a command beside a service ends (this project's own statuses).
 #[derive(Clone, Copy)]
@@ -48,9 +49,10 @@ impl Outcome {
         }
     }
 
-    /// The outcome with this exit status.
+    /// The outcome with this exit status; None where none has it.
     pub fn of_number(number: u8) -> Option<Outcome>
-        ensures { IfSome result (λ outcome. number_of outcome ≡ number) }
+        ensures { MatchOption result ((outcome : Status) → number_of outcome ≢ number)
+            (λ outcome. number_of outcome ≡ number) }
     {
         match number {
             0 => Some(Outcome::Done),

@@ -1,7 +1,8 @@
 //! What a command asks of a service.
 
-ghost use Rattle.std.specs.Prelude.{◌≡◌, ◌++◌, OnOk, IfOk, IfSome, codes, string_bytes};
+ghost use Rattle.std.specs.Prelude.{◌≡◌, ◌≢◌, ◌++◌, ℕ, List, MatchOption, OnOk, IfOk, drop, length, string_bytes, take};
 ghost use Rattle.dewfelt_settings.specs.Phones.{two_digits, digits_text};
+ghost use Rattle.dewfelt_commands.specs.Written.{IsWritten, forget_text_of};
 
 use dewfelt_settings::phone_of;
 use jt_value::Phone;
@@ -22,6 +23,11 @@ pub enum Request {
 
 // How many digits a phone has.
 const DIGITS: usize = 20;
+
+// How many octets stand before them, and how many a request to forget has, with its line feed.
+const WORD: usize = 7;
+
+const FORGET_OCTETS: usize = 28;
 
 fn put_pair(text: &mut String, octet: u8) -> Result<(), AllocError>
     ensures { OnOk result (string_bytes text.new ≡ string_bytes text.old ++ two_digits octet) }
@@ -51,8 +57,7 @@ pub(crate) fn put_digits(text: &mut String, phone: &Phone) -> Result<(), AllocEr
 
 #[tactic(auto, using(std::proofs::Common::append_assoc))]
 fn forget_text(alloc: Global, phone: &Phone) -> Result<String, AllocError>
-    ensures { IfOk result (λ text.
-        string_bytes text ≡ codes "forget " ++ (digits_text phone.now.digits ++ codes "\n")) }
+    ensures { IfOk result (λ text. string_bytes text ≡ forget_text_of phone.now.digits) }
 {
     let mut text = String::from_str(alloc, "forget ")?;
     put_digits(&mut text, phone)?;
@@ -60,29 +65,40 @@ fn forget_text(alloc: Global, phone: &Phone) -> Result<String, AllocError>
     Ok(text)
 }
 
-// The phone whose twenty digits stand between the word and the end of the line.
-fn forgotten(alloc: Global, text: &str) -> Result<Option<Phone>, AllocError> {
-    let Some(rest) = text.strip_prefix("forget ") else {
-        return Ok(None);
-    };
-    match rest.strip_suffix("\n") {
-        Some(digits) if digits.len() == DIGITS => phone_of(alloc, digits.as_bytes()),
-        _ => Ok(None),
+// The digits of a text that is as long as a request to forget.
+fn digits_in(text: &[u8]) -> Option<&[u8]>
+    ensures { MatchOption result (length text.now ≢ 28)
+        (λ digits. digits.now ≡ take 20 (drop 7 text.now)) }
+{
+    if text.len() != FORGET_OCTETS {
+        return None;
     }
+    Some(&text[WORD..WORD + DIGITS])
 }
 
-// The request with this text, if any has it.
-fn likely(alloc: Global, text: &str) -> Result<Option<Request>, AllocError> {
-    match text {
-        "registrations\n" => Ok(Some(Request::Registrations)),
-        "copy\n" => Ok(Some(Request::Copy)),
-        "stop\n" => Ok(Some(Request::Stop)),
-        _ => Ok(forgotten(alloc, text)?.map(Request::Forget)),
+// The phone that a request to forget names; None where the text is none.
+#[tactic(auto, using(crate::proofs::Forgetting::no_length, crate::proofs::Forgetting::no_phone, crate::proofs::Forgetting::no_match))]
+fn forgotten(alloc: Global, text: &str) -> Result<Option<Phone>, AllocError>
+    ensures { IfOk result (λ found. MatchOption found
+        ((digits : List ℕ) → IsWritten digits → forget_text_of digits ≢ text.now)
+        (λ phone. text.now ≡ forget_text_of phone.digits)) }
+{
+    let Some(digits) = digits_in(text.as_bytes()) else {
+        return Ok(None);
+    };
+    let Some(phone) = phone_of(alloc, digits)? else {
+        return Ok(None);
+    };
+    let own = forget_text(alloc, &phone)?;
+    if own.as_str() == text {
+        return Ok(Some(phone));
     }
+    Ok(None)
 }
 
 impl Request {
-    ghost use Rattle.dewfelt_commands.specs.Requests.{text_of};
+    ghost use Rattle.dewfelt_commands.specs.Requests.{IsSendable, text_of};
+    ghost use Rattle.dewfelt_commands.specs.declared.request.Request.{Request as Asked};
 
     /// The text of the request, one line.
     pub fn text(&self, alloc: Global) -> Result<String, AllocError>
@@ -97,16 +113,24 @@ impl Request {
     }
 
     /// The request with this text; None for all other texts.
+    #[tactic(auto, using(crate::proofs::Forgetting::no_request))]
     pub fn of(alloc: Global, text: &str) -> Result<Option<Request>, AllocError>
-        ensures { IfOk result (λ found. IfSome found (λ request. text.now ≡ text_of request)) }
+        ensures { IfOk result (λ found. MatchOption found
+            ((request : Asked) → IsSendable request → text_of request ≢ text.now)
+            (λ request. text.now ≡ text_of request)) }
     {
-        let Some(request) = likely(alloc, text)? else {
-            return Ok(None);
-        };
-        let own = request.text(alloc)?;
-        if own.as_str() == text {
-            return Ok(Some(request));
+        if text == "registrations\n" {
+            return Ok(Some(Request::Registrations));
         }
-        Ok(None)
+        if text == "copy\n" {
+            return Ok(Some(Request::Copy));
+        }
+        if text == "stop\n" {
+            return Ok(Some(Request::Stop));
+        }
+        match forgotten(alloc, text)? {
+            Some(phone) => Ok(Some(Request::Forget(phone))),
+            None => Ok(None),
+        }
     }
 }

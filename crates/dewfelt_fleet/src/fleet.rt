@@ -153,6 +153,8 @@ impl Fleet {
         ensures done { IfOk result (λ done. OnTrue done
             (IsBound self.old (key_of phone.now) registered.now self.new)) }
         ensures refused { IfOk result (λ done. OnFalse done (self.new ≡ self.old)) }
+        ensures why { IfOk result (λ done. OnFalse done
+            (¬ MayBind self.old (key_of phone.now) registered.now)) }
         ensures err { OnErr result (self.new ≡ self.old) }
     {
         if !self.may_bind(phone, registered) {
@@ -164,7 +166,8 @@ impl Fleet {
 
     // Whether neither phone nor names are bound, and the names are not among the others.
     fn may_bind(&self, phone: &Phone, registered: &Registered) -> bool
-        ensures { IsTrue result → MayBind self.now (key_of phone.now) registered.now }
+        ensures may { IsTrue result → MayBind self.now (key_of phone.now) registered.now }
+        ensures may_not { result ≡ false → ¬ MayBind self.now (key_of phone.now) registered.now }
     {
         !self.binds_phone(phone)
             && !self.binds_plate(registered.plate.as_slice())
@@ -174,7 +177,8 @@ impl Fleet {
     }
 
     fn binds_phone(&self, phone: &Phone) -> bool
-        ensures { result ≡ false → under self.now.bound (key_of phone.now) ≡ None }
+        ensures free { result ≡ false → under self.now.bound (key_of phone.now) ≡ None }
+        ensures bound { result ≡ true → ¬ (under self.now.bound (key_of phone.now) ≡ None) }
     {
         match self.bound.get(&phone.digits) {
             Some(_) => true,
@@ -183,7 +187,8 @@ impl Fleet {
     }
 
     fn binds_plate(&self, plate: &[u8]) -> bool
-        ensures { result ≡ false → IsHolder plates (under self.now.bound) plate.now None }
+        ensures free { result ≡ false → IsHolder plates (under self.now.bound) plate.now None }
+        ensures bound { result ≡ true → ¬ IsHolder plates (under self.now.bound) plate.now None }
     {
         match self.bound.plate_holder(plate) {
             Some(_) => true,
@@ -192,7 +197,10 @@ impl Fleet {
     }
 
     fn binds_terminal(&self, terminal: &[u8]) -> bool
-        ensures { result ≡ false → IsHolder terminals (under self.now.bound) terminal.now None }
+        ensures free { result ≡ false →
+            IsHolder terminals (under self.now.bound) terminal.now None }
+        ensures bound { result ≡ true →
+            ¬ IsHolder terminals (under self.now.bound) terminal.now None }
     {
         match self.bound.terminal_holder(terminal) {
             Some(_) => true,
@@ -207,6 +215,8 @@ impl Fleet {
         ensures others { (self.new.secret ≡ self.old.secret) × (self.new.bound ≡ self.old.bound)
             × (self.new.terminals ≡ self.old.terminals) }
         ensures refused { IfOk result (λ done. OnFalse done (self.new ≡ self.old)) }
+        ensures why { IfOk result (λ done. OnFalse done
+            (¬ IsHolder plates (under self.old.bound) plate.now None)) }
         ensures err { OnErr result (self.new ≡ self.old) }
     {
         if self.binds_plate(plate) {
@@ -225,6 +235,8 @@ impl Fleet {
         ensures others { (self.new.secret ≡ self.old.secret) × (self.new.bound ≡ self.old.bound)
             × (self.new.plates ≡ self.old.plates) }
         ensures refused { IfOk result (λ done. OnFalse done (self.new ≡ self.old)) }
+        ensures why { IfOk result (λ done. OnFalse done
+            (¬ IsHolder terminals (under self.old.bound) terminal.now None)) }
         ensures err { OnErr result (self.new ≡ self.old) }
     {
         if self.binds_terminal(terminal) {

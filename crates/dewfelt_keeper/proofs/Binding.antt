@@ -54,8 +54,8 @@ module _ (fleet : FleetValue) where
       by_case true e = e
       by_case false e = tt
 
-  pub all_allowed : (old now : Tables) → ForgetsAll fleet old now → AreAllowed fleet now
-  all_allowed old now all = λ key. subst (λ o. IfSome o (λ r. is_allowed fleet key r ≡ true)) (sym (all.registered key)) (kept_allowed key (old.registered key))
+  pub all_allowed : (before list : List Phone) (old now : Tables) → ForgetsAll fleet before list old now → AreAllowed fleet now
+  all_allowed before list old now all = λ key. subst (λ o. IfSome o (λ r. is_allowed fleet key r ≡ true)) (sym (all.registered key)) (kept_allowed key (old.registered key))
 
   module _ (once : AreNamedOnce bound) (apart : IsApart bound fleet.plates fleet.terminals) (t : Tables) (allowed : AreAllowed fleet t) (key : List ℕ) (own : Registered) (is : bound key ≡ Some own) where
     apart_here : (names : List (List ℕ)) (name_of : Registered → List ℕ) → IfSome (bound key) (λ r. is_among names (name_of r) ≡ false) → is_among names (name_of own) ≡ false
@@ -148,24 +148,16 @@ module _ (fleet : FleetValue) where
     rows = ap (λ (t : Tables). t.rows) end.1 ∙ upto.rows;
   }
 
-  one_of : (own was : Option Registered) → IfSome (bound_or own was) (λ r. (was ≡ Some r) ⊎ (own ≡ Some r))
-  one_of (Some own) was = inr refl
-  one_of None None = tt
-  one_of None (Some r) = inl refl
-
-  itself : (own was : Option Registered) → IfSome was (λ r. (was ≡ Some r) ⊎ (own ≡ Some r))
-  itself own None = tt
-  itself own (Some r) = inl refl
-
-  one_or : (own was : Option Registered) (b : Bool) → IfSome (cond b (bound_or own was) was) (λ r. (was ≡ Some r) ⊎ (own ≡ Some r))
-  one_or own was true = one_of own was
-  one_or own was false = itself own was
-
   pub binds_some : (after : Option (List ℕ)) (old now : Tables) → BindsUpTo fleet after old now → BindsSome fleet old now
   binds_some after old now upto = record {
-    registered = λ key. subst (λ o. IfSome o (λ r. (old.registered key ≡ Some r) ⊎ (bound key ≡ Some r))) (sym (upto.registered key)) (one_or (bound key) (old.registered key) (is_done after key));
+    registered = λ key. by_case key (is_done after key) (upto.registered key);
     rows = upto.rows;
   }
+    where
+      by_case : (key : List ℕ) (b : Bool) → now.registered key ≡ cond b (bound_or (bound key) (old.registered key)) (old.registered key)
+          → (now.registered key ≡ old.registered key) ⊎ (now.registered key ≡ bound_or (bound key) (old.registered key))
+      by_case key true is = inr is
+      by_case key false is = inl is
 
   -- whatever is done of it, each registration is allowed
   pub still_allowed : (after : Option (List ℕ)) (old now : Tables) → AreAllowed fleet old → BindsUpTo fleet after old now → AreAllowed fleet now
@@ -189,37 +181,31 @@ module _ (fleet : FleetValue) where
 
   -- ---- both passes
 
-  pub applied : (a b c : Tables) → ForgetsAll fleet a b → BindsAll fleet b c → IsApplied fleet a c
-  applied a b c gone there = record {
+  pub applied : (before list : List Phone) (a b c : Tables) → ForgetsAll fleet before list a b → BindsAll fleet b c → IsApplied fleet a c
+  applied before list a b c gone there = record {
     registered = λ key. there.registered key ∙ ap (bound_or (bound key)) (gone.registered key);
     rows = there.rows ∙ gone.rows;
   }
 
-  first_some : (key : List ℕ) (was now : Option Registered) → IfSome now (λ r. was ≡ Some r) → IfSome now (λ r. (was ≡ Some r) ⊎ (settled_by fleet key was ≡ Some r))
-  first_some key was None h = tt
-  first_some key was (Some r) h = inl h
+  abbrev OnTheWay : List ℕ → Option Registered → Option Registered → Type 0
+  OnTheWay key was now = (now ≡ was) ⊎ (now ≡ kept_by fleet key was) ⊎ (now ≡ settled_by fleet key was)
 
-  pub on_the_way_first : (a b : Tables) → ForgetsSome a b → IsOnTheWay fleet a b
+  first_some : (key : List ℕ) (was now : Option Registered) → (now ≡ was) ⊎ (now ≡ kept_by fleet key was) → OnTheWay key was now
+  first_some key was now (inl is) = inl is
+  first_some key was now (inr is) = inr (inl is)
+
+  pub on_the_way_first : (a b : Tables) → ForgetsSome fleet a b → IsOnTheWay fleet a b
   on_the_way_first a b some = record {
     registered = λ key. first_some key (a.registered key) (b.registered key) (some.registered key);
     rows = some.rows;
   }
 
-  kept_was : (key : List ℕ) (was : Option Registered) (r : Registered) → kept_by fleet key was ≡ Some r → was ≡ Some r
-  kept_was key None r e = absurd cc
-  kept_was key (Some x) r e = by_case (is_allowed fleet key x) e
-    where
-      by_case : (b : Bool) → cond b (Some x) None ≡ Some r → Some x ≡ Some r
-      by_case true e = e
-      by_case false e = absurd cc
+  second_some : (key : List ℕ) (was kept now : Option Registered) → kept ≡ kept_by fleet key was → (now ≡ kept) ⊎ (now ≡ bound_or (bound key) kept) → OnTheWay key was now
+  second_some key was kept now e (inl is) = inr (inl (is ∙ e))
+  second_some key was kept now e (inr is) = inr (inr (is ∙ ap (bound_or (bound key)) e))
 
-  second_some : (key : List ℕ) (was kept now : Option Registered) → kept ≡ kept_by fleet key was → IfSome now (λ r. (kept ≡ Some r) ⊎ (bound key ≡ Some r)) → IfSome now (λ r. (was ≡ Some r) ⊎ (settled_by fleet key was ≡ Some r))
-  second_some key was kept None e h = tt
-  second_some key was kept (Some r) e (inl h) = inl (kept_was key was r (sym e ∙ h))
-  second_some key was kept (Some r) e (inr h) = inr (ap (λ o. bound_or o (kept_by fleet key was)) h)
-
-  pub on_the_way_second : (a b c : Tables) → ForgetsAll fleet a b → BindsSome fleet b c → IsOnTheWay fleet a c
-  on_the_way_second a b c gone some = record {
+  pub on_the_way_second : (before list : List Phone) (a b c : Tables) → ForgetsAll fleet before list a b → BindsSome fleet b c → IsOnTheWay fleet a c
+  on_the_way_second before list a b c gone some = record {
     registered = λ key. second_some key (a.registered key) (b.registered key) (c.registered key) (gone.registered key) (some.registered key);
     rows = some.rows ∙ gone.rows;
   }

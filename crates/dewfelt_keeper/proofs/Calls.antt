@@ -1,6 +1,6 @@
 -- What one call of a keeper does for a fleet that is applied.
-use Rattle.std.proofs.Common.{◌≡◌, ℕ, true, false, cond, List, [], ◌∷◌, ◌++◌, Option, Some, None, refl, sym, ap, subst, ◌∙◌}
-use Rattle.std.specs.Prelude.{Result, Ok, Err, OnOk, OnErr}
+use Rattle.std.proofs.Common.{◌≡◌, ℕ, Bool, true, false, cond, List, [], ◌∷◌, ◌++◌, Option, Some, None, refl, sym, ap, subst, append_assoc, append-nil, ◌∙◌, inl, inr}
+use Rattle.std.specs.Prelude.{◌⊎◌, Result, Ok, Err, OnOk, OnErr, IfSome}
 use Rattle.jt_value.specs.declared.phone.Phone.{Phone}
 use Rattle.jt_value.specs.Sameness.{key_of}
 use Rattle.jt_store.specs.declared.error.StoreError.{StoreError}
@@ -9,9 +9,9 @@ use Rattle.jt_store.specs.declared.row.Registered.{Registered}
 use Rattle.jt_store.specs.Tables.{Tables, AreNamedOnce, FindsNext, MayRegister, WhereKnown, Writes, registered_set}
 use Rattle.dewfelt_fleet.specs.Fleets.{FleetValue, IsApart, is_allowed}
 use Rattle.jt_store.specs.Memory.{under}
-use Rattle.dewfelt_keeper.specs.Rules.{AreNamed, Becomes, IsApplied, IsOnTheWay}
-use Rattle.dewfelt_keeper.specs.Sweeps.{AreAllowed, BindsAll, BindsNext, BindsSome, BindsUpTo, ForgetsAll, ForgetsNext, ForgetsSome, ForgetsUpTo, Names, Stays, left_allowed, with_own, with_own_if, with_own_or}
-use Rattle.dewfelt_keeper.proofs.Removing.{becomes_by, becomes_same, becomes_then, forgets_all, forgets_more, forgets_none, forgets_some, names_one, names_same, names_then, still_named}
+use Rattle.dewfelt_keeper.specs.Rules.{AreBehind, AreForgotten, AreListed, Becomes, IsApplied, IsDropped, IsListed, IsOnTheWay, kept_by}
+use Rattle.dewfelt_keeper.specs.Sweeps.{AreAllowed, BindsAll, BindsNext, BindsSome, BindsUpTo, ForgetsAll, ForgetsNext, ForgetsSome, ForgetsUpTo, Stays, left_allowed, listed_if, with_own, with_own_if, with_own_or}
+use Rattle.dewfelt_keeper.proofs.Removing.{becomes_by, becomes_same, becomes_then, forgets_all, forgets_more, forgets_none, forgets_some, listed_behind, listed_longer, listed_some, still_listed}
 use Rattle.dewfelt_keeper.proofs.Binding.{all_allowed, applied, binds_all, binds_more, binds_none, binds_some, binds_stays, may_register, on_the_way_first, on_the_way_second, still_allowed}
 
 pub told_by : (old new : Option Tables) (P : Tables → Type 0) → new ≡ old → WhereKnown old P → WhereKnown new P
@@ -38,40 +38,44 @@ gone fleet key r None new (Ok x) refused is = subst (λ n. Becomes None n (λ a 
 gone fleet key r (Some t) new (Ok x) refused is = subst (λ n. Becomes (Some t) n (λ a b. b ≡ left_allowed fleet key r a)) (sym is) (sym (ap (λ b. cond b t (with_own key None t)) refused))
 gone fleet key r old new (Err e) refused is = tt
 
-named_same : (list : List Phone) (phone : Phone) (old new : Option Tables) → new ≡ old → Becomes old new (Names list (list ++ phone ∷ []))
-named_same list phone old new same = subst (λ n. Becomes old n (Names list (list ++ phone ∷ []))) (sym same) (becomes_same old _ (λ t. names_one list phone t t (λ q apart. refl)))
+-- ---- phones that are put behind others
 
-pub gone_named : {T : Type 0} (list : List Phone) (phone : Phone) (old new : Option Tables) (result : Result T StoreError) → Writes old (registered_set (key_of phone) None old) new result
-    → Becomes old new (Names list (list ++ phone ∷ []))
-gone_named list phone None new (Ok x) is = subst (λ n. Becomes None n (Names list (list ++ phone ∷ []))) (sym is) tt
-gone_named list phone (Some t) new (Ok x) is =
-    subst (λ n. Becomes (Some t) n (Names list (list ++ phone ∷ []))) (sym is) (names_one list phone t (with_own (key_of phone) None t) (λ q apart. ap (λ b. cond b None (t.registered q)) apart))
-gone_named list phone old new (Err Failed) is = named_same list phone old new is
-gone_named list phone old new (Err Memory) is = named_same list phone old new is
-gone_named list phone old new (Err (Full l)) is = absurd is
+pub none_behind : (list : List Phone) → AreBehind list list
+none_behind list = ([], sym (append-nil list))
 
-pub none_named : (list : List Phone) (old new : Option Tables) → new ≡ old → Becomes old new (Names list list)
-none_named list old new same = subst (λ n. Becomes old n (Names list list)) (sym same) (becomes_same old _ (λ t. names_same list t))
+pub one_behind : (list : List Phone) (phone : Phone) → AreBehind list (list ++ phone ∷ [])
+one_behind list phone = (phone ∷ [], refl)
+
+pub behind_then : (a b c : List Phone) → AreBehind a b → AreBehind b c → AreBehind a c
+behind_then a b c first second =
+    (first.0 ++ second.0, second.1 ∙ ap (λ l. l ++ second.0) first.1 ∙ append_assoc a first.0 second.0)
+
+pub listed_not : (fleet : FleetValue) (phone : Phone) (r : Registered) (list : List Phone) → is_allowed fleet (key_of phone) r ≡ true → list ≡ listed_if fleet phone r list
+listed_not fleet phone r list allowed = sym (ap (λ b. cond b list (list ++ phone ∷ [])) allowed)
+
+pub listed_one : (fleet : FleetValue) (phone : Phone) (r : Registered) (list now : List Phone) → is_allowed fleet (key_of phone) r ≡ false → now ≡ list ++ phone ∷ [] → now ≡ listed_if fleet phone r list
+listed_one fleet phone r list now refused is = is ∙ sym (ap (λ b. cond b list (list ++ phone ∷ [])) refused)
 
 -- ---- the registration that is looked at
 
-pub none_next : (fleet : FleetValue) (after : Option (List ℕ)) (old new : Option Tables) → new ≡ old → WhereKnown old (λ t. FindsNext t.registered after None) → Becomes old new (ForgetsNext fleet after None)
-none_next fleet after old new same told = subst (λ n. Becomes old n (ForgetsNext fleet after None)) (sym same) (here old told)
+pub none_next : (fleet : FleetValue) (after : Option (List ℕ)) (list : List Phone) (old new : Option Tables) → new ≡ old → WhereKnown old (λ t. FindsNext t.registered after None)
+    → Becomes old new (ForgetsNext fleet after None list list)
+none_next fleet after list old new same told = subst (λ n. Becomes old n (ForgetsNext fleet after None list list)) (sym same) (here old told)
   where
-    here : (t : Option Tables) → WhereKnown t (λ x. FindsNext x.registered after None) → Becomes t t (ForgetsNext fleet after None)
+    here : (t : Option Tables) → WhereKnown t (λ x. FindsNext x.registered after None) → Becomes t t (ForgetsNext fleet after None list list)
     here None told = tt
-    here (Some x) told = (told, refl)
+    here (Some x) told = (told, refl, refl)
 
-pub some_next : (fleet : FleetValue) (after : Option (List ℕ)) (phone : Phone) (r : Registered) (a b c : Option Tables) → b ≡ a → WhereKnown a (λ t. FindsNext t.registered after (Some (phone, r)))
-    → Becomes b c (λ old now. now ≡ left_allowed fleet (key_of phone) r old) → Becomes a c (ForgetsNext fleet after (Some phone))
-some_next fleet after phone r a b c same told left = here a c told (becomes_along a b c _ same left)
+pub some_next : (fleet : FleetValue) (after : Option (List ℕ)) (phone : Phone) (r : Registered) (before list : List Phone) (a b c : Option Tables) → b ≡ a → WhereKnown a (λ t. FindsNext t.registered after (Some (phone, r)))
+    → Becomes b c (λ old now. now ≡ left_allowed fleet (key_of phone) r old) → list ≡ listed_if fleet phone r before → Becomes a c (ForgetsNext fleet after (Some phone) before list)
+some_next fleet after phone r before list a b c same told left listed = here a c told (becomes_along a b c _ same left)
   where
     here : (x y : Option Tables) → WhereKnown x (λ t. FindsNext t.registered after (Some (phone, r))) → Becomes x y (λ old now. now ≡ left_allowed fleet (key_of phone) r old)
-        → Becomes x y (ForgetsNext fleet after (Some phone))
+        → Becomes x y (ForgetsNext fleet after (Some phone) before list)
     here None None told left = tt
     here None (Some y) told left = left
     here (Some x) None told left = left
-    here (Some x) (Some y) told left = (r, told, left)
+    here (Some x) (Some y) told left = (r, told, left, listed)
 
 -- ---- a phone that is registered as it is bound
 
@@ -100,21 +104,58 @@ on_err (Err e) P p = p
 pub becomes_until : (a b c : Option Tables) (R : Tables → Tables → Type 0) → Becomes a b R → c ≡ b → Becomes a c R
 becomes_until a b c R r same = subst (λ t. Becomes a t R) (sym same) r
 
-pub names_join : (l m n : List Phone) (a b c : Option Tables) → Becomes a b (Names l m) → Becomes b c (Names m n) → Becomes a c (Names l n)
-names_join l m n a b c first second = becomes_then a b c (Names l m) (Names m n) (Names l n) (λ x y z r s. names_then l m n x y z r s) first second
+pub forget_start : (fleet : FleetValue) (list : List Phone) (t : Option Tables) → Becomes t t (ForgetsUpTo fleet None list list)
+forget_start fleet list t = becomes_same t _ (λ x. forgets_none fleet list x)
 
-pub forget_start : (fleet : FleetValue) (t : Option Tables) → Becomes t t (ForgetsUpTo fleet None)
-forget_start fleet t = becomes_same t _ (λ x. forgets_none fleet x)
+pub forget_step : (fleet : FleetValue) (after : Option (List ℕ)) (phone : Phone) (l m n : List Phone) (a b c : Option Tables) → Becomes a b (ForgetsUpTo fleet after l m)
+    → Becomes b c (ForgetsNext fleet after (Some phone) m n) → Becomes a c (ForgetsUpTo fleet (Some (key_of phone)) l n)
+forget_step fleet after phone l m n a b c upto one =
+    becomes_then a b c _ _ (ForgetsUpTo fleet (Some (key_of phone)) l n) (λ x y z r s. forgets_more fleet after phone l m n x y z r s) upto one
 
-pub forget_step : (fleet : FleetValue) (after : Option (List ℕ)) (phone : Phone) (a b c : Option Tables) → Becomes a b (ForgetsUpTo fleet after) → Becomes b c (ForgetsNext fleet after (Some phone))
-    → Becomes a c (ForgetsUpTo fleet (Some (key_of phone)))
-forget_step fleet after phone a b c upto one = becomes_then a b c _ _ (ForgetsUpTo fleet (Some (key_of phone))) (λ x y z r s. forgets_more fleet after phone x y z r s) upto one
+pub forget_end : (fleet : FleetValue) (after : Option (List ℕ)) (l m n : List Phone) (a b c : Option Tables) → Becomes a b (ForgetsUpTo fleet after l m) → Becomes b c (ForgetsNext fleet after None m n)
+    → Becomes a c (ForgetsAll fleet l n)
+forget_end fleet after l m n a b c upto last = becomes_then a b c _ _ (ForgetsAll fleet l n) (λ x y z r s. forgets_all fleet after l m n x y z r s) upto last
 
-pub forget_end : (fleet : FleetValue) (after : Option (List ℕ)) (a b c : Option Tables) → Becomes a b (ForgetsUpTo fleet after) → Becomes b c (ForgetsNext fleet after None) → Becomes a c (ForgetsAll fleet)
-forget_end fleet after a b c upto last = becomes_then a b c _ _ (ForgetsAll fleet) (λ x y z r s. forgets_all fleet after x y z r s) upto last
+pub forget_part : (fleet : FleetValue) (after : Option (List ℕ)) (l m : List Phone) (a b : Option Tables) → Becomes a b (ForgetsUpTo fleet after l m) → Becomes a b (ForgetsSome fleet)
+forget_part fleet after l m a b upto = becomes_by a b _ (ForgetsSome fleet) (λ x y r. forgets_some fleet after l m x y r) upto
 
-pub forget_part : (fleet : FleetValue) (after : Option (List ℕ)) (a b : Option Tables) → Becomes a b (ForgetsUpTo fleet after) → Becomes a b ForgetsSome
-forget_part fleet after a b upto = becomes_by a b _ ForgetsSome (λ x y r. forgets_some fleet after x y r) upto
+-- where the next one failed, nothing was done but that a phone may be listed
+pub forget_part_then : (fleet : FleetValue) (after : Option (List ℕ)) (l m : List Phone) (a b c : Option Tables) → Becomes a b (ForgetsUpTo fleet after l m) → c ≡ b → Becomes a c (ForgetsSome fleet)
+forget_part_then fleet after l m a b c upto same = becomes_until a b c _ (forget_part fleet after l m a b upto) same
+
+pub listed_part : (fleet : FleetValue) (after : Option (List ℕ)) (l m : List Phone) (a b : Option Tables) → Becomes a b (ForgetsUpTo fleet after l m) → Becomes a b (AreListed m)
+listed_part fleet after l m a b upto = becomes_by a b _ (AreListed m) (λ x y r. listed_some fleet after l m x y r) upto
+
+pub listed_part_then : (fleet : FleetValue) (after : Option (List ℕ)) (l m n : List Phone) (a b c : Option Tables) → Becomes a b (ForgetsUpTo fleet after l m) → c ≡ b → AreBehind m n → Becomes a c (AreListed n)
+listed_part_then fleet after l m n a b c upto same behind =
+    subst (λ list. Becomes a c (AreListed list)) (sym behind.1)
+    (becomes_by a c (AreListed m) (AreListed (m ++ behind.0)) (λ x y r. listed_longer m behind.0 x y r) (becomes_until a b c _ (listed_part fleet after l m a b upto) same))
+
+-- where all are gone, those that were there and are not allowed are listed
+pub forgotten_where : (fleet : FleetValue) (l m : List Phone) (a b : Option Tables) → Becomes a b (ForgetsAll fleet l m) → WhereKnown a (λ t. AreForgotten fleet t l m)
+forgotten_where fleet l m None b all = tt
+forgotten_where fleet l m (Some x) None all = absurd all
+forgotten_where fleet l m (Some x) (Some y) all = all.listed
+
+kept_listed : (fleet : FleetValue) (key : List ℕ) (was now : Option Registered) → now ≡ kept_by fleet key was → IsDropped fleet key was ⊎ IfSome was (λ r. now ≡ Some r)
+kept_listed fleet key None now is = inr tt
+kept_listed fleet key (Some r) now is = by_case (is_allowed fleet key r) refl is
+  where
+    by_case : (b : Bool) → is_allowed fleet key r ≡ b → now ≡ cond b (Some r) None → (is_allowed fleet key r ≡ false) ⊎ (now ≡ Some r)
+    by_case true allows is = inr is
+    by_case false allows is = inl allows
+
+all_listed : (fleet : FleetValue) (l m : List Phone) (x y : Tables) → ForgetsAll fleet l m x y → AreListed m x y
+all_listed fleet l m x y all = λ key. by_case key (kept_listed fleet key (x.registered key) (y.registered key) (all.registered key))
+  where
+    by_case : (key : List ℕ) → IsDropped fleet key (x.registered key) ⊎ IfSome (x.registered key) (λ r. y.registered key ≡ Some r)
+        → IsListed m key ⊎ IfSome (x.registered key) (λ r. y.registered key ≡ Some r)
+    by_case key (inl dropped) =
+        inl (subst (λ list. IsListed list key) (sym all.listed.1) (listed_behind l all.listed.0 key ((all.listed.2 key).1 dropped)))
+    by_case key (inr stays) = inr stays
+
+pub listed_all : (fleet : FleetValue) (l m : List Phone) (a b : Option Tables) → Becomes a b (ForgetsAll fleet l m) → Becomes a b (AreListed m)
+listed_all fleet l m a b all = becomes_by a b _ (AreListed m) (λ x y r. all_listed fleet l m x y r) all
 
 pub may_where : (fleet : FleetValue) (t : Option Tables) (key : List ℕ) (own : Registered) → AreNamedOnce (under fleet.bound) → IsApart (under fleet.bound) fleet.plates fleet.terminals
     → WhereKnown t (AreAllowed fleet) → under fleet.bound key ≡ Some own → WhereKnown t (λ x. MayRegister x.registered key own)
@@ -145,23 +186,20 @@ bind_end fleet after a b c upto last = becomes_then a b c _ _ (BindsAll fleet) (
 pub bind_part : (fleet : FleetValue) (after : Option (List ℕ)) (a b : Option Tables) → Becomes a b (BindsUpTo fleet after) → Becomes a b (BindsSome fleet)
 bind_part fleet after a b upto = becomes_by a b _ (BindsSome fleet) (λ x y r. binds_some fleet after x y r) upto
 
-pub all_where : (fleet : FleetValue) (a b : Option Tables) → Becomes a b (ForgetsAll fleet) → WhereKnown b (AreAllowed fleet)
-all_where fleet None None all = tt
-all_where fleet None (Some y) all = absurd all
-all_where fleet (Some x) None all = absurd all
-all_where fleet (Some x) (Some y) all = all_allowed fleet x y all
+pub all_where : (fleet : FleetValue) (l m : List Phone) (a b : Option Tables) → Becomes a b (ForgetsAll fleet l m) → WhereKnown b (AreAllowed fleet)
+all_where fleet l m None None all = tt
+all_where fleet l m None (Some y) all = absurd all
+all_where fleet l m (Some x) None all = absurd all
+all_where fleet l m (Some x) (Some y) all = all_allowed fleet l m x y all
 
-pub both_applied : (fleet : FleetValue) (a b c : Option Tables) → Becomes a b (ForgetsAll fleet) → Becomes b c (BindsAll fleet) → Becomes a c (IsApplied fleet)
-both_applied fleet a b c gone there = becomes_then a b c _ _ (IsApplied fleet) (λ x y z r s. applied fleet x y z r s) gone there
+pub both_applied : (fleet : FleetValue) (l m : List Phone) (a b c : Option Tables) → Becomes a b (ForgetsAll fleet l m) → Becomes b c (BindsAll fleet) → Becomes a c (IsApplied fleet)
+both_applied fleet l m a b c gone there = becomes_then a b c _ _ (IsApplied fleet) (λ x y z r s. applied fleet l m x y z r s) gone there
 
-pub first_part : (fleet : FleetValue) (a b : Option Tables) → Becomes a b ForgetsSome → Becomes a b (IsOnTheWay fleet)
+pub first_part : (fleet : FleetValue) (a b : Option Tables) → Becomes a b (ForgetsSome fleet) → Becomes a b (IsOnTheWay fleet)
 first_part fleet a b some = becomes_by a b _ (IsOnTheWay fleet) (λ x y r. on_the_way_first fleet x y r) some
 
-pub second_part : (fleet : FleetValue) (a b c : Option Tables) → Becomes a b (ForgetsAll fleet) → Becomes b c (BindsSome fleet) → Becomes a c (IsOnTheWay fleet)
-second_part fleet a b c gone some = becomes_then a b c _ _ (IsOnTheWay fleet) (λ x y z r s. on_the_way_second fleet x y z r s) gone some
-
-pub named_first : (l m : List Phone) (a b : Option Tables) → Becomes a b (Names l m) → Becomes a b (AreNamed m)
-named_first l m a b names = becomes_by a b _ (AreNamed m) (λ x y r. r.lost) names
+pub second_part : (fleet : FleetValue) (l m : List Phone) (a b c : Option Tables) → Becomes a b (ForgetsAll fleet l m) → Becomes b c (BindsSome fleet) → Becomes a c (IsOnTheWay fleet)
+second_part fleet l m a b c gone some = becomes_then a b c _ _ (IsOnTheWay fleet) (λ x y z r s. on_the_way_second fleet l m x y z r s) gone some
 
 pub none_same : (fleet : FleetValue) (after : Option (List ℕ)) (a b : Option Tables) → Becomes a b (BindsNext fleet after None) → b ≡ a
 none_same fleet after None None last = refl
@@ -175,5 +213,5 @@ bind_stays fleet after None (Some y) allowed upto = upto
 bind_stays fleet after (Some x) None allowed upto = upto
 bind_stays fleet after (Some x) (Some y) allowed upto = binds_stays fleet after x y allowed upto
 
-pub named_still : (l m : List Phone) (a b c : Option Tables) → Becomes a b (Names l m) → Becomes b c Stays → Becomes a c (AreNamed m)
-named_still l m a b c names stays = becomes_then a b c (Names l m) Stays (AreNamed m) (λ x y z r s. still_named m x y z r.lost s) names stays
+pub listed_still : (m : List Phone) (a b c : Option Tables) → Becomes a b (AreListed m) → Becomes b c Stays → Becomes a c (AreListed m)
+listed_still m a b c listed stays = becomes_then a b c (AreListed m) Stays (AreListed m) (λ x y z r s. still_listed m x y z r s) listed stays

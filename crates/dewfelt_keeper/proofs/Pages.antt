@@ -4,8 +4,7 @@ use Rattle.jt_value.specs.declared.phone.Phone.{Phone}
 use Rattle.jt_value.specs.Sameness.{key_of}
 use Rattle.jt_store.specs.declared.row.Registered.{Registered}
 use Rattle.jt_store.specs.Tables.{FindsNext, Tables, WhereKnown}
-use Rattle.dewfelt_keeper.specs.Sweeps.{AddsNext}
-use Rattle.dewfelt_keeper.specs.Registries.{AreNext, last_behind}
+use Rattle.dewfelt_keeper.specs.Registries.{AddsNext, AreNext, last_behind}
 
 module _ (registered : List ℕ → Option Registered) where
   -- one registration more at the end

@@ -1,11 +1,11 @@
 -- Rows that are read by pages.
-use Rattle.std.proofs.Common.{◌≡◌, ℕ, zero, suc, ◌+◌, ◌*◌, ◌<◌, ◌≤◌, List, [], ◌∷◌, ◌++◌, Bool, true, false, cond, IsTrue, nat_le, length, arith, refl, sym, ◌∙◌, ap, subst, take, filter, append_assoc, length-append, Option, Some, None, inl, inr}
+use Rattle.std.proofs.Common.{◌≡◌, ℕ, zero, suc, ◌+◌, ◌<◌, ◌≤◌, List, [], ◌∷◌, ◌++◌, Bool, true, false, cond, nat_le, length, arith, refl, sym, ◌∙◌, ap, subst, take, append_assoc, append-nil, length-append, Option, Some, None, inl, inr}
 use Rattle.std.specs.Prelude.{◌⊎◌}
 use Rattle.std.proofs.lemmas.Bool.Decides.{nat_tests}
-use Rattle.std.proofs.Math.Nat.{suc-mul, zero-mul}
+use Rattle.std.proofs.lemmas.List.Elements.{filter-append}
 use Rattle.jt_store.specs.declared.row.Row.{Row}
 use Rattle.jt_store.specs.Tables.{FindsFrom, IsRow, Rises, Tables, AreRows, WhereKnown}
-use Rattle.dewfelt_keeper.specs.RowPages.{AddsFrom, next_of, pages, rows_at}
+use Rattle.dewfelt_keeper.specs.RowPages.{AddsFrom, next_of, pages, room_of, rows_at}
 
 test_of : (a b : ℕ) → a ≤ b → nat_le a b ≡ true
 test_of a b within = grind (arith, nat_tests)
@@ -120,19 +120,23 @@ at_at from later (x ∷ rows) below =
           rw low rest
     ] refl
 
+rises_front : (n : ℕ) (rows more : List Row) → Rises n (rows ++ more) → Rises n rows
+rises_front n [] more rise = tt
+rises_front n (x ∷ rows) more rise = (rise.0, rises_front (x.number + 1) rows more rise.1)
+
 next_above : (n most : ℕ) (rows : List Row) → Rises n rows → n ≤ next_of n (take most rows)
 next_above n zero rows rise = omega arith
 next_above n (suc most) [] rise = omega arith
 next_above n (suc most) (x ∷ rows) rise = omega (arith, rise.0, next_above (x.number + 1) most rows rise.1)
 
--- rows are the first so many and then those from the number behind these on
-split : (n most : ℕ) (rows : List Row) → Rises n rows → rows ≡ take most rows ++ rows_at (next_of n (take most rows)) rows
-split n zero rows rise = sym (all_at n n rows (omega arith) rise)
-split n (suc most) [] rise = refl
-split n (suc most) (x ∷ rows) rise =
-    let far : x.number + 1 ≤ next_of (x.number + 1) (take most rows) = next_above (x.number + 1) most rows rise.1 in
+-- rows, and more behind them, are the first so many of these and then all from the number behind these on
+split : (n most : ℕ) (rows more : List Row) → Rises n (rows ++ more) → rows ++ more ≡ take most rows ++ rows_at (next_of n (take most rows)) (rows ++ more)
+split n zero rows more rise = sym (all_at n n (rows ++ more) (omega arith) rise)
+split n (suc most) [] more rise = sym (all_at n n more (omega arith) rise)
+split n (suc most) (x ∷ rows) more rise =
+    let far : x.number + 1 ≤ next_of (x.number + 1) (take most rows) = next_above (x.number + 1) most rows (rises_front (x.number + 1) rows more rise.1) in
     let past : nat_le (next_of (x.number + 1) (take most rows)) x.number ≡ false = test_fails (next_of (x.number + 1) (take most rows)) x.number (omega (arith, far)) in
-    rw past (ap (λ (ys : List Row). x ∷ ys) (split (x.number + 1) most rows rise.1))
+    rw past (ap (λ (ys : List Row). x ∷ ys) (split (x.number + 1) most rows more rise.1))
 
 rises_lower : (low n : ℕ) (rows : List Row) → low ≤ n → Rises n rows → Rises low rows
 rises_lower low n [] below rise = tt
@@ -149,12 +153,24 @@ at_rises from n (x ∷ rows) rise = by_test (nat_le from x.number) refl (at_rise
         let within : from ≤ x.number = within_of from x.number is in
         (within, subst (Rises (x.number + 1)) (sym (all_at from (x.number + 1) rows (omega (arith, within)) rise.1)) rise.1)
 
-pub one_page : (from most : ℕ) (rows : List Row) → Rises 0 rows → rows_at from rows ≡ take most (rows_at from rows) ++ rows_at (next_of from (take most (rows_at from rows))) rows
-one_page from most rows rise =
-    let some : Rises from (rows_at from rows) = at_rises from 0 rows rise in
-    let later : from ≤ next_of from (take most (rows_at from rows)) = next_above from most (rows_at from rows) some in
-    split from most (rows_at from rows) some
-    ∙ ap (λ (ys : List Row). take most (rows_at from rows) ++ ys) (sym (at_at from (next_of from (take most (rows_at from rows))) rows later))
+at_both : (from : ℕ) (rows more : List Row) → rows_at from (rows ++ more) ≡ rows_at from rows ++ rows_at from more
+at_both from rows more = filter-append (λ (row : Row). nat_le from row.number) rows more
+
+pub one_page : (from most : ℕ) (rows more : List Row) → Rises 0 (rows ++ more)
+    → rows_at from (rows ++ more) ≡ take most (rows_at from rows) ++ rows_at (next_of from (take most (rows_at from rows))) (rows ++ more)
+one_page from most rows more rise =
+    let both : rows_at from (rows ++ more) ≡ rows_at from rows ++ rows_at from more = at_both from rows more in
+    let some : Rises from (rows_at from rows ++ rows_at from more) = subst (Rises from) both (at_rises from 0 (rows ++ more) rise) in
+    let later : from ≤ next_of from (take most (rows_at from rows)) = next_above from most (rows_at from rows) (rises_front from (rows_at from rows) (rows_at from more) some) in
+    both ∙ split from most (rows_at from rows) (rows_at from more) some
+    ∙ ap (λ (ys : List Row). take most (rows_at from rows) ++ rows_at (next_of from (take most (rows_at from rows))) ys) (sym both)
+    ∙ ap (λ (ys : List Row). take most (rows_at from rows) ++ ys) (sym (at_at from (next_of from (take most (rows_at from rows))) (rows ++ more) later))
+
+-- of rows that stand still
+still_page : (from most : ℕ) (rows : List Row) → Rises 0 rows → rows_at from rows ≡ take most (rows_at from rows) ++ rows_at (next_of from (take most (rows_at from rows))) rows
+still_page from most rows rise =
+    subst (λ (all : List Row). rows_at from all ≡ take most (rows_at from rows) ++ rows_at (next_of from (take most (rows_at from rows))) all) (append-nil rows)
+    (one_page from most rows [] (subst (Rises 0) (sym (append-nil rows)) rise))
 
 empty_is : (rows : List Row) → length rows ≤ 0 → [] ≡ rows
 empty_is [] few = refl
@@ -174,15 +190,15 @@ left_over : (all part left most room : ℕ) → all ≡ part + left → all ≤ 
 left_over all part left most room cut few (inl full) = omega (arith, cut, few, full)
 left_over all part left most room cut few (inr none) = omega (arith, cut, few, none)
 
-pub all_pages : (count most from : ℕ) (rows : List Row) → Rises 0 rows → length (rows_at from rows) ≤ count * most → pages count most from rows ≡ rows_at from rows
-all_pages zero most from rows rise few = empty_is (rows_at from rows) (subst (λ n. length (rows_at from rows) ≤ n) (zero-mul most) few)
-all_pages (suc count) most from rows rise few =
-    let cut : rows_at from rows ≡ take most (rows_at from rows) ++ rows_at (next_of from (take most (rows_at from rows))) rows = one_page from most rows rise in
+pub all_pages : (sizes : List ℕ) (from : ℕ) (rows : List Row) → Rises 0 rows → length (rows_at from rows) ≤ room_of sizes → pages sizes from rows ≡ rows_at from rows
+all_pages [] from rows rise few = empty_is (rows_at from rows) few
+all_pages (most ∷ sizes) from rows rise few =
+    let cut : rows_at from rows ≡ take most (rows_at from rows) ++ rows_at (next_of from (take most (rows_at from rows))) rows = still_page from most rows rise in
     let lengths = ap length cut ∙ length-append (take most (rows_at from rows)) (rows_at (next_of from (take most (rows_at from rows))) rows) in
-    let left : length (rows_at (next_of from (take most (rows_at from rows))) rows) ≤ count * most
-    = left_over (length (rows_at from rows)) (length (take most (rows_at from rows))) (length (rows_at (next_of from (take most (rows_at from rows))) rows)) most (count * most) lengths
-    (subst (λ n. length (rows_at from rows) ≤ n) (suc-mul count most) few) (full_or_all most (rows_at from rows)) in
-    ap (λ (ys : List Row). take most (rows_at from rows) ++ ys) (all_pages count most (next_of from (take most (rows_at from rows))) rows rise left) ∙ sym cut
+    let left : length (rows_at (next_of from (take most (rows_at from rows))) rows) ≤ room_of sizes
+    = left_over (length (rows_at from rows)) (length (take most (rows_at from rows))) (length (rows_at (next_of from (take most (rows_at from rows))) rows)) most (room_of sizes) lengths
+    (omega (arith, few)) (full_or_all most (rows_at from rows)) in
+    ap (λ (ys : List Row). take most (rows_at from rows) ++ ys) (all_pages sizes (next_of from (take most (rows_at from rows))) rows rise left) ∙ sym cut
 
 pub from_none : (rows : List Row) → rows_at 0 rows ≡ rows
 from_none [] = refl

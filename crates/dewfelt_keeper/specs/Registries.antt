@@ -1,5 +1,6 @@
--- What the calls of a registry do to its keeper's tables (this project's own). To be believed.
-use Rattle.std.specs.Prelude.{◌≡◌, ◌⊎◌, ◌<◌, ◌≤◌, ℕ, true, List, [], ◌∷◌, length, Option, Some, None}
+-- What the calls of a registry do to its keeper's tables (this project's own). To be believed, but for AddsNext, a step for the
+-- proofs.
+use Rattle.std.specs.Prelude.{◌≡◌, ◌⊎◌, ◌<◌, ◌≤◌, ℕ, true, false, List, [], ◌∷◌, ◌++◌, length, Option, Some, None, IsSome}
 use Rattle.jt_value.specs.declared.phone.Phone.{Phone}
 use Rattle.jt_value.specs.Sameness.{key_of}
 use Rattle.jt_store.specs.declared.row.Registered.{Registered}
@@ -22,15 +23,15 @@ left_if None key t = registered_set key None t
 abbrev pub left_by : FleetValue → List ℕ → Option Tables → Option Tables
 left_by fleet key t = left_if (under fleet.bound key) key t
 
--- the phone is registered so, which the fleet allows and no other phone's names forbid; or it is left without a registration
+-- the phone is registered so, where the fleet allows it and no other phone has one of the names; else it is left without
 abbrev pub IsRegisteredOr : FleetValue → List ℕ → Registered → Tables → Tables → Type 0
 IsRegisteredOr fleet key r old now =
     ((is_allowed fleet key r ≡ true) × MayRegister old.registered key r × (Some now ≡ registered_set key (Some r) (Some old)))
-    ⊎ (Some now ≡ left_by fleet key (Some old))
+    ⊎ (((is_allowed fleet key r ≡ false) ⊎ ¬ MayRegister old.registered key r) × (Some now ≡ left_by fleet key (Some old)))
 
 -- what an operator's wish to forget a phone did, where the fleet binds it to this or to nothing
 abbrev pub Forgets : Option Registered → List ℕ → Option Tables → Option Tables → Forgetting → Type 0
-Forgets None key old now forgetting.Done = now ≡ registered_set key None old
+Forgets None key old now forgetting.Done = (now ≡ registered_set key None old) × WhereKnown old (λ t. IsSome (t.registered key))
 Forgets (Some own) key old now forgetting.Done = ⊥
 Forgets None key old now forgetting.NotRegistered = (now ≡ old) × WhereKnown old (λ t. t.registered key ≡ None)
 Forgets (Some own) key old now forgetting.NotRegistered = ⊥
@@ -52,3 +53,8 @@ pub record IsPage (registered : List ℕ → Option Registered) (after : Option 
   pub all : AreNext registered after page
   pub few : length page ≤ most
   pub last : length page < most → FindsNext registered (last_behind after page) None
+
+-- the registration behind these digits, put at the end of a page
+abbrev pub AddsNext : (List ℕ → Option Registered) → Option (List ℕ) → List (Phone × Registered) → List (Phone × Registered) → Option Phone → Type 0
+AddsNext registered after old now None = FindsNext registered after None × (now ≡ old)
+AddsNext registered after old now (Some phone) = (r : Registered) × FindsNext registered after (Some (phone, r)) × (now ≡ old ++ (phone, r) ∷ [])

@@ -1,5 +1,5 @@
 -- What a keeper under the rules of a fleet does (this project's own). To be believed.
-use Rattle.std.specs.Prelude.{◌≡◌, ◌⊎◌, ℕ, Bool, not, List, [], ◌∷◌, Option, Some, None, IfSome, if◌then◌else◌}
+use Rattle.std.specs.Prelude.{◌≡◌, ◌⊎◌, ◌↔◌, ℕ, Bool, false, not, List, [], ◌∷◌, ◌++◌, Option, Some, None, IfSome, IsSomeAnd, if◌then◌else◌}
 use Rattle.std.specs.Str.{bytes_eq}
 use Rattle.jt_value.specs.declared.phone.Phone.{Phone}
 use Rattle.jt_value.specs.Sameness.{key_of}
@@ -37,20 +37,35 @@ pub record IsApplied (fleet : FleetValue) (old now : Tables) : Type 0 where
   pub registered : (key : List ℕ) → now.registered key ≡ settled_by fleet key (old.registered key)
   pub rows : now.rows ≡ old.rows
 
--- each registration is one of before, or one that the fleet says, and rows stay
+-- each phone is registered as before, or with what stays of that, or as the fleet says, and rows stay
 pub record IsOnTheWay (fleet : FleetValue) (old now : Tables) : Type 0 where
-  pub registered : (key : List ℕ) → IfSome (now.registered key) (λ r.
-      (old.registered key ≡ Some r) ⊎ (settled_by fleet key (old.registered key) ≡ Some r))
+  pub registered : (key : List ℕ) → (now.registered key ≡ old.registered key)
+      ⊎ (now.registered key ≡ kept_by fleet key (old.registered key))
+      ⊎ (now.registered key ≡ settled_by fleet key (old.registered key))
   pub rows : now.rows ≡ old.rows
 
 -- whether one of these phones has these digits
-abbrev pub IsNamed : List Phone → List ℕ → Type 0
-IsNamed [] key = ⊥
-IsNamed (phone ∷ more) key = (key_of phone ≡ key) ⊎ IsNamed more key
+abbrev pub IsListed : List Phone → List ℕ → Type 0
+IsListed [] key = ⊥
+IsListed (phone ∷ more) key = (key_of phone ≡ key) ⊎ IsListed more key
 
 -- each registration of before stays, or its phone is one of these
-abbrev pub AreNamed : List Phone → Tables → Tables → Type 0
-AreNamed phones old now = (key : List ℕ) → IsNamed phones key ⊎ IfSome (old.registered key) (λ r. now.registered key ≡ Some r)
+abbrev pub AreListed : List Phone → Tables → Tables → Type 0
+AreListed phones old now = (key : List ℕ) → IsListed phones key ⊎ IfSome (old.registered key) (λ r. now.registered key ≡ Some r)
+
+-- phones stand behind those of before, or none
+abbrev pub AreBehind : List Phone → List Phone → Type 0
+AreBehind before now = (more : List Phone) × (now ≡ before ++ more)
+
+-- the phone has a registration that the fleet does not allow
+abbrev pub IsDropped : FleetValue → List ℕ → Option Registered → Type 0
+IsDropped fleet key was = IsSomeAnd was (λ r. is_allowed fleet key r ≡ false)
+
+-- behind those of before stand the phones whose registrations the fleet does not allow, and no others
+abbrev pub AreForgotten : FleetValue → Tables → List Phone → List Phone → Type 0
+AreForgotten fleet old before now =
+    (more : List Phone) × (now ≡ before ++ more)
+    × ((key : List ℕ) → IsListed more key ↔ IsDropped fleet key (old.registered key))
 
 -- ---- who may have a name
 

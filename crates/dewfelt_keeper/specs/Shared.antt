@@ -2,6 +2,6 @@
 use Rattle.std.specs.Prelude.{ℕ}
 
 -- its limit, and how often it failed
-pub record Seen : Type 0 where
+pub record SharedValue : Type 0 where
   pub limit : ℕ
   pub faults : ℕ

@@ -1,21 +1,21 @@
 -- How far a fleet is applied. Step definitions for the proofs; no public clause cites them.
 use Rattle.std.specs.Cmp.Lexicographic.{slice_cmp}
 use Rattle.std.specs.Ordering.{is_gt, is_lt, nat_cmp}
-use Rattle.std.specs.Prelude.{◌≡◌, ◌⊎◌, ℕ, Bool, true, false, not, List, [], ◌∷◌, ◌++◌, Option, Some, None, IfSome, IsSome, if◌then◌else◌}
+use Rattle.std.specs.Prelude.{◌≡◌, ◌⊎◌, ◌↔◌, ℕ, Bool, true, false, not, List, [], ◌∷◌, ◌++◌, Option, Some, None, IfSome, IsSome, if◌then◌else◌}
 use Rattle.jt_value.specs.declared.phone.Phone.{Phone}
 use Rattle.jt_value.specs.Sameness.{key_of, same_key}
 use Rattle.jt_store.specs.declared.row.Registered.{Registered}
 use Rattle.jt_store.specs.Memory.{under}
 use Rattle.jt_store.specs.Tables.{Tables, IsBehind, FindsNext}
 use Rattle.dewfelt_fleet.specs.Fleets.{FleetValue, is_allowed}
-use Rattle.dewfelt_keeper.specs.Rules.{kept_by, bound_or, IsNamed, AreNamed}
+use Rattle.dewfelt_keeper.specs.Rules.{kept_by, bound_or, AreForgotten, IsDropped, IsListed}
 
 -- whether the digits were passed, where all up to these were
 abbrev pub is_done : Option (List ℕ) → List ℕ → Bool
 is_done None key = false
 is_done (Some last) key = not (is_lt (slice_cmp nat_cmp last key))
 
--- the registration of this phone, and else the same
+-- the registration of this phone, and else the same: what `registered_set` makes of tables that are told
 abbrev pub with_own : List ℕ → Option Registered → Tables → Tables
 with_own key own t = record { registered = λ q. if same_key key q then own else t.registered q; rows = t.rows }
 
@@ -23,6 +23,7 @@ with_own key own t = record { registered = λ q. if same_key key q then own else
 abbrev pub left_allowed : FleetValue → List ℕ → Registered → Tables → Tables
 left_allowed fleet key r t = if is_allowed fleet key r then t else with_own key None t
 
+-- with this registration, if the one that the phone has is None
 abbrev pub with_own_if : Option Registered → List ℕ → Registered → Tables → Tables
 with_own_if (Some r) key own t = t
 with_own_if None key own t = with_own key (Some own) t
@@ -33,31 +34,34 @@ with_own_or key own t = with_own_if (t.registered key) key own t
 
 -- ---- registrations that the fleet does not allow
 
--- up to these digits they are gone
-pub record ForgetsUpTo (fleet : FleetValue) (after : Option (List ℕ)) (old now : Tables) : Type 0 where
+-- the phones with this one at the end, if the fleet does not allow its registration
+abbrev pub listed_if : FleetValue → Phone → Registered → List Phone → List Phone
+listed_if fleet phone r list = if is_allowed fleet (key_of phone) r then list else list ++ phone ∷ []
+
+-- up to these digits they are gone, and their phones are put behind others
+pub record ForgetsUpTo (fleet : FleetValue) (after : Option (List ℕ)) (before list : List Phone) (old now : Tables) : Type 0 where
   pub registered : (key : List ℕ) → now.registered key ≡ (if is_done after key then kept_by fleet key (old.registered key) else old.registered key)
   pub rows : now.rows ≡ old.rows
+  pub listed : (more : List Phone) × (list ≡ before ++ more)
+      × ((key : List ℕ) → IsListed more key ↔ ((is_done after key ≡ true) × IsDropped fleet key (old.registered key)))
 
 -- the next one is gone, if it is not allowed
-abbrev pub ForgetsNext : FleetValue → Option (List ℕ) → Option Phone → Tables → Tables → Type 0
-ForgetsNext fleet after None old now = FindsNext old.registered after None × (now ≡ old)
-ForgetsNext fleet after (Some phone) old now =
+abbrev pub ForgetsNext : FleetValue → Option (List ℕ) → Option Phone → List Phone → List Phone → Tables → Tables → Type 0
+ForgetsNext fleet after None before list old now = FindsNext old.registered after None × (now ≡ old) × (list ≡ before)
+ForgetsNext fleet after (Some phone) before list old now =
     (r : Registered) × FindsNext old.registered after (Some (phone, r))
-    × (now ≡ left_allowed fleet (key_of phone) r old)
+    × (now ≡ left_allowed fleet (key_of phone) r old) × (list ≡ listed_if fleet phone r before)
 
-pub record ForgetsAll (fleet : FleetValue) (old now : Tables) : Type 0 where
+-- all are gone, and their phones are put behind others
+pub record ForgetsAll (fleet : FleetValue) (before list : List Phone) (old now : Tables) : Type 0 where
   pub registered : (key : List ℕ) → now.registered key ≡ kept_by fleet key (old.registered key)
   pub rows : now.rows ≡ old.rows
+  pub listed : AreForgotten fleet old before list
 
--- each registration is one of before
-pub record ForgetsSome (old now : Tables) : Type 0 where
-  pub registered : (key : List ℕ) → IfSome (now.registered key) (λ r. old.registered key ≡ Some r)
+-- each phone is registered as before, or with what stays of that
+pub record ForgetsSome (fleet : FleetValue) (old now : Tables) : Type 0 where
+  pub registered : (key : List ℕ) → (now.registered key ≡ old.registered key) ⊎ (now.registered key ≡ kept_by fleet key (old.registered key))
   pub rows : now.rows ≡ old.rows
-
--- the phones whose registrations are gone are put behind others
-pub record Names (before now : List Phone) (old new : Tables) : Type 0 where
-  pub more : (key : List ℕ) → IsNamed before key → IsNamed now key
-  pub lost : AreNamed now old new
 
 -- each registration stays
 abbrev pub Stays : Tables → Tables → Type 0
@@ -82,18 +86,12 @@ BindsNext fleet after (Some phone) old now =
     × ((key : List ℕ) → IsBehind after key → IsSome (under fleet.bound key) → is_gt (slice_cmp nat_cmp (key_of phone) key) ≡ false)
     × (now ≡ with_own_or (key_of phone) own old)
 
+-- all are registered
 pub record BindsAll (fleet : FleetValue) (old now : Tables) : Type 0 where
   pub registered : (key : List ℕ) → now.registered key ≡ bound_or (under fleet.bound key) (old.registered key)
   pub rows : now.rows ≡ old.rows
 
--- each registration is one of before, or one of a vehicle
+-- each phone is registered as before, or as a vehicle is bound
 pub record BindsSome (fleet : FleetValue) (old now : Tables) : Type 0 where
-  pub registered : (key : List ℕ) → IfSome (now.registered key) (λ r. (old.registered key ≡ Some r) ⊎ (under fleet.bound key ≡ Some r))
+  pub registered : (key : List ℕ) → (now.registered key ≡ old.registered key) ⊎ (now.registered key ≡ bound_or (under fleet.bound key) (old.registered key))
   pub rows : now.rows ≡ old.rows
-
--- ---- pages
-
--- the registration behind these digits, put at the end of a page
-abbrev pub AddsNext : (List ℕ → Option Registered) → Option (List ℕ) → List (Phone × Registered) → List (Phone × Registered) → Option Phone → Type 0
-AddsNext registered after old now None = FindsNext registered after None × (now ≡ old)
-AddsNext registered after old now (Some phone) = (r : Registered) × FindsNext registered after (Some (phone, r)) × (now ≡ old ++ (phone, r) ∷ [])

@@ -4,8 +4,8 @@ ghost use Rattle.std.specs.Option.{option_copied, option_map};
 ghost use Rattle.std.specs.Prelude.{◌≡◌, IfOk, OnErr, OnOk};
 ghost use Rattle.jt_store.specs.Tables.{IsTrimmed, MayRegister, WhereKnown};
 ghost use Rattle.jt_value.specs.Sameness.{key_of};
-ghost use Rattle.dewfelt_keeper.specs.Rules.{AreNamed, Becomes, IsApplied, IsOnTheWay};
-ghost use Rattle.dewfelt_keeper.specs.Sweeps.{AreAllowed, BindsAll, BindsNext, BindsSome, ForgetsAll, ForgetsNext, ForgetsSome, Names, Stays, left_allowed, with_own_or};
+ghost use Rattle.dewfelt_keeper.specs.Rules.{AreBehind, AreForgotten, AreListed, Becomes, IsApplied, IsOnTheWay};
+ghost use Rattle.dewfelt_keeper.specs.Sweeps.{AreAllowed, BindsAll, BindsNext, BindsSome, ForgetsAll, ForgetsNext, ForgetsSome, Stays, left_allowed, listed_if, with_own_or};
 
 use dewfelt_fleet::Fleet;
 use jt_store::{Keeper, Registered, Registrations, StoreError};
@@ -23,9 +23,10 @@ fn forget_unallowed<K: Keeper>(
 ) -> Result<(), StoreError>
     ensures ok { OnOk result (Becomes (K.tables keeper.old) (K.tables keeper.new)
         (λ old now. now ≡ left_allowed fleet.now (key_of phone.now) registered.now old)) }
+    ensures listed { OnOk result (forgotten.new
+        ≡ listed_if fleet.now phone.now registered.now forgotten.old) }
     ensures err { OnErr result (K.tables keeper.new ≡ K.tables keeper.old) }
-    ensures names { Becomes (K.tables keeper.old) (K.tables keeper.new)
-        (Names forgotten.old forgotten.new) }
+    ensures behind { AreBehind forgotten.old forgotten.new }
 {
     if fleet.allows(phone, registered) {
         return Ok(());
@@ -44,10 +45,10 @@ fn forget_next<K: Registrations>(
     forgotten: &mut Seq<Phone>,
 ) -> Result<Option<Phone>, StoreError>
     ensures ok { IfOk result (λ found. Becomes (K.tables keeper.old) (K.tables keeper.new)
-        (ForgetsNext fleet.now (option_map key_of (option_copied after.entry)) found)) }
+        (ForgetsNext fleet.now (option_map key_of (option_copied after.entry)) found
+        forgotten.old forgotten.new)) }
     ensures err { OnErr result (K.tables keeper.new ≡ K.tables keeper.old) }
-    ensures names { Becomes (K.tables keeper.old) (K.tables keeper.new)
-        (Names forgotten.old forgotten.new) }
+    ensures behind { AreBehind forgotten.old forgotten.new }
 {
     match keeper.next_registered(alloc, after) {
         Ok(None) => Ok(None),
@@ -69,10 +70,12 @@ fn forget_others<K: Registrations>(
     forgotten: &mut Seq<Phone>,
 ) -> Result<(), StoreError>
     ensures ok { OnOk result (Becomes (K.tables keeper.old) (K.tables keeper.new)
-        (ForgetsAll fleet.now)) }
-    ensures err { OnErr result (Becomes (K.tables keeper.old) (K.tables keeper.new) ForgetsSome) }
-    ensures names { Becomes (K.tables keeper.old) (K.tables keeper.new)
-        (Names forgotten.old forgotten.new) }
+        (ForgetsAll fleet.now forgotten.old forgotten.new)) }
+    ensures err { OnErr result (Becomes (K.tables keeper.old) (K.tables keeper.new)
+        (ForgetsSome fleet.now)) }
+    ensures listed { Becomes (K.tables keeper.old) (K.tables keeper.new)
+        (AreListed forgotten.new) }
+    ensures behind { AreBehind forgotten.old forgotten.new }
 {
     let mut after = None;
     for _ in 0..u64::MAX {
@@ -157,8 +160,11 @@ pub(crate) fn settle<K: Registrations>(
         (IsApplied fleet.now)) }
     ensures err { OnErr result (Becomes (K.tables keeper.old) (K.tables keeper.new)
         (IsOnTheWay fleet.now)) }
-    ensures named { Becomes (K.tables keeper.old) (K.tables keeper.new)
-        (AreNamed forgotten.new) }
+    ensures listed { Becomes (K.tables keeper.old) (K.tables keeper.new)
+        (AreListed forgotten.new) }
+    ensures forgotten { OnOk result (WhereKnown (K.tables keeper.old)
+        (λ t. AreForgotten fleet.now t forgotten.old forgotten.new)) }
+    ensures behind { AreBehind forgotten.old forgotten.new }
 {
     forget_others(alloc, keeper, fleet, forgotten)?;
     register_bound(alloc, keeper, fleet)

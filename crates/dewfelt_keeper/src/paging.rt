@@ -4,8 +4,7 @@ ghost use Rattle.std.specs.Option.{option_copied, option_map};
 ghost use Rattle.std.specs.Prelude.{◌≡◌, ◌+◌, IfOk, IfSome, length};
 ghost use Rattle.jt_store.specs.Tables.{Reads};
 ghost use Rattle.jt_value.specs.Sameness.{key_of};
-ghost use Rattle.dewfelt_keeper.specs.Registries.{IsPage};
-ghost use Rattle.dewfelt_keeper.specs.Sweeps.{AddsNext};
+ghost use Rattle.dewfelt_keeper.specs.Registries.{AddsNext, IsPage};
 
 use jt_store::{Registered, Registrations, StoreError};
 use jt_value::{Phone, Seq};

@@ -7,7 +7,7 @@ ghost use Rattle.jt_store.specs.Tables.{IsOwner, IsTrimmed, MayAppend, MayRegist
 ghost use Rattle.jt_value.specs.Sameness.{key_of};
 ghost use Rattle.dewfelt_keeper.specs.Registries.{Forgets, IsPage, IsRegisteredOr, left_by};
 ghost use Rattle.dewfelt_keeper.specs.RowPages.{rows_at};
-ghost use Rattle.dewfelt_keeper.specs.Rules.{AreNamed, Becomes, IsApplied, IsOnTheWay, is_barred, own_of};
+ghost use Rattle.dewfelt_keeper.specs.Rules.{AreBehind, AreForgotten, AreListed, Becomes, IsApplied, IsOnTheWay, is_barred, own_of};
 
 use crate::applying::settle;
 use crate::paging::page_of;
@@ -182,6 +182,8 @@ impl<K: Keeper> Registry<K> {
         ensures fleet { self.new.fleet ≡ self.old.fleet }
         ensures free { IfOk result (λ taken. taken ≡ false → WhereKnown (K.tables self.old.keeper)
             (λ t. MayRegister t.registered (key_of phone.now) registered.now)) }
+        ensures taken { IfOk result (λ taken. taken ≡ true → WhereKnown (K.tables self.old.keeper)
+            (λ t. ¬ MayRegister t.registered (key_of phone.now) registered.now)) }
     {
         if let Some(owner) = self.keeper.plate_owner(alloc, registered.plate.as_slice())? {
             if !owner.same(phone) {
@@ -295,7 +297,8 @@ impl<K: Registrations> Registry<K> {
 
     /// Takes a new fleet, whose rules hold from now on, and brings the registrations in line with it: one that it does not allow is
     /// removed, its phone is put behind those that are `forgotten`, and then each bound phone is registered as it is bound. Rows
-    /// stay. After an error each phone is registered as before, or as it is to be, or is bound and not registered yet. Full, with
+    /// stay. After an error each phone is registered as before, or as it is to be, or is bound and not registered yet; a phone
+    /// whose registration is gone is behind those that are `forgotten`, and so may be that at which the error came. Full, with
     /// 2^64 - 1, comes where there are more registrations than that.
     pub fn apply(
         &mut self,
@@ -307,8 +310,11 @@ impl<K: Registrations> Registry<K> {
             (IsApplied fleet)) }
         ensures err { OnErr result (Becomes (K.tables self.old.keeper) (K.tables self.new.keeper)
             (IsOnTheWay fleet)) }
-        ensures named { Becomes (K.tables self.old.keeper) (K.tables self.new.keeper)
-            (AreNamed forgotten.new) }
+        ensures listed { Becomes (K.tables self.old.keeper) (K.tables self.new.keeper)
+            (AreListed forgotten.new) }
+        ensures forgotten { OnOk result (WhereKnown (K.tables self.old.keeper)
+            (λ t. AreForgotten fleet t forgotten.old forgotten.new)) }
+        ensures behind { AreBehind forgotten.old forgotten.new }
         ensures fleet { self.new.fleet ≡ fleet }
     {
         self.fleet = fleet;

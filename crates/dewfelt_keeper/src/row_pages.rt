@@ -1,10 +1,10 @@
 //! Pages of rows.
 
-ghost use Rattle.std.specs.Prelude.{◌≡◌, ◌≤◌, ◌<◌, ◌+◌, ◌*◌, ◌^◌, ◌++◌, ℕ, List, IfOk, IfSome, length, take};
+ghost use Rattle.std.specs.Prelude.{◌≡◌, ◌≤◌, ◌<◌, ◌+◌, ◌^◌, ◌++◌, ℕ, List, IfOk, IfSome, length, take};
 ghost use Rattle.jt_store.specs.declared.row.Row.{Row as Stored};
 ghost use Rattle.jt_store.specs.Tables.{Reads, Rises};
 ghost use Rattle.jt_value.specs.Sameness.{key_of};
-ghost use Rattle.dewfelt_keeper.specs.RowPages.{AddsFrom, next_of, pages, rows_at};
+ghost use Rattle.dewfelt_keeper.specs.RowPages.{AddsFrom, next_of, pages, room_of, rows_at};
 
 use jt_store::{Keeper, Row, StoreError};
 use jt_value::Phone;
@@ -58,13 +58,14 @@ pub fn page_of_rows<K: Keeper>(
     Ok(page)
 }
 
-/// Pages, each asked for from the number behind the last row of the one before, are all rows, each once: a page and what follows from
-/// there on are the rows from its number on, and so many pages of so many rows are, where they have room for them.
+/// Pages, each asked for from the number behind the last row of the one before, are all rows, each once: a page and what follows
+/// from there on are the rows from its number on, also those that came meanwhile; and so are pages of any sizes that have room for
+/// them, of rows that stand still.
 pub fn law_row_pages()
-    ensures one { (from most : ℕ) (rows : List Stored) → Rises 0 rows → rows_at from rows
-        ≡ take most (rows_at from rows)
-        ++ rows_at (next_of from (take most (rows_at from rows))) rows }
-    ensures all { (count most from : ℕ) (rows : List Stored) → Rises 0 rows →
-        length (rows_at from rows) ≤ count * most → pages count most from rows ≡ rows_at from rows }
+    ensures one { (from most : ℕ) (rows more : List Stored) → Rises 0 (rows ++ more) →
+        rows_at from (rows ++ more) ≡ take most (rows_at from rows)
+        ++ rows_at (next_of from (take most (rows_at from rows))) (rows ++ more) }
+    ensures all { (sizes : List ℕ) (from : ℕ) (rows : List Stored) → Rises 0 rows →
+        length (rows_at from rows) ≤ room_of sizes → pages sizes from rows ≡ rows_at from rows }
     ensures whole { (rows : List Stored) → rows_at 0 rows ≡ rows }
 {}

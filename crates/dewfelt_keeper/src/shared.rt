@@ -28,9 +28,9 @@ pub struct SharedKeeper<R, K> {
 impl<R, K> Model for SharedKeeper<R, K> {
     ghost use Rattle.std.specs.Prelude.{◌≤◌, ◌-◌, ◌^◌, ℕ};
     ghost use Rattle.jt_value.specs.declared.limits.TheConstants.{ROW_LIMIT};
-    ghost use Rattle.dewfelt_keeper.specs.Shared.{Seen};
+    ghost use Rattle.dewfelt_keeper.specs.Shared.{SharedValue};
 
-    ghost Value = { Seen };
+    ghost Value = { SharedValue };
 
     ghost view = { λ s. record { limit = s.limit; faults = s.faults } };
 

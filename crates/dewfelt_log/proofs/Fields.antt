@@ -3,7 +3,7 @@ use Rattle.std.specs.Prelude.{◌==◌, nat_lt, nat_le, if◌then◌else◌}
 use Rattle.std.proofs.Common.{◌≡◌, ℕ, ◌+◌, ◌/◌, ◌%◌, ◌<◌, ◌≤◌, Bool, true, false, List, [], ◌∷◌, ◌++◌, map, refl, ap, sym, ◌∙◌, arith}
 use Rattle.std.specs.List.{flat_map}
 use Rattle.std.proofs.lemmas.Bool.{ne_eqb, ltb-true, ltb-false, le-leb}
-use Rattle.dewfelt_log.specs.Logfmt.{Stand, Before, InKey, AtValue, InBare, InQuotes, Escaped, Behind, Between, Lost, step, begin_key, end_value, after, is_letter, letter, is_bare, digit, escaped, all_bare, is_empty, shown, key_text, pair, are_fields, ends_field, AreLines}
+use Rattle.dewfelt_log.specs.Logfmt.{Stand, Before, InKey, AtValue, InBare, InQuotes, Escaped, Behind, Between, Lost, step, begin_key, end_value, after, is_letter, letter, is_bare, digit, escaped, all_bare, is_empty, shown, key_text, field, are_fields, ends_field, AreLines}
 
 pub after_append : (s : Stand) (xs ys : List ℕ) → after s (xs ++ ys) ≡ after (after s xs) ys
 after_append s [] ys = refl
@@ -107,13 +107,13 @@ shown_after : (value : List ℕ) → ends_field (after AtValue (shown value)) �
 shown_after [] = refl
 shown_after (o ∷ os) = shown_case (all_bare (o ∷ os)) o os refl
 
-pair_after : (s : Stand) (key value : List ℕ) → after s (key_text key) ≡ InKey → ends_field (after s (pair key value)) ≡ true
-pair_after s key value h =
+field_after : (s : Stand) (key value : List ℕ) → after s (key_text key) ≡ InKey → ends_field (after s (field key value)) ≡ true
+field_after s key value h =
     ap ends_field (after_append s (key_text key) (61 ∷ shown value) ∙ ap (λ t. after t (61 ∷ shown value)) h) ∙ shown_after value
 
 -- the first field of a line
-pub pair_is_field : (key value : List ℕ) → are_fields (pair key value) ≡ true
-pair_is_field key value = pair_after Before key value (key_before key)
+pub one_field : (key value : List ℕ) → are_fields (field key value) ≡ true
+one_field key value = field_after Before key value (key_before key)
 
 space_case : (s : Stand) → ends_field s ≡ true → step s 32 ≡ Between
 space_case InBare h = refl
@@ -138,10 +138,10 @@ feed_case Between h = absurd (cc h)
 feed_case Lost h = absurd (cc h)
 
 -- one field more
-pub more_fields : (line key value : List ℕ) → are_fields line ≡ true → are_fields (line ++ 32 ∷ pair key value) ≡ true
+pub more_fields : (line key value : List ℕ) → are_fields line ≡ true → are_fields (line ++ 32 ∷ field key value) ≡ true
 more_fields line key value h =
-    ap ends_field (after_append Before line (32 ∷ pair key value) ∙ ap (λ s. after s (pair key value)) (space_case (after Before line) h))
-    ∙ pair_after Between key value (key_between key)
+    ap ends_field (after_append Before line (32 ∷ field key value) ∙ ap (λ s. after s (field key value)) (space_case (after Before line) h))
+    ∙ field_after Between key value (key_between key)
 
 -- the end of a line
 pub line_ends : (line : List ℕ) → are_fields line ≡ true → AreLines (line ++ 10 ∷ [])

@@ -1,5 +1,6 @@
 -- Lines of fields in logfmt: this project's own form. To be believed.
-use Rattle.std.specs.Prelude.{◌≡◌, ℕ, ◌+◌, ◌/◌, ◌%◌, Bool, true, false, ◌==◌, ◌&&◌, ◌||◌, nat_lt, nat_le, if◌then◌else◌, List, [], ◌∷◌, ◌++◌, flat_map, map, length, take, slice_index, not, min, ◌^◌, ◌-◌, ◌⊎◌}
+use Rattle.std.specs.Prelude.{◌≡◌, ℕ, ◌+◌, ◌/◌, ◌%◌, Bool, true, false, ◌==◌, ◌&&◌, ◌||◌, nat_lt, nat_le, if◌then◌else◌, List, [], ◌∷◌, ◌++◌, flat_map, map, length, take, slice_index, not, min, ◌^◌, ◌-◌, ◌⊎◌, ◌≤◌, codes}
+use Rattle.dewfelt_log.specs.Time.{Tells}
 
 -- a letter of a key: a to z and _
 abbrev pub is_letter : ℕ → Bool
@@ -100,8 +101,8 @@ abbrev pub key_text : List ℕ → List ℕ
 key_text key = if is_empty key then 95 ∷ [] else map letter key
 
 -- a field
-abbrev pub pair : List ℕ → List ℕ → List ℕ
-pair key value = key_text key ++ (61 ∷ shown value)
+abbrev pub field : List ℕ → List ℕ → List ℕ
+field key value = key_text key ++ (61 ∷ shown value)
 
 -- an octet that goes on a character that began before it, in UTF-8
 abbrev pub goes_on : ℕ → Bool
@@ -120,21 +121,23 @@ shown_length value =
 abbrev pub front : List ℕ → List ℕ
 front value = take (shown_length value) value
 
+-- the time of a line and its event, with which it begins
+abbrev pub Begins : ℕ → List ℕ → List ℕ → Type 0
+Begins seconds event line =
+    (time : List ℕ) × Tells seconds time
+    × (line ≡ field (codes "time") time ++ 32 ∷ field (codes "event") (front event))
+
 -- where the line is whole then, a field came to it behind a space
 abbrev pub Adds : List ℕ → List ℕ → Bool → List ℕ → List ℕ → Type 0
-Adds key value is_whole old new = is_whole ≡ true → new ≡ old ++ 32 ∷ pair key (front value)
+Adds key value is_whole old new = is_whole ≡ true → new ≡ old ++ 32 ∷ field key (front value)
 
--- a line came to the lines that wait, with its line feed; or it was let go, and counted
-abbrev pub Puts : List ℕ → List ℕ → ℕ → List ℕ → ℕ → Type 0
-Puts line old lost new lost_then =
-    ((new ≡ old ++ (line ++ 10 ∷ [])) × (lost_then ≡ lost))
+-- a line that is whole and has room came to the lines that wait, with its line feed; or a line was let go, and counted: memory
+-- may be refused at any time, so that any line may be lost
+abbrev pub Puts : List ℕ → Bool → List ℕ → ℕ → List ℕ → ℕ → Type 0
+Puts line is_whole old lost new lost_then =
+    ((is_whole ≡ true) × (length new ≤ 2 ^ 18) × (new ≡ old ++ (line ++ 10 ∷ [])) × (lost_then ≡ lost))
     ⊎ ((new ≡ old) × (lost_then ≡ min (lost + 1) (2 ^ 64 - 1)))
 
 -- two hexadecimal digits
 abbrev pub two_hex : ℕ → List ℕ
 two_hex octet = digit (octet / 16) ∷ digit (octet % 16) ∷ []
-
--- printable characters of ASCII alone
-abbrev pub is_ascii : List ℕ → Bool
-is_ascii [] = true
-is_ascii (octet ∷ octets) = if nat_le 32 octet && nat_lt octet 127 then is_ascii octets else false

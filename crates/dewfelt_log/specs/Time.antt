@@ -1,6 +1,6 @@
 -- Moments as text, as `2026-11-30T15:05:02+08:00`: the form of ISO 8601, in the standard's time zone. To be believed.
 use Rattle.std.specs.Prelude.{◌≡◌, ℕ, ◌+◌, ◌/◌, ◌%◌, pos, ◌+ℤ◌, ◌*ℤ◌, unsigned_abs, ◌⊎◌, List, [], ◌∷◌, ◌++◌}
-use Rattle.jiff.specs.Words.{civil_nanos, nanos_of_seconds}
+use Rattle.jiff.specs.Words.{IsTimestampNanos, civil_nanos, nanos_of_seconds}
 use Rattle.jiff.specs.declared.civil.datetimes.DateTime.{DateTime}
 
 -- the two last digits of a number
@@ -19,6 +19,10 @@ abbrev pub IsLocal : ℕ → DateTime → Type 0
 IsLocal seconds moment =
     civil_nanos moment ≡ (pos seconds *ℤ pos 1_000_000_000) +ℤ nanos_of_seconds (pos 28_800)
 
+-- jiff has no timestamp of it
+abbrev pub IsTooLate : ℕ → Type 0
+IsTooLate seconds = IsTimestampNanos (pos seconds *ℤ pos 1_000_000_000) → ⊥
+
 -- a date and a time of day as text
 abbrev pub stamp_of : DateTime → List ℕ
 stamp_of moment =
@@ -26,8 +30,8 @@ stamp_of moment =
     (unsigned_abs (pos moment.date.day)) (unsigned_abs (pos moment.time.hour))
     (unsigned_abs (pos moment.time.minute)) (unsigned_abs (pos moment.time.second))
 
--- the text of a moment: what clocks show then, or zeros (when is not said)
+-- the text of a moment: what clocks show then; zeros of one that jiff has no timestamp for, from 9999-12-30T22:00:01Z on
 abbrev pub Tells : ℕ → List ℕ → Type 0
 Tells seconds text =
     ((moment : DateTime) × IsLocal seconds moment × (text ≡ stamp_of moment))
-    ⊎ (text ≡ stamp 0 0 0 0 0 0)
+    ⊎ (IsTooLate seconds × (text ≡ stamp 0 0 0 0 0 0))

@@ -60,7 +60,7 @@ impl Outbox {
 
     /// Puts a line at the end, or counts it as lost where there is no room, or memory was refused for it.
     pub fn put(&mut self, line: Line)
-        ensures { Puts line.octets.items self.old.lines.items self.old.lost
+        ensures { Puts line.octets.items line.is_whole self.old.lines.items self.old.lost
             self.new.lines.items self.new.lost }
     {
         match line.end() {

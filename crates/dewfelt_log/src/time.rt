@@ -1,7 +1,7 @@
 //! Moments as text, in the standard's time zone.
 
-ghost use Rattle.std.specs.Prelude.{◌≡◌, ◌<◌, IfSome};
-ghost use Rattle.dewfelt_log.specs.Time.{two_digits, stamp, stamp_of, IsLocal, Tells};
+ghost use Rattle.std.specs.Prelude.{◌≡◌, ◌<◌, MatchOption};
+ghost use Rattle.dewfelt_log.specs.Time.{two_digits, stamp, stamp_of, IsLocal, IsTooLate, Tells};
 
 use jiff::Timestamp;
 use jiff::civil::DateTime;
@@ -18,7 +18,7 @@ fn digits(number: u16) -> [u8; 2]
 }
 
 fn local(seconds: u64) -> Option<DateTime>
-    ensures { IfSome result (IsLocal seconds) }
+    ensures { MatchOption result (IsTooLate seconds) (IsLocal seconds) }
 {
     let timestamp = Timestamp::from_second(i64::try_from(seconds).ok()?).ok()?;
     let offset = Offset::from_hours(HOURS).ok()?;
@@ -54,8 +54,8 @@ fn text_at(moment: DateTime) -> [u8; 25]
     )
 }
 
-/// A moment in seconds since 1970-01-01T00:00:00Z as `2026-11-30T15:05:02+08:00`. A moment beyond the year 9999 is shown as the
-/// year 0.
+/// A moment in seconds since 1970-01-01T00:00:00Z as `2026-11-30T15:05:02+08:00`. A moment from
+/// 9999-12-30T22:00:01Z on is shown as zeros.
 pub fn time_text(seconds: u64) -> [u8; 25]
     ensures { Tells seconds result }
 {

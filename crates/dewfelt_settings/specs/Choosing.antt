@@ -1,8 +1,8 @@
 -- What a value chooses: this project's own. To be believed.
-use Rattle.std.specs.Prelude.{◌≡◌, ◌≢◌, ◌⊎◌, ℕ, Bool, true, false, if◌then◌else◌, List, codes, Option, Some, None, is_some, IsTrue, take, MatchOption}
+use Rattle.std.specs.Prelude.{◌≡◌, ◌≢◌, ◌⊎◌, ℕ, Bool, false, List, [], ◌∷◌, codes, Option, Some, None, is_some, IsTrue, take, MatchOption}
 use Rattle.std.specs.Str.{bytes_eq}
 use Rattle.std.specs.Net.Grammar.{IsSocketText}
-use Rattle.std.specs.Net.Addr.{MatchIp, IsUnspecifiedV4, IsLoopbackV4}
+use Rattle.std.specs.Net.Addr.{MatchIp, IsUnspecifiedV4, ipv4_octets}
 use Rattle.std.specs.Net.Socket.{socket_ip, socket_port}
 use Rattle.std.specs.declared.net.socket_addr.SocketAddr.{SocketAddr}
 use Rattle.dewfelt_settings.specs.declared.key.Key.{Key}
@@ -77,7 +77,7 @@ WithText choices Http text found =
     (λ next. (place : Place) × IsHttp text place × (next ≡ record choices { http = Some place }))
 WithText choices HttpName text found =
     MatchOption found (IsHostName text → ⊥)
-    (λ next. (name : HostName) × (take name.count name.octets ≡ text)
+    (λ next. IsHostName text × (name : HostName) × (take name.count name.octets ≡ text)
     × (next ≡ record choices { http_name = Some name }))
 WithText choices _ text found = found ≡ None
 
@@ -94,7 +94,8 @@ or_else None file = file
 
 -- 127.0.0.1, the machine itself
 abbrev pub IsHere : SocketAddr → Type 0
-IsHere address = MatchIp (socket_ip address) IsLoopbackV4 (λ ip. ⊥)
+IsHere address =
+    MatchIp (socket_ip address) (λ ip. ipv4_octets ip ≡ 127 ∷ 0 ∷ 0 ∷ 1 ∷ []) (λ ip. ⊥)
 
 -- 0.0.0.0: every address of IPv4 that the machine has
 abbrev pub IsAnywhere : SocketAddr → Type 0

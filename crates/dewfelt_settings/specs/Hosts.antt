@@ -1,7 +1,6 @@
--- Names of hosts: this project's own form. To be believed.
-use Rattle.std.specs.Prelude.{ℕ, Bool, ◌≤◌, ◌||◌, ◌&&◌, nat_le, IsTrue, List, codes, length}
+-- Names of hosts, with their ports: this project's own form, wider than that of RFC 1123 but for its length. To be believed.
+use Rattle.std.specs.Prelude.{ℕ, Bool, ◌≤◌, ◌||◌, ◌&&◌, nat_eq, nat_le, IsTrue, List, codes, length}
 use Rattle.std.specs.List.{list_all, list_any}
-use Rattle.std.specs.Prelude.{nat_eq}
 
 -- a small letter, a digit, or one of six signs
 abbrev pub is_host_octet : ℕ → Bool

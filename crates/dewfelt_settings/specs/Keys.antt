@@ -1,6 +1,5 @@
 -- The names of the settings: this project's own. To be believed.
-use Rattle.std.specs.Prelude.{ℕ, if◌then◌else◌, List, codes, Option, Some, None}
-use Rattle.std.specs.Str.{bytes_eq}
+use Rattle.std.specs.Prelude.{◌≡◌, ◌≢◌, ℕ, List, codes, Option, MatchOption}
 use Rattle.dewfelt_settings.specs.declared.key.Key.{Key}
 use Rattle.dewfelt_settings.specs.declared.key.Key.TheVariants.{Listen, Links, Quiet, Strangers, StrangersOfAddress, Http, HttpName}
 
@@ -24,14 +23,7 @@ option_of StrangersOfAddress = codes "strangers-of-address"
 option_of Http = codes "http"
 option_of HttpName = codes "http-name"
 
--- the setting of this name; the two that have more words are spelled so
-unfoldable pub named_with : List ℕ → List ℕ → List ℕ → Option Key
-named_with of_address http_name name =
-    if bytes_eq name (codes "listen") then Some Listen
-    else if bytes_eq name (codes "links") then Some Links
-    else if bytes_eq name (codes "quiet") then Some Quiet
-    else if bytes_eq name (codes "strangers") then Some Strangers
-    else if bytes_eq name (codes "http") then Some Http
-    else if bytes_eq name of_address then Some StrangersOfAddress
-    else if bytes_eq name http_name then Some HttpName
-    else None
+-- the setting that is spelled so; None where none is
+abbrev pub IsSpelled : (Key → List ℕ) → List ℕ → Option Key → Type 0
+IsSpelled spell name found =
+    MatchOption found ((key : Key) → spell key ≢ name) (λ key. spell key ≡ name)

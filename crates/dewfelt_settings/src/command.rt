@@ -1,9 +1,10 @@
 //! The words of the command line.
 
-ghost use Rattle.std.specs.Prelude.{◌≡◌, ◌≤◌, true, None, [], length, codes, IfOk, IfErr, IsErr, IsErrAnd};
+ghost use Rattle.std.specs.Prelude.{◌≡◌, ◌≢◌, ◌≤◌, true, [], length, IfOk, IfErr, IsErr, IsErrAnd};
 ghost use Rattle.dewfelt_settings.specs.Causes.{is_of_words};
 ghost use Rattle.dewfelt_settings.specs.Choosing.{has_choice};
-ghost use Rattle.dewfelt_settings.specs.Keys.{named_with};
+ghost use Rattle.dewfelt_settings.specs.Keys.{option_of};
+ghost use Rattle.dewfelt_settings.specs.declared.key.Key.{Key as OneKey};
 ghost use Rattle.dewfelt_settings.specs.declared.wrong.Cause.TheVariants as causes;
 
 use crate::{Cause, Choices, Form, Key, Wrong, phone_of};
@@ -118,7 +119,7 @@ fn take_named<'w>(
     value: &str,
 ) -> Result<Told<'w>, Wrong>
     ensures cause { IfErr result (λ wrong. is_of_words wrong.cause ≡ true) }
-    ensures unknown { named_with (codes "strangers-of-address") (codes "http-name") name.now ≡ None →
+    ensures unknown { ((key : OneKey) → option_of key ≢ name.now) →
         IsErrAnd result (λ wrong. wrong.cause ≡ causes.Option) }
 {
     match Key::of_option(name.as_bytes()) {

@@ -1,9 +1,10 @@
 //! The text of dewfelt.toml.
 
-ghost use Rattle.std.specs.Prelude.{◌≡◌, true, None, codes, IfOk, IfErr, IsErrAnd, IsSome, IsUtf8};
+ghost use Rattle.std.specs.Prelude.{◌≡◌, ◌≢◌, true, IfOk, IfErr, IsErrAnd, IsSome, IsUtf8};
 ghost use Rattle.toml.specs.Parse.{parse_document};
 ghost use Rattle.dewfelt_settings.specs.Causes.{is_of_file};
-ghost use Rattle.dewfelt_settings.specs.Keys.{named_with};
+ghost use Rattle.dewfelt_settings.specs.Keys.{name_of};
+ghost use Rattle.dewfelt_settings.specs.declared.key.Key.{Key as OneKey};
 ghost use Rattle.dewfelt_settings.specs.declared.wrong.Cause.TheVariants as causes;
 
 use crate::{Cause, Choices, Key, Wrong};
@@ -22,7 +23,7 @@ fn with_value(choices: Choices, key: Key, value: &Value) -> Option<Choices> {
 // The choices, with what an entry of the table chooses.
 fn take_entry(alloc: Global, choices: Choices, name: &str, value: &Value) -> Result<Choices, Wrong>
     ensures cause { IfErr result (λ wrong. is_of_file wrong.cause ≡ true) }
-    ensures unknown { named_with (codes "strangers_of_address") (codes "http_name") name.now ≡ None →
+    ensures unknown { ((key : OneKey) → name_of key ≢ name.now) →
         IsErrAnd result (λ wrong. wrong.cause ≡ causes.Key) }
 {
     let Some(key) = Key::named(name.as_bytes()) else {

@@ -1,6 +1,7 @@
 //! Names of hosts.
 
 ghost use Rattle.std.specs.Prelude.{◌≡◌, ◌≤◌, length, take, MatchOption};
+ghost use Rattle.std.specs.List.{list_all};
 ghost use Rattle.dewfelt_settings.specs.Hosts.{IsHostName, is_host_octet};
 
 /// The most octets that a host's name has, with its port (this project's own).
@@ -22,6 +23,13 @@ fn is_host_octet(octet: u8) -> bool
     octet.is_ascii_lowercase() || octet.is_ascii_digit() || b".-_:[]".contains(&octet)
 }
 
+// Whether a name may have all of these octets.
+fn are_host_octets(octets: &[u8]) -> bool
+    ensures { result ≡ list_all is_host_octet octets.now }
+{
+    octets.iter().all(|octet| is_host_octet(*octet))
+}
+
 // The name of these octets.
 fn kept(octets: &[u8]) -> HostName
     requires { length octets.now ≤ 128 }
@@ -37,16 +45,17 @@ fn kept(octets: &[u8]) -> HostName
 }
 
 impl HostName {
-    /// The name of this text: 1 to 128 small letters, digits, `.`, `-`, `_`, and `:`, `[` and `]` of a port and of an address of IPv6.
+    /// The name of this text: 1 to 128 small letters, digits, `.`, `-`, `_`, and `:`, `[` and `]` of a port and of an address of
+    /// IPv6, in any order. What is no name of a host is taken too: no browser sends it.
     pub fn of(text: &str) -> Option<HostName>
         ensures { MatchOption result (IsHostName text.now → ⊥)
-            (λ name. take name.count name.octets ≡ text.now) }
+            (λ name. IsHostName text.now × (take name.count name.octets ≡ text.now)) }
     {
         let octets = text.as_bytes();
         if octets.is_empty() || octets.len() > HOST_ROOM {
             return None;
         }
-        if !octets.iter().all(|octet| is_host_octet(*octet)) {
+        if !are_host_octets(octets) {
             return None;
         }
         Some(kept(octets))

@@ -1,6 +1,7 @@
 //! The names of the settings.
 
-ghost use Rattle.std.specs.Prelude.{◌≡◌, codes};
+ghost use Rattle.std.specs.Prelude.{◌≡◌};
+ghost use Rattle.std.specs.Str.{bytes_eq};
 
 /// A setting that has a value. Its name is a key of dewfelt.toml, and with `-` for `_` an option.
 #[derive(Clone, Copy)]
@@ -21,50 +22,44 @@ pub enum Key {
     HttpName,
 }
 
-impl Key {
-    ghost use Rattle.dewfelt_settings.specs.Keys.{name_of, option_of, named_with};
+// All settings.
+const KEYS: [Key; 7] = [
+    Key::Listen,
+    Key::Links,
+    Key::Quiet,
+    Key::Strangers,
+    Key::StrangersOfAddress,
+    Key::Http,
+    Key::HttpName,
+];
 
-    // The setting of this name; the two that have more words are spelled so.
-    #[tactic(auto, unfolding(crate::specs::Keys::named_with))]
-    fn named_with(of_address: &[u8], http_name: &[u8], name: &[u8]) -> Option<Key>
-        ensures { result ≡ named_with of_address.now http_name.now name.now }
-    {
-        if name == b"listen".as_slice() {
-            return Some(Key::Listen);
-        }
-        if name == b"links".as_slice() {
-            return Some(Key::Links);
-        }
-        if name == b"quiet".as_slice() {
-            return Some(Key::Quiet);
-        }
-        if name == b"strangers".as_slice() {
-            return Some(Key::Strangers);
-        }
-        if name == b"http".as_slice() {
-            return Some(Key::Http);
-        }
-        if name == of_address {
-            return Some(Key::StrangersOfAddress);
-        }
-        if name == http_name {
-            return Some(Key::HttpName);
-        }
-        None
-    }
+impl Key {
+    ghost use Rattle.dewfelt_settings.specs.Keys.{IsSpelled, name_of, option_of};
 
     /// The setting of this name in dewfelt.toml.
     pub fn named(name: &[u8]) -> Option<Key>
-        ensures { result ≡ named_with (codes "strangers_of_address") (codes "http_name") name.now }
+        ensures { IsSpelled name_of name.now result }
     {
-        Key::named_with(b"strangers_of_address", b"http_name", name)
+        KEYS.iter().copied().find(|key| key.is_named(name))
     }
 
     /// The setting whose option has this name, without its two dashes.
     pub fn of_option(option: &[u8]) -> Option<Key>
-        ensures { result ≡ named_with (codes "strangers-of-address") (codes "http-name") option.now }
+        ensures { IsSpelled option_of option.now result }
     {
-        Key::named_with(b"strangers-of-address", b"http-name", option)
+        KEYS.iter().copied().find(|key| key.has_option(option))
+    }
+
+    fn is_named(&self, name: &[u8]) -> bool
+        ensures { result ≡ bytes_eq (name_of self.now) name.now }
+    {
+        self.name().as_bytes() == name
+    }
+
+    fn has_option(&self, option: &[u8]) -> bool
+        ensures { result ≡ bytes_eq (option_of self.now) option.now }
+    {
+        self.option().as_bytes() == option
     }
 
     /// Its name in dewfelt.toml.

@@ -1,6 +1,6 @@
-use Rattle.dewfelt_keeper.proofs.Calls.{named_still}
+use Rattle.dewfelt_keeper.proofs.Calls.{listed_still}
 use Rattle.dewfelt_keeper.proofs.applying.settle.Goals as goal
 
-pub returns-clause-named : goal.returns-clause-named
-returns-clause-named g c =
-    named_still _ _ _ (g.K.Keeper.tables c.forget_others.new.keeper) _ c.forget_others.ensures.names c.register_bound.ensures.stays
+pub returns-clause-listed : goal.returns-clause-listed
+returns-clause-listed g c =
+    listed_still _ _ (g.K.Keeper.tables c.forget_others.new.keeper) _ c.forget_others.ensures.listed c.register_bound.ensures.stays

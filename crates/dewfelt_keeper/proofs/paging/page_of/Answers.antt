@@ -3,7 +3,7 @@ use Rattle.std.specs.Option.{option_copied, option_map}
 use Rattle.jt_value.specs.declared.phone.Phone.{Phone}
 use Rattle.jt_value.specs.Sameness.{key_of}
 use Rattle.jt_store.specs.Tables.{WhereKnown}
-use Rattle.dewfelt_keeper.specs.Sweeps.{AddsNext}
+use Rattle.dewfelt_keeper.specs.Registries.{AddsNext}
 use Rattle.dewfelt_keeper.proofs.Pages.{page_step}
 use Rattle.dewfelt_keeper.proofs.paging.page_of.Goals as goal
 

@@ -1,4 +1,4 @@
-use Rattle.std.proofs.Common.{◌≡◌, ◌+◌, ◌++◌, ◌∷◌, [], Some, List, sym, subst}
+use Rattle.std.proofs.Common.{◌+◌, Some, List, sym, subst}
 use Rattle.jt_value.specs.Sameness.{key_of}
 use Rattle.jt_store.specs.declared.row.Row.{Row}
 use Rattle.jt_store.specs.Tables.{WhereKnown}

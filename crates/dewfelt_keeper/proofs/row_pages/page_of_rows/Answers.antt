@@ -1,8 +1,8 @@
-use Rattle.std.proofs.Common.{◌≡◌, ◌∙◌, arith, Some, subst}
+use Rattle.std.proofs.Common.{◌∙◌, arith, Some, subst}
 use Rattle.jt_value.specs.Sameness.{key_of}
 use Rattle.jt_store.specs.Tables.{WhereKnown}
 use Rattle.dewfelt_keeper.specs.RowPages.{AddsFrom}
-use Rattle.dewfelt_keeper.proofs.RowPaging.{full_page, grown_more, grown_none, last_page}
+use Rattle.dewfelt_keeper.proofs.RowPaging.{grown_more}
 use Rattle.dewfelt_keeper.proofs.row_pages.page_of_rows.Goals as goal
 
 pub loop-alloc-preserved : goal.loop-alloc-preserved

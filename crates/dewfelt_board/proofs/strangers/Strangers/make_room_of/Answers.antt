@@ -6,8 +6,8 @@ use Rattle.dewfelt_board.specs.Strangers.{count_from}
 use Rattle.dewfelt_board.proofs.Counted.{count_filter_found, count_none}
 use Rattle.dewfelt_board.proofs.strangers.Strangers.make_room_of.Goals as goal
 
-pub returns-in-Some : goal.returns-in-Some
-returns-in-Some c =
+pub returns-in-Some-clause-room : goal.returns-in-Some-clause-room
+returns-in-Some-clause-room c =
     let dropped : not (bytes_eq c.in-Some.oldest.digits c.in-Some.oldest.digits) ≡ false
     = ap not ((bytes_eq-Decides c.in-Some.oldest.digits c.in-Some.oldest.digits).1 refl) in
     let fewer : count_from c.args.address (filter (λ (it : Stranger). not (bytes_eq it.digits c.in-Some.oldest.digits)) c.args.self.now.list.items) + 1 ≤ count_from c.args.address c.args.self.now.list.items
@@ -17,8 +17,8 @@ returns-in-Some c =
     let most : count_from c.args.address c.args.self.now.list.items ≤ 5 = c.args.self.now.most_of_address c.args.address in
     omega arith
 
-pub returns-in-None : goal.returns-in-None
-returns-in-None c =
+pub returns-in-None-clause-room : goal.returns-in-None-clause-room
+returns-in-None-clause-room c =
     let none : count_from c.args.address c.args.self.now.list.items ≡ 0
     = count_none (λ (it : Stranger). nat_eq it.address c.args.address) c.args.self.now.list.items (sym c.in-None.ensures) in
     omega arith
