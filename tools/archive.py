@@ -14,7 +14,6 @@ Each row goes exactly once, whatever is killed: run the tool again. One file, on
 
 The status is 0; 1 where something is in the way, which is told with what to do; 2 where the words are wrong.
 """
-import argparse
 import bisect
 import contextlib
 import fcntl
@@ -29,6 +28,7 @@ import time
 import urllib.parse
 
 sys.dont_write_bytecode = True
+import command_line  # noqa: E402
 import positions  # noqa: E402
 from archive_database import Database  # noqa: E402
 from archive_folder import Folder, sync  # noqa: E402
@@ -373,7 +373,7 @@ def let_go(words, plans, told):
 
 
 def parser():
-    asked = argparse.ArgumentParser(description=__doc__, formatter_class=argparse.RawDescriptionHelpFormatter)
+    asked = command_line.Words(__doc__)
     asked.add_argument("file", nargs="?", default="platform.db", help="the platform's file (default: platform.db)")
     asked.add_argument("--name", required=True, help="of the platform in the database and in the folder: one file, one name")
     asked.add_argument("--database", metavar="DSN", help='of PostgreSQL, as "host=db dbname=fleet user=jt808"; "" where the environment says it')
@@ -448,4 +448,4 @@ def main(given):
 
 
 if __name__ == "__main__":
-    sys.exit(main(sys.argv[1:]))
+    command_line.run(main, sys.argv[1:])

@@ -10,7 +10,6 @@ still be a fix.) Rows that were not copied into the database are not among them:
 
 The status is 0; 1 where something is in the way, which is told with what to do; 2 where the words are wrong.
 """
-import argparse
 import contextlib
 import os
 import sqlite3
@@ -18,6 +17,7 @@ import sys
 import tempfile
 
 sys.dont_write_bytecode = True
+import command_line  # noqa: E402
 import positions  # noqa: E402
 from archive_database import Link  # noqa: E402
 from archive_rows import Stop  # noqa: E402
@@ -58,7 +58,7 @@ def write(link, words, recorded):
 
 
 def words_of(given):
-    asked = argparse.ArgumentParser(description=__doc__, formatter_class=argparse.RawDescriptionHelpFormatter)
+    asked = command_line.Words(__doc__)
     asked.add_argument("--phone", required=True, help="its digits; zeros at its front may be left out")
     asked.add_argument("--name", required=True, help="of the platform in the database")
     asked.add_argument("--database", required=True, metavar="DSN")
@@ -73,6 +73,7 @@ def main(given):
             write(link, words, recorded_in(words.terminal))
         return 0
     except BrokenPipeError:
+        # (the lines that were not written are wanted)
         os.dup2(os.open(os.devnull, os.O_WRONLY), 1)
         return 1
     except Stop as stop:
@@ -84,4 +85,4 @@ def main(given):
 
 
 if __name__ == "__main__":
-    sys.exit(main(sys.argv[1:]))
+    command_line.run(main, sys.argv[1:])

@@ -1,7 +1,10 @@
 #!/usr/bin/python3
-"""Tests of tools/archive.py over a PostgreSQL that this starts on loopback, by hand: tools/archive_trial.py. With a number it
-measures in place of that: tools/archive_trial.py 1000000 moves so many rows of 1,000 phones. The shapes are tested where PostGIS is
-installed (Debian's postgresql-15-postgis-3), and each driver of psycopg and psycopg2 that is.
+"""Tests tools/archive.py over a PostgreSQL that this starts on loopback, by hand.
+
+    tools/archive_trial.py [TEST ..]         all tests, or those of these names, as Class or Class.test
+    tools/archive_trial.py --measure ROWS    moves so many rows of 1,000 phones, and says what that took
+
+The shapes are tested where PostGIS is installed (Debian's postgresql-15-postgis-3), and each driver of psycopg and psycopg2 that is.
 """
 import contextlib
 import datetime
@@ -24,9 +27,10 @@ sys.dont_write_bytecode = True
 import archive  # noqa: E402
 import archive_database  # noqa: E402
 import archive_fixes  # noqa: E402
+import command_line  # noqa: E402
 import open_times  # noqa: E402
 from archive_rows import CHINA, Unit  # noqa: E402
-from postgres_server import Server  # noqa: E402
+from postgres_server import Server, folder_of_programs  # noqa: E402
 from test_archive import numbers_in, rows_of  # noqa: E402
 from test_positions import FIXES, OTHER, PHONE, ROWS, batch, fix, make  # noqa: E402
 
@@ -364,7 +368,16 @@ def measure(rows):
         return ran.returncode
 
 
+def main():
+    asked = command_line.Words(__doc__)
+    asked.add_argument("--measure", metavar="ROWS", type=command_line.positive)
+    asked.add_argument("tests", metavar="TEST", nargs="*")
+    words = asked.parse_args()
+    folder_of_programs()
+    if words.measure is not None:
+        return measure(words.measure)
+    return 0 if unittest.main(argv=[sys.argv[0], *words.tests], exit=False).result.wasSuccessful() else 1
+
+
 if __name__ == "__main__":
-    if len(sys.argv) == 2 and sys.argv[1].isdecimal():
-        sys.exit(measure(int(sys.argv[1])))
-    unittest.main()
+    command_line.run(main)

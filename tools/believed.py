@@ -22,6 +22,7 @@ HERE = os.path.dirname(os.path.realpath(__file__))
 sys.path.insert(0, HERE)
 sys.dont_write_bytecode = True
 import clauses  # noqa: E402
+import command_line  # noqa: E402
 
 ROOTS = {
     "run": ["jt_cli:run"],
@@ -201,7 +202,7 @@ def starts_of(root):
     crate, _, name = root.partition(":")
     calls = [call for call in clauses.public_calls(crate) if not name or name in (call.name, call.fn)]
     if not calls:
-        sys.exit(f"{crate} has no public call {name}")
+        raise command_line.Mistake(f"{crate} has no public call {name}: tools/clauses.py --list {crate} has them")
     found = set()
     for call in calls:
         words = words_in(" ".join(said for kind, _, said in call.clauses if kind != "//"))
@@ -260,9 +261,12 @@ def sums(starts):
             f"of which {sum(counts.get(path, 0) for path in steps)} are reached")
 
 
-def main(words):
-    short = "--short" in words
-    words = [word for word in words if word != "--short"]
+def main(given):
+    asked = command_line.Words(__doc__)
+    asked.add_argument("--short", action="store_true", help="the sums alone")
+    asked.add_argument("words", metavar="CRATE:CALL", nargs="*")
+    read = asked.parse_args(given)
+    short, words = read.short, read.words
     groups = {word: [word] for word in words} or ROOTS
     starts = {name: set().union(*map(starts_of, roots)) for name, roots in groups.items()}
     together = set().union(*starts.values())
@@ -277,4 +281,4 @@ def main(words):
 
 
 if __name__ == "__main__":
-    main(sys.argv[1:])
+    command_line.run(main, sys.argv[1:])

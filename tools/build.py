@@ -3,12 +3,13 @@
 
     tools/build.py [jt808|dewfelt]
 
-Without a name it is jt808. The crate with the most lines above it goes first, and a crate gets the processors that no other
+It needs a Rattle kit (`rt` on the path). Without a name it is jt808. The crate with the most lines above it goes first, and a crate gets the processors that no other
 waits for, as far as memory holds: as under `rt ci`, by the lanes of the kit's own rt. Where that has none, `rt all check` gives
 each crate one processor. It says on standard error which crate of how many is proved, and how long after the start. What is
 proved is kept: after an interrupt it goes on where it was. The exit status is 0, 1 where a crate is not proved, or 2 where no
-program has that name.
+program has that name or no kit is there.
 """
+import argparse
 import importlib.machinery
 import importlib.util
 import os
@@ -21,9 +22,12 @@ import tempfile
 import threading
 import time
 
+import command_line
+
 ROOT = os.path.dirname(os.path.dirname(os.path.realpath(__file__)))
 PROGRAMS = ("jt808", "dewfelt")
-PROGRAM = sys.argv[1] if len(sys.argv) > 1 else PROGRAMS[0]
+# The program that is built, and its crate.
+PROGRAM = PROGRAMS[0]
 FOLDER = f"{ROOT}/crates/{PROGRAM}"
 # What the check of a large crate takes, and that of the program, in bytes.
 MEMORY_A_CRATE = 2_500_000_000
@@ -129,6 +133,7 @@ def prove(names, began):
                     say(f"{count} of {len(names)}: {ended[1]}, {time.monotonic() - began:.0f} s after the start")
         except KeyboardInterrupt:
             ran.terminate()
+            say("what is proved is kept, and the next run goes on from there")
             raise
     return ran.returncode, "".join(said)
 
@@ -141,10 +146,21 @@ def link():
     return None if os.access(f"{FOLDER}/out/{PROGRAM}", os.X_OK) else ran.stdout
 
 
+def read_words():
+    """Whether this process is to prove in lanes. Takes the program's name."""
+    global PROGRAM, FOLDER
+    asked = command_line.Words(__doc__)
+    asked.add_argument("program", metavar="jt808|dewfelt", nargs="?", type=command_line.one_of(PROGRAMS), default=PROGRAM)
+    asked.add_argument("step", nargs="?", type=command_line.one_of([IN_LANES]), help=argparse.SUPPRESS)
+    words = asked.parse_args()
+    PROGRAM, FOLDER = words.program, f"{ROOT}/crates/{words.program}"
+    return words.step == IN_LANES
+
+
 def main():
-    if shutil.which("rt") is None:
-        say("rt, the command of a Rattle kit, is not on the path")
-        return 1
+    if read_words():
+        return prove_in_lanes()
+    command_line.want_kit()
     began = time.monotonic()
     status, said = prove(crates(), began)
     if status:
@@ -162,11 +178,4 @@ def main():
 
 
 if __name__ == "__main__":
-    if PROGRAM not in PROGRAMS:
-        print(__doc__, file=sys.stderr)
-        sys.exit(2)
-    try:
-        sys.exit(prove_in_lanes() if sys.argv[2:] == [IN_LANES] else main())
-    except KeyboardInterrupt:
-        say("interrupted; what is proved is kept, and the next run goes on from there")
-        sys.exit(130)
+    command_line.run(main)

@@ -13,6 +13,8 @@ import os
 import re
 import sys
 
+import command_line
+
 ROOT = os.path.dirname(os.path.dirname(os.path.realpath(__file__)))
 BLOCK = re.compile(r"^(pub )?(?:unsafe )?(impl|trait)\b")
 CALL = re.compile(r"^\s*(pub )?(?:const )?(?:unsafe )?fn (\w+)")
@@ -210,19 +212,26 @@ def show(call):
     return "\n".join(lines)
 
 
-def main(words):
-    brief = "--list" in words
-    words = [word for word in words if word != "--list"]
-    if not words:
-        sys.exit(__doc__.strip())
+def read_words(given):
+    """The words after the program's name, and whether --list is among them."""
+    asked = command_line.Words(__doc__)
+    asked.add_argument("--list", action="store_true", help="one line a call")
+    asked.add_argument("words", metavar="CRATE|CALL", nargs="+")
+    read = asked.parse_args(given)
+    return read.words, read.list
+
+
+def main(given):
+    words, brief = read_words(given)
     crates = [word for word in words if os.path.isdir(os.path.join(ROOT, "crates", word))]
     names = [word for word in words if word not in crates]
     if not crates or (names and len(crates) > 1):
-        sys.exit(f"no such crate: {' '.join(names)}")
+        raise command_line.Mistake(f"crates/ has no crate {' '.join(names) or ' '.join(words)}: crates.txt has their names")
     for crate in crates:
         calls = [call for call in public_calls(crate) if not names or {call.name, call.fn, call.owner} & set(names)]
         if not calls:
-            sys.exit(f"{crate} has no such public call: {' '.join(names)}") if names else None
+            if names:
+                raise command_line.Mistake(f"{crate} has no public call {' '.join(names)}: tools/clauses.py --list {crate} has them")
         for call in calls:
             print(f"{crate} {call.name}: {' '.join(call.clause_names())}" if brief else show(call) + "\n")
         for place, passed in passed_on(crate)[1]:
@@ -230,4 +239,4 @@ def main(words):
 
 
 if __name__ == "__main__":
-    main(sys.argv[1:])
+    command_line.run(main, sys.argv[1:])

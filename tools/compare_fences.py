@@ -7,14 +7,14 @@
 It prints a line for each track on which both differ, and how many tracks, fixes and alarms of each kind there were. The plain
 program shares nothing with the one that it is compared with: it keeps the whole track, and divides by fractions."""
 
-import argparse
 import random
 import resource
 import subprocess
-import sys
 from collections import Counter
 from datetime import datetime
 from fractions import Fraction
+
+import command_line
 
 LONGITUDE = 113_000_000
 GREATEST = 2**32 - 1
@@ -281,9 +281,9 @@ def speed(program):
 
 
 def main():
-    parser = argparse.ArgumentParser(description=__doc__, formatter_class=argparse.RawDescriptionHelpFormatter)
-    parser.add_argument("--program", default="./jt808")
-    parser.add_argument("--tracks", type=int, default=10_000)
+    parser = command_line.Words(__doc__)
+    parser.add_program()
+    parser.add_argument("--tracks", type=command_line.positive, default=10_000)
     parser.add_argument("--seed", default="1")
     parser.add_argument("--speed", action="store_true")
     told_to = parser.parse_args()
@@ -293,4 +293,4 @@ def main():
 
 
 if __name__ == "__main__":
-    sys.exit(main())
+    command_line.run(main)

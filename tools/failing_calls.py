@@ -8,14 +8,13 @@ to the most. A run of eight fixes without a platform either ends with `store fau
 has are the first fixes, and the next run, without the fault, goes on with as many. It prints how often each end was seen; the
 status is 1 where one is wrong.
 """
-import argparse
 import collections
 import os
 import sqlite3
 import subprocess
-import sys
 import tempfile
 
+import command_line
 import kill_loop
 import refused_files
 
@@ -53,11 +52,11 @@ def end_of(program, call, number):
 
 
 def main():
-    asked = argparse.ArgumentParser(description="Lets each call on the disk fail in a run of report.")
-    root = os.path.dirname(os.path.dirname(os.path.realpath(__file__)))
-    asked.add_argument("--program", default=f"{root}/jt808")
-    asked.add_argument("--most", type=int, default=40)
+    asked = command_line.Words(__doc__)
+    asked.add_program()
+    asked.add_argument("--most", type=command_line.positive, default=40)
     asked = asked.parse_args()
+    command_line.want_command("strace", "strace")
     ends = collections.Counter()
     for call in CALLS:
         for number in range(1, asked.most + 1):
@@ -71,4 +70,4 @@ def main():
 
 
 if __name__ == "__main__":
-    sys.exit(main())
+    command_line.run(main)

@@ -5,9 +5,9 @@
 
 The places of the alarms are those of the fixes that the program's own lines name."""
 
-import argparse
 import subprocess
-import sys
+
+import command_line
 
 LATITUDE, LONGITUDE = 31_000_000, 121_000_000
 
@@ -40,6 +40,8 @@ def track():
 def alarms(program):
     done = subprocess.run([program, "fence"], input=track().encode(), capture_output=True, check=True)
     told = [line.split() for line in done.stdout.decode().splitlines()]
+    if not told:
+        raise command_line.Mistake(f"{program} fence prints nothing: name jt808 by --program")
     return [(int(words[1]), words[2], " ".join(words[3:])) for words in told if words[0] == "fix"], " ".join(told[-1])
 
 
@@ -73,9 +75,9 @@ def drawing(raised, totals):
 
 
 def main():
-    parser = argparse.ArgumentParser(description=__doc__, formatter_class=argparse.RawDescriptionHelpFormatter)
-    parser.add_argument("--program", default="./jt808")
-    parser.add_argument("--to", default="docs/fence.svg")
+    parser = command_line.Words(__doc__)
+    parser.add_program()
+    parser.add_argument("--to", metavar="FILE", default=f"{command_line.ROOT}/docs/fence.svg", help="default: docs/fence.svg")
     told = parser.parse_args()
     raised, totals = alarms(told.program)
     with open(told.to, "w", encoding="utf-8") as file:
@@ -84,4 +86,4 @@ def main():
 
 
 if __name__ == "__main__":
-    sys.exit(main())
+    command_line.run(main)

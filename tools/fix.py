@@ -15,13 +15,14 @@ fix has alarm 0, status bits 0 and 1 (engine on, position valid), 2 in the south
 The status is 0; 1 at the first bad row, which is told on standard error (the lines before it are written); 2 where the words or
 the file are none that this reads.
 """
-import argparse
 import csv
 import datetime
 import decimal
 import os
 import struct
 import sys
+
+import command_line
 
 FIXED = struct.Struct(">IIIIHHH6s")
 IS_ON, IS_VALID, SOUTH, WEST = 1 << 0, 1 << 1, 1 << 2, 1 << 3
@@ -99,7 +100,7 @@ def write(file, to):
 
 
 def main():
-    asked = argparse.ArgumentParser(description="Makes lines of fixes from comma-separated values.")
+    asked = command_line.Words(__doc__)
     asked.add_argument("file", nargs="?", help="time,latitude,longitude,speed; standard input where it is missing")
     name = asked.parse_args().file
     try:
@@ -116,4 +117,4 @@ def main():
 
 
 if __name__ == "__main__":
-    sys.exit(main())
+    command_line.run(main)

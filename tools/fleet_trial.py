@@ -19,7 +19,6 @@ one. The status is 1 where they do not, where the program's end is not, or a cop
 answer took above 2 seconds or a terminal was let in after more than 5, at neither a stall of the disk nor one of the tool (a second
 or more), or resident memory rose by 1 MB or more in the last fifteen minutes of thirty.
 """
-import argparse
 import asyncio
 import contextlib
 import os
@@ -32,10 +31,11 @@ import socket
 import sqlite3
 import statistics
 import subprocess
-import sys
 import tempfile
 import threading
 import time
+
+import command_line
 
 PLATE = bytes.fromhex("d4c1423132333435")
 BEAT, UNIT, STAY, WAVE = 30, 30, 600, 120
@@ -463,14 +463,14 @@ class Trial:
 
 
 def main():
-    words = argparse.ArgumentParser(description=__doc__, formatter_class=argparse.RawDescriptionHelpFormatter)
-    words.add_argument("program")
+    words = command_line.Words(__doc__)
+    words.add_argument("program", metavar="PROGRAM", type=command_line.program)
     words.add_argument("--minutes", type=float, default=30)
-    words.add_argument("--terminals", type=int, default=1000)
-    words.add_argument("--links", type=int, default=2000)
-    words.add_argument("--kills", type=int, default=0)
-    words.add_argument("--strangers", type=int, default=0)
-    words.add_argument("--copies", type=int, default=0)
+    words.add_argument("--terminals", type=command_line.positive, default=1000)
+    words.add_argument("--links", type=command_line.positive, default=2000)
+    words.add_argument("--kills", type=command_line.number, default=0)
+    words.add_argument("--strangers", type=command_line.number, default=0)
+    words.add_argument("--copies", type=command_line.number, default=0)
     words.add_argument("--http", default="none")
     words.add_argument("--one-address", action="store_true")
     resource.setrlimit(resource.RLIMIT_NOFILE, (8192, min(65536, resource.getrlimit(resource.RLIMIT_NOFILE)[1])))
@@ -478,4 +478,4 @@ def main():
 
 
 if __name__ == "__main__":
-    sys.exit(main())
+    command_line.run(main)

@@ -1,7 +1,7 @@
 #!/usr/bin/env python3
 """Says where the time of the gate goes.
 
-    tools/gate_times.py record LOG    runs `rt ci` and writes what it prints, and the seconds of its processes, to LOG
+    tools/gate_times.py --record LOG    runs `rt ci` and writes what it prints, and the seconds of its processes, to LOG
     tools/gate_times.py LOG           prints the table of the largest crates from such a LOG, in seconds of one processor
 
 `rt ci` prints no times. So while it runs, its processes are looked at once a second: each names its crate, and whether it
@@ -10,9 +10,10 @@ proves the crate, proves its tests or tries an edit. Lines that begin with 'time
 import os
 import re
 import subprocess
-import sys
 import threading
 import time
+
+import command_line
 
 TICKS = os.sysconf("SC_CLK_TCK")
 PARTS = ("proof", "tests", "edits")
@@ -125,14 +126,18 @@ def table(log):
     print(f"\nMinutes of one processor: {sum(sums) / 60:.0f}. Minutes by the clock: {elapsed / 60:.0f}." if rows else "no times in this log")
 
 
-def main(words):
-    if len(words) == 2 and words[0] == "record":
-        return record(words[1])
-    if len(words) == 1 and os.path.isfile(words[0]):
-        return table(words[0])
-    print(__doc__, file=sys.stderr)
-    return 2
+def main():
+    asked = command_line.Words(__doc__)
+    asked.add_argument("--record", action="store_true", help="run the gate and write LOG")
+    asked.add_argument("log", metavar="LOG")
+    words = asked.parse_args()
+    if not words.record and not os.path.isfile(words.log):
+        raise command_line.Mistake(f"{words.log} is not there: --record writes it")
+    if not words.record:
+        return table(words.log)
+    command_line.want_kit()
+    return record(words.log)
 
 
 if __name__ == "__main__":
-    sys.exit(main(sys.argv[1:]))
+    command_line.run(main)

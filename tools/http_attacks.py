@@ -8,7 +8,6 @@ long it took. What is to come is a status, several in a row, or `closed` without
 Bodies are tried on fences, where the service has them: one is kept, and deleted again. It takes about a minute, most of it slow
 requests. The metrics are read by Debian's python3-prometheus-client. The status is 1 where another answer came.
 """
-import argparse
 import contextlib
 import json
 import os
@@ -17,8 +16,9 @@ import resource
 import secrets
 import socket
 import stat
-import sys
 import time
+
+import command_line
 
 CONNECTIONS = 1000
 # So long a slow request may last, and an idle connection (seconds; the service's 10 and 5, and some more on a busy machine).
@@ -283,14 +283,18 @@ def took(attack):
 
 
 def main():
-    asked = argparse.ArgumentParser(description=__doc__, formatter_class=argparse.RawDescriptionHelpFormatter)
-    asked.add_argument("dir", metavar="DIR")
-    asked.add_argument("--http", default="127.0.0.1:8080", metavar="ADDRESS:PORT")
+    asked = command_line.Words(__doc__)
+    asked.add_argument("dir", metavar="DIR", type=command_line.folder)
+    asked.add_argument("--http", type=command_line.address, default="127.0.0.1:8080", metavar="ADDRESS:PORT")
     asked.add_argument("--only", default="", help="attacks with this word in their names")
     asked = asked.parse_args()
+    command_line.want_module("prometheus_client", "python3-prometheus-client")
     resource.setrlimit(resource.RLIMIT_NOFILE, (min(4096, resource.getrlimit(resource.RLIMIT_NOFILE)[1]),) * 2)
     target, other, count = Target(asked.dir, asked.http), 0, 0
-    has = json.loads(target.get("/api/v1/server")[1])["has"]
+    try:
+        has = json.loads(target.get("/api/v1/server")[1])["has"]
+    except (OSError, ValueError, KeyError) as why:
+        raise command_line.Mistake(f"no service of {asked.dir} answers at {asked.http} ({why}): start it, or name its address by --http") from None
     groups = [paths, bodies, heads, pipelines, who, queries, *([fences] if "fences" in has else []), slow, connections, metrics]
     print(f"{'attack':45} {'to come':20} {'came':20} seconds")
     for group in groups:
@@ -306,4 +310,4 @@ def main():
 
 
 if __name__ == "__main__":
-    sys.exit(main())
+    command_line.run(main)

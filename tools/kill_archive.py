@@ -12,14 +12,12 @@ After each kill: the file is sound and has of each phone its last rows, sixteen 
 the folder; no row stands twice, and none that was never in the file. Every tenth time, and at the end, each octet is compared. With
 --program, `relay` of the program is run over a copy of the file as the kill left it. The status is 0 only where nothing differs.
 """
-import argparse
 import bisect
 import collections
 import contextlib
 import os
 import random
 import re
-import shutil
 import signal
 import sqlite3
 import subprocess
@@ -29,6 +27,7 @@ import time
 
 sys.dont_write_bytecode = True
 import archive  # noqa: E402
+import command_line  # noqa: E402
 from archive_database import Link  # noqa: E402
 from archive_rows import FIXED, Stop, Unit, digits_of  # noqa: E402
 from kill_loop import Broken, copied  # noqa: E402
@@ -317,20 +316,18 @@ def steps(asked, server):
 
 
 def words():
-    asked = argparse.ArgumentParser(description="Kills tools/archive.py, or the database under it, and looks whether a row was lost.")
-    asked.add_argument("--kills", type=int, default=200, help="of the tool")
-    asked.add_argument("--server", type=int, default=20, help="kills of the server")
-    asked.add_argument("--steps", type=int, default=3, help="0 leaves them out")
-    asked.add_argument("--rows", type=int, default=200, help="that a round adds")
+    asked = command_line.Words(__doc__)
+    asked.add_argument("--kills", type=command_line.number, default=200, help="of the tool")
+    asked.add_argument("--server", type=command_line.number, default=20, help="kills of the server")
+    asked.add_argument("--steps", type=command_line.number, default=3, help="0 leaves them out")
+    asked.add_argument("--rows", type=command_line.positive, default=200, help="that a round adds")
     asked.add_argument("--seed", type=int, default=1)
-    asked.add_argument("--program", help="runs relay of it over the file")
+    asked.add_argument("--program", type=command_line.program, help="runs relay of it over the file")
     return asked.parse_args()
 
 
 def main():
     asked = words()
-    if asked.program:
-        asked.program = os.path.realpath(asked.program)
     # So that no server is left behind where this is told to stop.
     signal.signal(signal.SIGTERM, lambda *_: sys.exit(1))
     try:
@@ -350,4 +347,4 @@ def main():
 if __name__ == "__main__":
     if sys.argv[1:2] == ["child"]:
         child(int(sys.argv[2]), sys.argv[3:])
-    sys.exit(main())
+    command_line.run(main)

@@ -18,7 +18,6 @@ A run of `report` that ends with status 5 (`store fault`) is counted, and its fi
 also what it asked of the system (by strace). It writes a row of a table. The status is 0 only where nothing was lost, doubled
 or out of order, and 1 where it was.
 """
-import argparse
 import contextlib
 import datetime
 import os
@@ -32,6 +31,8 @@ import subprocess
 import sys
 import tempfile
 import time
+
+import command_line
 
 PHONES = {"2013": "013912345678", "2019": "00000000013912345678"}
 PLATE, TERMINAL = "4a54383038", "31323334353637"
@@ -261,14 +262,13 @@ class Loop:
 
 
 def words():
-    asked = argparse.ArgumentParser(description="Kills a platform and a terminal at random moments.")
-    root = os.path.dirname(os.path.dirname(os.path.realpath(__file__)))
-    asked.add_argument("--program", default=f"{root}/jt808")
-    asked.add_argument("--rounds", type=int, default=1000)
+    asked = command_line.Words(__doc__)
+    asked.add_program()
+    asked.add_argument("--rounds", type=command_line.positive, default=1000)
     asked.add_argument("--edition", choices=PHONES, default="2013")
     asked.add_argument("--folder", help="kept, where it is named")
     asked.add_argument("--seed", type=int, default=1)
-    asked.add_argument("--longest", type=int, default=150, metavar="MS")
+    asked.add_argument("--longest", type=command_line.positive, default=150, metavar="MS")
     asked.add_argument("--trace", action="store_true")
     return asked.parse_args()
 
@@ -295,4 +295,4 @@ def main():
 
 
 if __name__ == "__main__":
-    sys.exit(main())
+    command_line.run(main)

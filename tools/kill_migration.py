@@ -8,7 +8,6 @@ platform is killed with SIGKILL at a random moment within the longest time. The 
 version 2 with every row once; and a platform that is started again leaves it of version 2 with every row. It prints how often
 each version was found; the status is 1 where a file was wrong.
 """
-import argparse
 import collections
 import contextlib
 import os
@@ -17,10 +16,10 @@ import shutil
 import socket
 import sqlite3
 import subprocess
-import sys
 import tempfile
 import time
 
+import command_line
 import kill_loop
 import open_times
 
@@ -77,10 +76,9 @@ def round_of(program, folder, old, longest):
 
 
 def main():
-    asked = argparse.ArgumentParser(description="Kills a platform while it moves a file of version 1.")
-    root = os.path.dirname(os.path.dirname(os.path.realpath(__file__)))
-    asked.add_argument("--program", default=f"{root}/jt808")
-    asked.add_argument("--rounds", type=int, default=30)
+    asked = command_line.Words(__doc__)
+    asked.add_program()
+    asked.add_argument("--rounds", type=command_line.positive, default=30)
     asked.add_argument("--longest", type=float, default=1.0)
     asked = asked.parse_args()
     ends = collections.Counter()
@@ -98,4 +96,4 @@ def main():
 
 
 if __name__ == "__main__":
-    sys.exit(main())
+    command_line.run(main)

@@ -27,9 +27,10 @@ import shutil
 import signal
 import socket
 import subprocess
-import sys
 import tempfile
 import time
+
+import command_line
 
 # The user as whom root runs a program that gets few threads: the system counts nobody else's.
 OTHER_USER = 64998
@@ -445,11 +446,19 @@ def threads():
     )
 
 
-if __name__ == "__main__":
-    if len(sys.argv) < 2:
-        raise SystemExit(__doc__)
-    PROGRAM = os.path.abspath(sys.argv[1])
-    resource.setrlimit(resource.RLIMIT_NOFILE, (4096, resource.getrlimit(resource.RLIMIT_NOFILE)[1]))
+def main():
+    global PROGRAM
     trials = {it.__name__: it for it in (stopped, fenced, short, many, crowd, deaf, away, idle, passed, threads)}
-    wanted = sys.argv[2:] or list(trials)
-    sys.exit(0 if all([trials[it]() for it in wanted]) else 1)
+    asked = command_line.Words(__doc__)
+    asked.add_argument("program", metavar="PROGRAM", type=command_line.program)
+    asked.add_argument("trials", metavar="TRIAL", nargs="*", type=command_line.one_of(trials), default=[], help="one of those above (default: all)")
+    words = asked.parse_args()
+    PROGRAM, wanted = words.program, words.trials or list(trials)
+    if "passed" in wanted:
+        command_line.want_command("strace", "strace")
+    resource.setrlimit(resource.RLIMIT_NOFILE, (4096, resource.getrlimit(resource.RLIMIT_NOFILE)[1]))
+    return 0 if all([trials[it]() for it in wanted]) else 1
+
+
+if __name__ == "__main__":
+    command_line.run(main)

@@ -7,16 +7,15 @@ It counts such ends of a `report` that is started once a killed one is gone, rig
 while sqlite3 reads the file. Of the first there should be none, of the last all; of the second some, more on a slow disk, since
 a killed process is gone only once its last write is done.
 """
-import argparse
 import contextlib
 import os
 import random
 import sqlite3
 import subprocess
-import sys
 import tempfile
 import time
 
+import command_line
 import kill_loop
 
 
@@ -57,10 +56,9 @@ def while_read(program, rounds):
 
 
 def main():
-    asked = argparse.ArgumentParser(description="Shows what makes a store fault over a file that is whole.")
-    root = os.path.dirname(os.path.dirname(os.path.realpath(__file__)))
-    asked.add_argument("--program", default=f"{root}/jt808")
-    asked.add_argument("--rounds", type=int, default=100)
+    asked = command_line.Words(__doc__)
+    asked.add_program()
+    asked.add_argument("--rounds", type=command_line.positive, default=100)
     asked = asked.parse_args()
     program, rounds = os.path.realpath(asked.program), asked.rounds
     print(f"once the killed one is gone: {after_kills(program, rounds, True)} of {rounds}", flush=True)
@@ -69,4 +67,4 @@ def main():
 
 
 if __name__ == "__main__":
-    sys.exit(main())
+    command_line.run(main)

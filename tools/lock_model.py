@@ -1,13 +1,13 @@
 #!/usr/bin/env python3
 """Searches all interleavings of the lock of jt_turn (src/turn.rt: lock, take_soon, unlock) for a lost wake-up.
 
-    tools/lock_model.py [broken] [THREADS ACTS]      without numbers: 2 to 4 threads with 2 acts each
+    tools/lock_model.py [--broken] [THREADS ACTS]      without numbers: 2 to 4 threads with 2 acts each
 
 A thread may look as often as it likes before it sleeps, so every number of looks is covered. Said is how many states there
 are, that never two threads have the lock, and that from every state in which some thread has acts left some step leads on;
-with `broken` as first word an unlock that wakes nobody is tried, which has to be found.
+with --broken an unlock that wakes nobody is tried, which has to be found.
 """
-import sys
+import command_line
 
 FREE, TAKEN, CONTENDED = range(3)
 LOOK, SWAP, PARK, ASLEEP, INSIDE, WAKE, DONE = range(7)
@@ -62,12 +62,16 @@ def search(count, acts, wakes=True):
     return f"{len(seen)} states, and none is wrong"
 
 
-def main(words):
-    wakes = words[:1] != ["broken"]
-    numbers = [int(it) for it in words[not wakes:]]
-    for count, acts in [tuple(numbers)] if numbers else [(2, 2), (3, 2), (4, 2)]:
-        print(f"{count} threads, {acts} acts each: {search(count, acts, wakes)}")
+def main():
+    asked = command_line.Words(__doc__)
+    asked.add_argument("--broken", action="store_true", help="an unlock wakes nobody")
+    asked.add_argument("threads", metavar="THREADS", nargs="?", type=command_line.positive)
+    asked.add_argument("acts", metavar="ACTS", nargs="?", type=command_line.positive, default=2)
+    words = asked.parse_args()
+    for count in (2, 3, 4) if words.threads is None else (words.threads,):
+        print(f"{count} threads, {words.acts} acts each: {search(count, words.acts, not words.broken)}")
+    return 0
 
 
 if __name__ == "__main__":
-    main(sys.argv[1:])
+    command_line.run(main)

@@ -4,9 +4,9 @@
     tools/make_gbk.py          writes crates/dewfelt_log/src/gbk_characters.rt
     tools/make_gbk.py --check  says whether that file is what it would write; status 1 where it is not
 """
-import argparse
 import os
-import sys
+
+import command_line
 
 TO = os.path.join(os.path.dirname(os.path.dirname(os.path.realpath(__file__))), "crates/dewfelt_log/src/gbk_characters.rt")
 HEAD = """//! The characters of GBK. Written by tools/make_gbk.py; do not edit.
@@ -46,7 +46,7 @@ def text():
 
 
 def main():
-    parser = argparse.ArgumentParser(description=__doc__, formatter_class=argparse.RawDescriptionHelpFormatter)
+    parser = command_line.Words(__doc__)
     parser.add_argument("--check", action="store_true", help="write nothing")
     if parser.parse_args().check:
         with open(TO, encoding="utf-8") as file:
@@ -57,4 +57,4 @@ def main():
 
 
 if __name__ == "__main__":
-    sys.exit(main())
+    command_line.run(main)

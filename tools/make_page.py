@@ -4,7 +4,10 @@
     tools/make_page.py            writes the constants
     tools/make_page.py --check    ends with 1 where they are not those of the files
 """
-import hashlib, pathlib, sys
+import hashlib
+import pathlib
+
+import command_line
 
 TOP = pathlib.Path(__file__).resolve().parent.parent
 MADE = TOP / "crates/dewfelt_page/src/files.rt"
@@ -24,8 +27,10 @@ def constants():
 
 
 def main():
-    made = constants()
-    if "--check" in sys.argv[1:]:
+    asked = command_line.Words(__doc__)
+    asked.add_argument("--check", action="store_true", help="write nothing")
+    is_check, made = asked.parse_args().check, constants()
+    if is_check:
         if MADE.read_text(encoding="utf-8") != made:
             print("crates/dewfelt_page/src/files.rt is not made of page/: run tools/make_page.py")
             return 1
@@ -35,4 +40,4 @@ def main():
 
 
 if __name__ == "__main__":
-    sys.exit(main())
+    command_line.run(main)

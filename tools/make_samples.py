@@ -19,6 +19,7 @@ import sys
 HERE = os.path.dirname(os.path.realpath(__file__))
 sys.path.insert(0, HERE)
 sys.dont_write_bytecode = True
+import command_line  # noqa: E402
 import fix  # noqa: E402
 
 # ---- a day
@@ -192,14 +193,17 @@ def mixed():
 
 
 def main():
-    folder = sys.argv[1] if len(sys.argv) > 1 else f"{os.path.dirname(HERE)}/samples"
+    asked = command_line.Words(__doc__)
+    asked.add_argument("folder", metavar="FOLDER", nargs="?", type=command_line.folder, default=f"{command_line.ROOT}/samples")
+    folder = asked.parse_args().folder
     with open(f"{folder}/day.fixes", "w", encoding="ascii") as to:
         to.writelines(day_lines())
     with open(f"{folder}/day.script", "w", encoding="ascii") as to:
         to.writelines(script_lines())
     with open(f"{folder}/mixed.bin", "wb") as to:
         to.writelines(mixed())
+    return 0
 
 
 if __name__ == "__main__":
-    main()
+    command_line.run(main)

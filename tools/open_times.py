@@ -7,7 +7,6 @@ For each number of rows (10,000, 100,000 and 1,000,000 where none is named) it m
 Python's own sqlite3, starts `platform` over it, registers a terminal and waits for the answer. A second registration is answered
 over the open file. It writes a row of a table for each.
 """
-import argparse
 import contextlib
 import functools
 import operator
@@ -16,10 +15,10 @@ import socket
 import sqlite3
 import struct
 import subprocess
-import sys
 import tempfile
 import time
 
+import command_line
 import kill_loop
 
 MAKE = """CREATE TABLE meta (version INTEGER); INSERT INTO meta (version) VALUES (2);
@@ -86,11 +85,10 @@ def measure(program, rows, phones):
 
 
 def main():
-    asked = argparse.ArgumentParser(description="Measures what the open of a platform's file costs.")
-    root = os.path.dirname(os.path.dirname(os.path.realpath(__file__)))
-    asked.add_argument("rows", nargs="*", type=int, default=[10_000, 100_000, 1_000_000])
-    asked.add_argument("--program", default=f"{root}/jt808")
-    asked.add_argument("--phones", type=int, default=64)
+    asked = command_line.Words(__doc__)
+    asked.add_argument("rows", nargs="*", type=command_line.positive, default=[10_000, 100_000, 1_000_000])
+    asked.add_program()
+    asked.add_argument("--phones", type=command_line.positive, default=64)
     asked = asked.parse_args()
     print("| Rows | File | First answer | Processor until then | Memory | Next answer |\n|---|---|---|---|---|---|")
     for rows in asked.rows:
@@ -98,4 +96,4 @@ def main():
 
 
 if __name__ == "__main__":
-    sys.exit(main())
+    command_line.run(main)

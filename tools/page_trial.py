@@ -14,7 +14,6 @@ It wants the Debian packages chromium, chromium-driver and python3-selenium, fon
 python3-prometheus-client. --shots is a folder for pictures: 1,440 and 390 points wide, dark and light, in English and Chinese. It
 prints a line a test; the status is 1 where one failed.
 """
-import argparse
 import asyncio
 import contextlib
 import os
@@ -30,6 +29,7 @@ import time
 import urllib.request
 
 sys.dont_write_bytecode = True
+import command_line  # noqa: E402
 import page_fleet  # noqa: E402
 import test_page  # noqa: E402
 from test_positions import MAKE  # noqa: E402
@@ -216,18 +216,19 @@ def many_test(program, count, lorries):
 
 
 def words():
-    asked = argparse.ArgumentParser(description=__doc__, formatter_class=argparse.RawDescriptionHelpFormatter)
-    asked.add_argument("program")
+    asked = command_line.Words(__doc__)
+    asked.add_argument("program", metavar="PROGRAM", type=command_line.program)
     asked.add_argument("--shots")
     asked.add_argument("--only", default="")
-    asked.add_argument("--lorries", type=int, default=LORRIES, metavar="N", help="at least 12; fewer for a program without proof, which is slow")
-    asked.add_argument("--many", type=int, default=0, metavar="N")
+    asked.add_argument("--lorries", type=command_line.positive, default=LORRIES, metavar="N", help="at least 12; fewer for a program without proof, which is slow")
+    asked.add_argument("--many", type=command_line.number, default=0, metavar="N")
     asked.add_argument("--keep", action="store_true", help="leave the folder")
     return asked.parse_args()
 
 
 def main():
     asked = words()
+    test_page.want_packages()
     folder = tempfile.mkdtemp(prefix="page-")
     day = page_fleet.sample()
     lorries = [page_fleet.Lorry(number, day) for number in range(asked.lorries)]
@@ -250,4 +251,4 @@ def main():
 
 
 if __name__ == "__main__":
-    sys.exit(main())
+    command_line.run(main)

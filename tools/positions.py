@@ -24,7 +24,6 @@ Where a value names no moment, or is not there, it is `-`.
 The status is 0; 1 where some row is no position that can be read, which is told on standard error; 2 where the words or the
 file are none that this reads.
 """
-import argparse
 import collections
 import csv
 import datetime
@@ -38,6 +37,7 @@ import sys
 import tempfile
 
 sys.dont_write_bytecode = True
+import command_line  # noqa: E402
 import position_drawing  # noqa: E402
 import rows  # noqa: E402
 
@@ -234,7 +234,7 @@ def heard_by(address, folder):
     try:
         service = rows.Service(address, rows.token_in(folder))
         return {it["phone"]: it["heard_at"] for it in service.vehicles()}
-    except (OSError, rows.Refused) as why:
+    except (OSError, rows.Refused, command_line.Mistake) as why:
         raise Unread(f"{address} does not say when phones were heard: {why}") from None
 
 
@@ -293,7 +293,7 @@ def write_svg(positions, to):
 
 
 def words():
-    asked = argparse.ArgumentParser(description="Shows where the phones of a platform were, from its file.")
+    asked = command_line.Words(__doc__)
     asked.add_argument("file", nargs="?", default="platform.db")
     asked.add_argument("--phone", help="its digits")
     asked.add_argument("--http", metavar="ADDRESS:PORT", help="the interface of the service that has the file")
@@ -339,4 +339,4 @@ def main():
 
 
 if __name__ == "__main__":
-    sys.exit(main())
+    command_line.run(main)

@@ -8,6 +8,7 @@ import subprocess
 import tempfile
 import time
 
+from command_line import Mistake
 from kill_loop import free_port
 
 USER = "postgres"
@@ -21,7 +22,7 @@ def folder_of_programs():
     found = sorted(glob.glob("/usr/lib/postgresql/*/bin"), key=lambda it: int(it.split("/")[-2]))
     beside = shutil.which("initdb")
     if not found and beside is None:
-        raise SystemExit("PostgreSQL is not installed: sudo apt-get install postgresql python3-psycopg2")
+        raise Mistake("PostgreSQL is not installed: sudo apt-get install postgresql python3-psycopg2")
     return found[-1] if found else os.path.dirname(beside)
 
 

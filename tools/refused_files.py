@@ -13,17 +13,16 @@ accepted, and once there is room the next run goes on; and a platform that runs 
 that fails, which comes once the log has to grow, shuts its file, a call behind that opens it again, and all that was accepted is
 still there. It prints a line for each case; the status is 1 where one is wrong.
 """
-import argparse
 import contextlib
 import os
 import re
 import socket
 import sqlite3
 import subprocess
-import sys
 import tempfile
 import time
 
+import command_line
 import kill_loop
 
 FIX = kill_loop.fix(0, 1).hex() + "\n"
@@ -283,9 +282,8 @@ def cases():
 
 
 def main():
-    asked = argparse.ArgumentParser(description="Tries the program over files that it has to refuse.")
-    root = os.path.dirname(os.path.dirname(os.path.realpath(__file__)))
-    asked.add_argument("--program", default=f"{root}/jt808")
+    asked = command_line.Words(__doc__)
+    asked.add_program()
     programs, wrong = Programs(os.path.realpath(asked.parse_args().program)), 0
     for name, case, make in cases():
         with tempfile.TemporaryDirectory(prefix="refused-files-") as folder:
@@ -300,4 +298,4 @@ def main():
 
 
 if __name__ == "__main__":
-    sys.exit(main())
+    command_line.run(main)

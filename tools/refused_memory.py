@@ -10,7 +10,6 @@ a session's line that tells of it (`session 1 memory ..`); a store that is refus
 killed by a signal, hangs, or prints anything else is wrong, and so is a case whose whole run does not end as it should. It prints a
 row for each case. Wants a C compiler.
 """
-import argparse
 import collections
 import contextlib
 import os
@@ -20,6 +19,7 @@ import sys
 import tempfile
 import time
 
+import command_line
 import kill_loop
 import link_trials
 
@@ -182,10 +182,11 @@ def tried(asked, case):
 
 
 def main():
-    asked = argparse.ArgumentParser(description="Refuses the program its memory, one allocation at a time.")
-    asked.add_argument("--program", default=f"{ROOT}/crates/jt808/out/jt808")
-    asked.add_argument("--most", type=int, default=400)
+    asked = command_line.Words(__doc__)
+    asked.add_program("crates/jt808/out/jt808", "default: crates/jt808/out/jt808")
+    asked.add_argument("--most", type=command_line.positive, default=400)
     asked = asked.parse_args()
+    command_line.want_command("cc", "gcc")
     with tempfile.TemporaryDirectory() as folder:
         asked.shim, asked.program = f"{folder}/shim.so", os.path.realpath(asked.program)
         words = ["cc", "-shared", "-fPIC", "-O1", "-o", asked.shim, "-xc", "-", "-ldl"]
@@ -196,4 +197,4 @@ def main():
 
 
 if __name__ == "__main__":
-    sys.exit(main())
+    command_line.run(main)

@@ -13,16 +13,15 @@ was there before is gone. In the end all run undisturbed, and all four are the s
 
 It writes a row of a table. The status is 0 only where nothing was lost, doubled or out of order.
 """
-import argparse
 import contextlib
 import datetime
 import os
 import random
 import subprocess
-import sys
 import tempfile
 import time
 
+import command_line
 from kill_loop import FLEET, PLATE, TERMINAL, Broken, fix, fixes_of, free_port, listens, look, origin
 
 LORRY, OPERATOR = "013912345678", "00000000013912345678"
@@ -123,14 +122,13 @@ class Trial:
 
 
 def words():
-    asked = argparse.ArgumentParser(description="Passes fixes on from one platform to another, with kills.")
-    root = os.path.dirname(os.path.dirname(os.path.realpath(__file__)))
-    asked.add_argument("--program", default=f"{root}/jt808")
-    asked.add_argument("--rounds", type=int, default=20)
-    asked.add_argument("--fixes", type=int, default=144)
+    asked = command_line.Words(__doc__)
+    asked.add_program()
+    asked.add_argument("--rounds", type=command_line.positive, default=20)
+    asked.add_argument("--fixes", type=command_line.positive, default=144)
     asked.add_argument("--folder", help="kept, where it is named")
     asked.add_argument("--seed", type=int, default=1)
-    asked.add_argument("--longest", type=int, default=300, metavar="MS")
+    asked.add_argument("--longest", type=command_line.positive, default=300, metavar="MS")
     return asked.parse_args()
 
 
@@ -154,4 +152,4 @@ def main():
 
 
 if __name__ == "__main__":
-    sys.exit(main())
+    command_line.run(main)

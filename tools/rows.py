@@ -15,7 +15,6 @@ as nothing more is there, or at once where the service does not answer.
 The status is 0 with --once; 1 where the service does not answer or refuses (said on standard error); 2 where the words or the file
 are wrong. Without --once it runs until it is stopped, or refused.
 """
-import argparse
 import contextlib
 import fcntl
 import http.client
@@ -24,6 +23,8 @@ import os
 import sys
 import time
 import urllib.parse
+
+import command_line
 
 API = "/api/v1"
 TOKENS = ("http.read.token", "http.token")
@@ -51,7 +52,7 @@ def token_in(folder):
     for name in TOKENS:
         with contextlib.suppress(FileNotFoundError), open(os.path.join(folder, name), encoding="ascii") as file:
             return file.read().strip()
-    raise Refused(f"{folder} has neither {' nor '.join(TOKENS)}: is it the folder of a service with an interface?")
+    raise command_line.Mistake(f"{folder} has neither {' nor '.join(TOKENS)}: name the folder of a service with an interface by --dir")
 
 
 def why(status, body):
@@ -190,7 +191,7 @@ def follow(service, output, is_once):
 
 
 def words():
-    asked = argparse.ArgumentParser(description=__doc__, formatter_class=argparse.RawDescriptionHelpFormatter)
+    asked = command_line.Words(__doc__)
     asked.add_argument("file", metavar="FILE.jsonl")
     token = asked.add_mutually_exclusive_group(required=True)
     token.add_argument("--dir", help="the folder of the service")
@@ -215,7 +216,4 @@ def main():
 
 
 if __name__ == "__main__":
-    try:
-        sys.exit(main())
-    except KeyboardInterrupt:
-        sys.exit(130)
+    command_line.run(main)

@@ -16,6 +16,7 @@ import subprocess
 import tempfile
 import time
 
+import command_line
 import kill_loop
 
 
@@ -39,6 +40,13 @@ def run(load, program, folder, connections, units):
     return rate, (used.ru_utime + used.ru_stime) * 1e6 / (connections * units), used.ru_maxrss / 1000, last
 
 
+def loads(text):
+    """The loads that a word names, as (connections, units)."""
+    if not re.fullmatch(r"\d+x\d+(,\d+x\d+)*", text):
+        raise argparse.ArgumentTypeError(f"{text} is no list of loads, as 1x20000,64x300")
+    return [tuple(map(int, load.split("x"))) for load in text.split(",")]
+
+
 def compare(asked, connections, units):
     """A row of the table for one load."""
     ours, plain = [], []
@@ -56,20 +64,20 @@ def compare(asked, connections, units):
 
 
 def main():
-    asked = argparse.ArgumentParser(description="Measures platform over its file beside plain Rust over C's SQLite.")
-    root = os.path.dirname(os.path.dirname(os.path.realpath(__file__)))
-    for it in ("load", "plain", "folder"):
-        asked.add_argument(it)
-    asked.add_argument("--program", default=f"{root}/jt808")
-    asked.add_argument("--runs", type=int, default=3)
-    asked.add_argument("--loads", default="1x20000,64x300,1024x20")
+    asked = command_line.Words(__doc__)
+    asked.add_argument("load", metavar="LOAD", type=command_line.program, help="the load client of the bench")
+    asked.add_argument("plain", metavar="PLAIN", type=command_line.program, help="the plain program of the bench")
+    asked.add_argument("folder", metavar="FOLDER", type=command_line.folder, help="where the files lie")
+    asked.add_program()
+    asked.add_argument("--runs", metavar="N", type=command_line.positive, default=3, help="of each program (default: 3)")
+    asked.add_argument("--loads", type=loads, metavar="CxU,..", default="1x20000,64x300,1024x20", help="connections x units (default: %(default)s)")
     asked = asked.parse_args()
-    asked.load, asked.plain, asked.program = (os.path.realpath(it) for it in (asked.load, asked.plain, asked.program))
     print("| Connections x units | Units a second | Plain Rust | Ratio | Processor a unit, us: ours / plain | Share | Memory, MB: ours / plain |")
     print("|---|---|---|---|---|---|---|")
-    for load in asked.loads.split(","):
-        print(compare(asked, *map(int, load.split("x"))), flush=True)
+    for connections, units in asked.loads:
+        print(compare(asked, connections, units), flush=True)
+    return 0
 
 
 if __name__ == "__main__":
-    main()
+    command_line.run(main)

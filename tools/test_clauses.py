@@ -12,6 +12,7 @@ sys.path.insert(0, HERE)
 sys.dont_write_bytecode = True
 import believed  # noqa: E402
 import clauses  # noqa: E402
+import command_line  # noqa: E402
 
 FILES = {
     "low/src/lib.rt": "mod count;\n\npub use count::{Counter, Counts, length};\npub use lower::Other;\n",
@@ -196,8 +197,8 @@ class Clauses(Small):
             "low Counts::seen: (ghost member)\nlow Counts::see: seen\n"))
 
     def test_what_is_not_there(self):
-        for words in (["low", "nothing"], ["nowhere"], []):
-            with self.assertRaises(SystemExit):
+        for words in (["low", "nothing"], ["nowhere"]):
+            with self.assertRaises(command_line.Mistake):
                 self.printed(clauses, *words)
 
 
@@ -217,7 +218,7 @@ class Believed(Small):
             "    2     7 partly  crates/high/specs/Shows.antt"])
 
     def test_a_call_that_is_not_there(self):
-        with self.assertRaises(SystemExit):
+        with self.assertRaises(command_line.Mistake):
             self.printed(believed, "low:not_passed_on")
 
 

@@ -9,14 +9,19 @@ and python3-prometheus-client, and fonts-noto-cjk for the pictures. Prints a lin
 a part that the service says it lacks is passed over. Of the service fences alone are changed: one is drawn, and deleted again.
 """
 import argparse, contextlib, csv, http.client, io, itertools, json, os, pathlib, socket, subprocess, sys, time, traceback
-from selenium import webdriver
-from selenium.common.exceptions import StaleElementReferenceException
-from selenium.webdriver.chrome.options import Options
-from selenium.webdriver.chrome.service import Service
-from selenium.webdriver.common.action_chains import ActionChains
-from selenium.webdriver.common.actions.action_builder import ActionBuilder
-from selenium.webdriver.common.by import By
-from selenium.webdriver.common.keys import Keys
+
+import command_line
+
+# (where it is missing, want_packages says so)
+with contextlib.suppress(ImportError):
+    from selenium import webdriver
+    from selenium.common.exceptions import StaleElementReferenceException
+    from selenium.webdriver.chrome.options import Options
+    from selenium.webdriver.chrome.service import Service
+    from selenium.webdriver.common.action_chains import ActionChains
+    from selenium.webdriver.common.actions.action_builder import ActionBuilder
+    from selenium.webdriver.common.by import By
+    from selenium.webdriver.common.keys import Keys
 
 TOP = pathlib.Path(__file__).resolve().parent.parent
 asked = None
@@ -563,6 +568,13 @@ def until(is_so, seconds=60):
         time.sleep(0.3)
 
 
+def want_packages():
+    """Stops where a package is missing that the tests want."""
+    command_line.want_module("selenium", "python3-selenium")
+    command_line.want_module("prometheus_client", "python3-prometheus-client")
+    command_line.want_command("chromium", "chromium chromium-driver")
+
+
 def take_up(address, token, read_token, shots):
     """Says which service is tested. A token is one, or a file with one."""
     global asked
@@ -607,16 +619,17 @@ def run(tests, only):
 
 
 def main():
-    words = argparse.ArgumentParser(description=__doc__, formatter_class=argparse.RawDescriptionHelpFormatter)
-    words.add_argument("--http", default="127.0.0.1:8080")
+    words = command_line.Words(__doc__)
+    words.add_argument("--http", type=command_line.address, default="127.0.0.1:8080", metavar="ADDRESS:PORT")
     words.add_argument("--token", required=True, help="the file http.token of the service, or the token")
     words.add_argument("--read-token", required=True, help="the file http.read.token, or the token")
     words.add_argument("--shots")
     words.add_argument("--only", default="")
     given = words.parse_args()
+    want_packages()
     take_up(given.http, given.token, given.read_token, given.shots)
     return run(tests(), given.only)
 
 
 if __name__ == "__main__":
-    sys.exit(main())
+    command_line.run(main)

@@ -17,11 +17,11 @@ import shutil
 import signal
 import socket
 import subprocess
-import sys
 import tempfile
 import threading
 import time
 
+import command_line
 from fleet_trial import PLATE, content_of, frame
 
 ROOT = os.path.dirname(os.path.dirname(os.path.realpath(__file__)))
@@ -327,13 +327,12 @@ def run(program, name, change, what, look):
 
 
 def main():
-    if len(sys.argv) != 2:
-        print(__doc__, file=sys.stderr)
-        return 2
-    program = os.path.realpath(sys.argv[1])
+    asked = command_line.Words(__doc__)
+    asked.add_argument("program", metavar="PROGRAM", type=command_line.program)
+    program = asked.parse_args().program
     rights = [run(program, *it) for it in trials()]
     return 0 if all(rights) else 1
 
 
 if __name__ == "__main__":
-    sys.exit(main())
+    command_line.run(main)

@@ -7,10 +7,10 @@ A word that is no text (octets that are no UTF-8) makes all of them no words at 
 A million orders are `issued=1000000 ..`; one more makes the book full, whose limit is fixed: `order book full at 1000000`, status 5.
 It prints a line for each trial; the status is 1 where one is wrong. The orders take 14 MB of script.
 """
-import argparse
 import os
 import subprocess
-import sys
+
+import command_line
 
 USAGE = b"usage: jt808 view|check|rehearse|make|platform|report|orders|fence|relay|gateway\n"
 ORDER = b"issue 8300 00\n"
@@ -23,9 +23,8 @@ TRIALS = [
 
 
 def main():
-    asked = argparse.ArgumentParser(description="Tries the program where no test by words does.")
-    root = os.path.dirname(os.path.dirname(os.path.realpath(__file__)))
-    asked.add_argument("--program", default=f"{root}/jt808")
+    asked = command_line.Words(__doc__)
+    asked.add_program()
     program, wrong = os.fsencode(os.path.realpath(asked.parse_args().program)), 0
     for name, words, given, expected in TRIALS:
         ran = subprocess.run([program, *words], input=given, stdout=subprocess.PIPE)
@@ -36,4 +35,4 @@ def main():
 
 
 if __name__ == "__main__":
-    sys.exit(main())
+    command_line.run(main)

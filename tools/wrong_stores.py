@@ -16,6 +16,8 @@ import subprocess
 import sys
 import tempfile
 
+import command_line
+
 ROOT = os.path.dirname(os.path.dirname(os.path.realpath(__file__)))
 CRATES = ("jt_value", "jt_layout", "jt_position", "jt_store", "jt_relay", "jt_store_answers", "jt_sql", "store_tests", "sql_tests")
 MODULES = ("connections", "files")
@@ -127,8 +129,14 @@ def tried(root):
     return re.findall(r"test (\S+) \.\.\. FAILED", told), "test result:" in told
 
 
+NAMES = ["as it is", *WRONG]
+
+
 def main():
-    wrong, names = 0, sys.argv[1:] or ["as it is", *WRONG]
+    asked = command_line.Words(f"{__doc__}\nNames: {'; '.join(NAMES)}")
+    asked.add_argument("names", metavar="NAME", nargs="*", type=command_line.one_of(NAMES), default=[], help="one of those above (default: all)")
+    wrong, names = 0, asked.parse_args().names or NAMES
+    command_line.want_kit()
     for name in names:
         with tempfile.TemporaryDirectory(prefix="wrong-stores-") as root:
             copied(root)
@@ -149,4 +157,4 @@ def main():
 
 
 if __name__ == "__main__":
-    sys.exit(main())
+    command_line.run(main)
