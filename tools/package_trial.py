@@ -26,6 +26,8 @@ import unit_trial
 
 SUITE, MIRROR, MORE = "bookworm", "http://deb.debian.org/debian", "bash-completion,man-db,zsh,fish"
 HOME, PHONE = "var/lib/dewfelt", "013912345678"
+# Seconds for what is to come. (a program without proof is slow)
+SOON = 120
 # What the operator writes.
 OWN = {
     f"{HOME}/fleet": 'secret 6578616d706c65\nvehicle "粤B12345" "1234567" 013912345678\n',
@@ -39,13 +41,16 @@ SYSTEMCTL = r"""#!/bin/sh
 echo "$@" >>/systemctl.log
 unit=/usr/lib/systemd/system/dewfelt.service
 in_unit() { sed -n "s/^$1=//p" $unit; }
-as_service() { setpriv --reuid "$(in_unit User)" --regid "$(in_unit User)" --init-groups "$@"; }
+user=$(in_unit User)
+as_service() { setpriv --reuid "$user" --regid "$user" --init-groups "$@"; }
 is_running() { [ -e /service.pid ] && kill -0 "$(cat /service.pid)" 2>/dev/null; }
 start() {
     file=$(in_unit EnvironmentFile)
     . "${file#-}"
     # (systemd parts the words of a variable too)
-    as_service $(in_unit ExecStart | sed "s|[$]DEWFELT_OPTIONS|$DEWFELT_OPTIONS|") </dev/null >>/service.log 2>&1 &
+    words=$(in_unit ExecStart | sed "s|[$]DEWFELT_OPTIONS|$DEWFELT_OPTIONS|")
+    # (no descriptor of dpkg's is to stay open in the service)
+    (exec setpriv --reuid "$user" --regid "$user" --init-groups $words) </dev/null >>/service.log 2>&1 &
     echo $! >/service.pid
 }
 stop() {
@@ -178,7 +183,7 @@ def use(root):
         with open(root.at(name), "w", encoding="utf-8") as file:
             file.write(text % root.port if "%d" in text else text)
     root.systemctl("start", "dewfelt")
-    is_up = unit_trial.soon(root.is_served, 120)
+    is_up = unit_trial.soon(root.is_served, SOON)
     link, is_stored = unit_trial.report(root.port) if is_up else (None, False)
     root.say("started: a terminal registers and reports", f"{len(root.rows())} row", is_stored and len(root.rows()) == 1)
     log = open(root.at("service.log")).read()
@@ -191,8 +196,8 @@ def upgraded(root, package, link):
     root.calls()
     install(root, package)
     calls = root.calls()
-    root.say("upgraded: a running service starts anew", calls, calls == ["daemon-reload", "try-restart dewfelt.service"] and open(root.at("service.pid")).read() != run and unit_trial.ends(link))
-    root.say("upgraded: it serves", "the port", unit_trial.soon(root.is_served, 120))
+    root.say("upgraded: a running service starts anew", calls, calls == ["daemon-reload", "try-restart dewfelt.service"] and open(root.at("service.pid")).read() != run and unit_trial.ends(link, SOON))
+    root.say("upgraded: it serves", "the port", unit_trial.soon(root.is_served, SOON))
     root.say("upgraded: the operator's files", f"{len(before)} as they were", root.sums() == before)
     status, said = root.run("dewfelt", "registrations", f"/{HOME}")
     root.say("upgraded: rows and registrations", said.strip(), root.rows() == rows and PHONE in said)
@@ -214,7 +219,7 @@ def installed_again(root, package):
     install(root, package)
     root.say("installed again: the operator's files", f"{len(before)} as they were", root.sums() == before)
     root.systemctl("start", "dewfelt")
-    root.say("installed again: it serves the same rows", f"{len(rows)} row", unit_trial.soon(root.is_served, 120) and root.rows() == rows)
+    root.say("installed again: it serves the same rows", f"{len(rows)} row", unit_trial.soon(root.is_served, SOON) and root.rows() == rows)
     root.systemctl("stop", "dewfelt")
 
 
@@ -263,6 +268,7 @@ def read_words():
 
 def main():
     words = read_words()
+    unit_trial.SOON = SOON
     with tempfile.TemporaryDirectory(prefix="package-trial-") as folder:
         root = Root(f"{folder}/root")
         if words.base:
@@ -284,7 +290,8 @@ def main():
             purged(root)
         finally:
             with contextlib.suppress(subprocess.CalledProcessError, OSError):
-                root.systemctl("stop", "dewfelt")
+                if os.path.exists(root.at("service.pid")):
+                    root.systemctl("stop", "dewfelt")
     return 1 if root.wrong else 0
 
 
