@@ -2,7 +2,7 @@
 """Lets a fleet of terminals report to the built platform for a while, and compares what it stored with what they recorded:
 
     tools/fleet_trial.py PROGRAM [--minutes N] [--terminals N] [--links N] [--one-address] [--kills N] [--strangers N] [--copies N]
-                         [--http ADDRESS:PORT]
+                         [--http ADDRESS:PORT] [--pages N]
 
 PROGRAM is crates/dewfelt/out/dewfelt (`dewfelt serve`), or crates/jt808/out/jt808 (`platform`, up to 1,000 links in a run). Each
 terminal sends a heartbeat and a unit of one position each half minute, and dials anew each ten minutes; each two minutes a fifth
@@ -10,7 +10,8 @@ of them dial anew at once. They have addresses of 127.1.0.0/16, or with --one-ad
 minute. With --kills the program is killed so often at random moments and started at once. --strangers are links that are not let
 in, half of them of one address and half of a hundred: silent ones, garbage, half frames, a heartbeat each ten seconds, and
 connects that end at once. With --copies `PROGRAM copy` makes so many copies at random moments, and each has to be sound. With --http the
-service has its page there; without, it has none.
+service has its page there; without, it has none. --pages are so many pages that are open there: each asks for its files, and then
+each two seconds for what changed, as the page in a browser does.
 
 It prints a line a minute, and at the end: how long answers took and how long terminals that dialled were let in after (median, 99th
 percentile, longest), the longest fdatasync of a file of its own beside, by how much the tool itself was late, resident memory, and
@@ -21,6 +22,7 @@ or more), or resident memory rose by 1 MB or more in the last fifteen minutes of
 """
 import asyncio
 import contextlib
+import json
 import os
 import random
 import re
@@ -39,6 +41,8 @@ import command_line
 
 PLATE = bytes.fromhex("d4c1423132333435")
 BEAT, UNIT, STAY, WAVE = 30, 30, 600, 120
+# Seconds between two looks of a page, and its files.
+LOOK, PAGE_FILES = 2, ("/", "/app.js", "/map.js", "/words.js", "/style.css", "/api/v1/server")
 SPREAD = 60
 ANSWER = 60
 # Seconds: of an answer, until a terminal is let in, and of what counts as a stall.
@@ -50,6 +54,48 @@ ANSWERS = {0x0100: 0x8100, 0x0102: 0x8001, 0x0002: 0x8001, 0x0200: 0x8001}
 
 class Lost(Exception):
     """The link is gone, or nothing was answered in time."""
+
+
+class Page:
+    """What a browser with the page open asks for: its files, all vehicles, and then what changed."""
+
+    def __init__(self, trial):
+        self.trial, self.cursor, self.link = trial, "", None
+        self.host = trial.words.http
+        with open(f"{trial.folder}/http.read.token") as file:
+            self.token = file.read().strip()
+
+    async def get(self, path):
+        """The body of the answer, over a connection that stays."""
+        reader, writer = self.link
+        writer.write(f"GET {path} HTTP/1.1\r\nHost: {self.host}\r\nAuthorization: Bearer {self.token}\r\n\r\n".encode())
+        head = (await reader.readuntil(b"\r\n\r\n")).decode()
+        if not head.startswith("HTTP/1.1 200 "):
+            raise SystemExit(f"{path} is answered {head.splitlines()[0]}")
+        return await reader.readexactly(int(re.search(r"(?i)\r\ncontent-length: *(\d+)", head)[1]))
+
+    async def look(self):
+        more = True
+        while more:
+            began = time.monotonic()
+            told = json.loads(await self.get(f"/api/v1/changes?since={self.cursor}"))
+            self.trial.looks.note(began)
+            self.cursor, more = told["cursor"], told["more"]
+
+    async def live(self, until):
+        host, _, port = self.host.rpartition(":")
+        while time.monotonic() < until:
+            try:
+                self.link = await asyncio.open_connection(host, int(port))
+                for path in PAGE_FILES:
+                    await self.get(path)
+                while time.monotonic() < until:
+                    await self.look()
+                    await asyncio.sleep(LOOK)
+            except (OSError, asyncio.IncompleteReadError):
+                await asyncio.sleep(1)
+            if self.link:
+                self.link[1].close()
 
 
 def frame(message, phone, serial, body=b""):
@@ -87,7 +133,7 @@ class Times:
 
     def text(self):
         all = self.seconds()
-        return (f"median {statistics.median(all) * 1000:.1f} ms, 99th percentile {all[len(all) * 99 // 100] * 1000:.0f} ms,"
+        return (f"median {statistics.median(all) * 1000:.1f} ms, 99th percentile {all[len(all) * 99 // 100] * 1000:.1f} ms,"
                 f" longest {all[-1]:.2f} s")
 
     def above(self, limit):
@@ -138,6 +184,8 @@ class Terminal:
             answer, body = content_of(octets)
             if answer == ANSWERS[message] and body[:2] == serial.to_bytes(2, "big"):
                 self.trial.waits.note(began)
+                if message == 0x0200:
+                    self.trial.units.note(began)
                 return body
 
     async def log_in(self):
@@ -284,7 +332,7 @@ class Trial:
             one.bind(("127.0.0.1", 0))
             self.port = one.getsockname()[1]
         self.terminals = [Terminal(number, self) for number in range(1, words.terminals + 1)]
-        self.waits, self.let_in, self.syncs, self.lates = Times(), Times(), Times(), Times()
+        self.waits, self.units, self.let_in, self.looks, self.syncs, self.lates = (Times() for _ in range(6))
         self.losses, self.kills, self.memories, self.copies, self.faults = 0, 0, [], 0, []
         self.write_fleet()
 
@@ -386,6 +434,7 @@ class Trial:
             tasks.append(self.kill(until))
         if self.words.copies:
             tasks.append(self.copy(until))
+        tasks += [Page(self).live(until) for _ in range(self.words.pages)]
         await asyncio.gather(*tasks)
 
     def stored(self, file):
@@ -419,6 +468,9 @@ class Trial:
     def sum_up(self):
         print(f"{len(self.waits.all)} answers: {self.waits.text()}; above {LONG_WAIT} s: {len(self.waits.above(LONG_WAIT))}, at no"
               f" stall: {self.unexplained(self.waits, LONG_WAIT)}")
+        print(f"{len(self.units.all)} units: {self.units.text()}")
+        if self.words.pages:
+            print(f"{len(self.looks.all)} looks of {self.words.pages} pages: {self.looks.text()}")
         print(f"{len(self.let_in.all)} times a terminal that dialled was let in: {self.let_in.text()}; above {LONG_DIAL} s:"
               f" {len(self.let_in.above(LONG_DIAL))}, at no stall: {self.unexplained(self.let_in, LONG_DIAL)}")
         print(f"fdatasync beside: {self.syncs.text()}; the tool was late: {self.lates.text()}")
@@ -472,9 +524,13 @@ def main():
     words.add_argument("--strangers", type=command_line.number, default=0)
     words.add_argument("--copies", type=command_line.number, default=0)
     words.add_argument("--http", default="none")
+    words.add_argument("--pages", type=command_line.number, default=0)
     words.add_argument("--one-address", action="store_true")
     resource.setrlimit(resource.RLIMIT_NOFILE, (8192, min(65536, resource.getrlimit(resource.RLIMIT_NOFILE)[1])))
-    return Trial(words.parse_args()).go()
+    given = words.parse_args()
+    if given.pages and given.http == "none":
+        words.error("--pages wants --http ADDRESS:PORT")
+    return Trial(given).go()
 
 
 if __name__ == "__main__":

@@ -26,6 +26,7 @@ MISTAKES = [
     ("fence_picture.py --program /bin/true", "fence prints nothing"),
     ("fix.py nothing.csv", "nothing.csv"),
     ("fleet_trial.py", "PROGRAM"),
+    ("page_cost.py", "PROGRAM"),
     ("fleet_trial.py README", "README is no program"),
     ("gate_times.py nothing.log", "nothing.log"),
     ("http_attacks.py nowhere", "nowhere is no folder"),
