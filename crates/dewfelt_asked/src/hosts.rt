@@ -28,12 +28,7 @@ fn host_text(alloc: Global, address: SocketAddr) -> Result<String, AllocError>
 }
 
 // Puts a host at a port.
-fn push_at(
-    alloc: Global,
-    hosts: &mut Vec<String>,
-    port: u16,
-    host: &str,
-) -> Result<(), AllocError>
+fn push_at(alloc: Global, hosts: &mut Vec<String>, port: u16, host: &str) -> Result<(), AllocError>
     ensures { OnOk result (map string_bytes hosts.new.items
         ≡ map string_bytes hosts.old.items ++ at_port port host.now) }
 {
@@ -45,11 +40,7 @@ fn push_at(
 }
 
 // Puts the hosts of a listener at an address.
-fn push_own(
-    alloc: Global,
-    hosts: &mut Vec<String>,
-    address: SocketAddr,
-) -> Result<(), AllocError>
+fn push_own(alloc: Global, hosts: &mut Vec<String>, address: SocketAddr) -> Result<(), AllocError>
     ensures { OnOk result (map string_bytes hosts.new.items
         ≡ map string_bytes hosts.old.items ++ own_hosts address) }
 {

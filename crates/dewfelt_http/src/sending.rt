@@ -139,7 +139,8 @@ pub fn send_problem(
         response,
         HeaderValue::from_static("application/problem+json"),
         text,
-    )
+    )?;
+    Ok(())
 }
 
 /// Answers with this text that links of terminals are not served.
