@@ -1,2 +1,4 @@
 pub mod Access
+pub mod Gates
+pub mod Hosts
 pub mod Paths

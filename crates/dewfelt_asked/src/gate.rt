@@ -1,9 +1,10 @@
 //! Who asks: the host, the page's origin and the token.
 
-ghost use Rattle.std.specs.Prelude.{◌≡◌, ◌⊎◌, ◌++◌, ℕ, List, IfOk, IfSome, IsOk, IsTrue, codes};
+ghost use Rattle.std.specs.Prelude.{◌≡◌, ◌⊎◌, ◌++◌, ℕ, List, IfOk, IfSome, IsOk, IsTrue, codes, map, string_bytes};
 ghost use Rattle.sha2.specs.Sha256.{sha256};
 ghost use Rattle.http.specs.Request.{head_of};
 
+use crate::hosts::hosts_of;
 use crate::problem::{Problem, Refused};
 use crate::route::{Open, Route, open_at};
 use bytes::Bytes;
@@ -88,22 +89,17 @@ fn is_origin_form(request: &Request<Bytes>) -> bool {
     is_path && request.uri().scheme_str().is_none() && request.uri().host().is_none()
 }
 
-// The names of a host that listens at an address.
-fn push_names(
-    alloc: Global,
-    hosts: &mut Vec<String>,
-    name: &str,
-    port: u16,
-) -> Result<(), AllocError> {
-    hosts.push(format!(in alloc; "{name}:{port}")?)?;
-    if port == 80 {
-        hosts.push(String::from_str(alloc, name)?)?;
-    }
-    Ok(())
+// What stands behind the scheme of a token.
+fn token_in(value: &[u8]) -> Option<&[u8]>
+    ensures { IfSome result (λ token. value.now ≡ codes "Bearer " ++ token.now) }
+{
+    value.strip_prefix(b"Bearer ")
 }
 
 impl Gate {
-    ghost use Rattle.dewfelt_asked.specs.Access.{HasHost, HasOrigin, IsAllowed, IsRead, MayAsk, is_host};
+    ghost use Rattle.dewfelt_asked.specs.Access.{IsAllowed, IsRead, MayAsk};
+    ghost use Rattle.dewfelt_asked.specs.Gates.{HasHost, HasOrigin, IsPage, is_host};
+    ghost use Rattle.dewfelt_asked.specs.Hosts.{own_hosts};
 
     /// The gate of a listener at this address, that proxies call by these names, each with its port where that is part of it. The
     /// tokens are not empty.
@@ -114,18 +110,13 @@ impl Gate {
         operate: &[u8],
         read: &[u8],
     ) -> Result<Gate, AllocError>
+        ensures hosts { IfOk result (λ gate. map string_bytes gate.hosts.items
+            ≡ own_hosts address ++ map string_bytes names.now) }
         ensures operate { IfOk result (λ gate. gate.operate ≡ sha256 operate.now) }
         ensures read { IfOk result (λ gate. gate.read ≡ sha256 read.now) }
     {
-        let mut hosts = Vec::new(alloc);
-        hosts.push(format!(in alloc; "{address}")?)?;
-        push_names(alloc, &mut hosts, "127.0.0.1", address.port())?;
-        push_names(alloc, &mut hosts, "localhost", address.port())?;
-        for name in names {
-            hosts.push(name.clone()?)?;
-        }
         Ok(Gate {
-            hosts,
+            hosts: hosts_of(alloc, address, names)?,
             operate: digest_of(operate),
             read: digest_of(read),
         })
@@ -149,8 +140,7 @@ impl Gate {
 
     // Whether an origin is one of a page of ours.
     fn is_our_page(&self, origin: &[u8]) -> bool
-        ensures { IsTrue result → (host : List ℕ) × IsTrue (is_host self.now host)
-            × ((origin.now ≡ codes "http://" ++ host) ⊎ (origin.now ≡ codes "https://" ++ host)) }
+        ensures { IsTrue result → IsPage self.now origin.now }
     {
         match origin.strip_prefix(b"http://") {
             Some(host) => self.is_host(host),
@@ -161,14 +151,15 @@ impl Gate {
         }
     }
 
-    // Whether no page of another origin asks.
+    // Whether no page of another origin asks. A browser names one origin.
     fn is_our_origin(&self, request: &Request<Bytes>) -> bool
         ensures { IsTrue result → HasOrigin self.now request.now }
     {
-        match request.headers().get(ORIGIN) {
-            Some(origin) => self.is_our_page(origin.as_bytes()),
-            None => true,
-        }
+        let mut origins = request.headers().get_all(ORIGIN).iter();
+        let Some(origin) = origins.next() else {
+            return true;
+        };
+        origins.next().is_none() && self.is_our_page(origin.as_bytes())
     }
 
     // What the token of a request allows.
@@ -176,7 +167,7 @@ impl Gate {
         ensures { IfSome result (IsAllowed self.now request.now) }
     {
         let value = request.headers().get(AUTHORIZATION)?;
-        let given = value.as_bytes().strip_prefix(b"Bearer ")?;
+        let given = token_in(value.as_bytes())?;
         let digest = digest_of(given);
         if digest == self.operate {
             return Some(Access::Operate);

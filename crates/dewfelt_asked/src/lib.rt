@@ -2,6 +2,7 @@
 #![tactic(auto)]
 
 mod gate;
+mod hosts;
 mod problem;
 mod query;
 mod route;

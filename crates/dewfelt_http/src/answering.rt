@@ -1,7 +1,8 @@
 //! What requests are answered by.
 
-ghost use Rattle.std.specs.Prelude.{◌≡◌, ◌≤◌, OnOk};
+ghost use Rattle.std.specs.Prelude.{◌≡◌, [], OnOk};
 ghost use Rattle.dewfelt_http.specs.Answered.{IsAnswered};
+ghost use Rattle.dewfelt_http.specs.Problems.{Refuses};
 
 use crate::metrics::metrics_text;
 use crate::sending::{
@@ -246,7 +247,7 @@ impl<'a, S: Sight> Desk<'a, S> {
     }
 
     fn refuse(&self, response: &mut Response, refused: Refused) -> Result<(), AllocError>
-        ensures { OnOk result (400 ≤ response.new.status) }
+        ensures { OnOk result (Refuses response.old.body.items response.new) }
     {
         match refused {
             Refused::Problem(problem) => {
@@ -342,7 +343,7 @@ impl<'a, S: Sight> Desk<'a, S> {
 
     // Answers why nothing is admitted.
     fn send_refused(&self, response: &mut Response, refused: Refused) -> Result<(), AllocError>
-        ensures { OnOk result (400 ≤ response.new.status) }
+        ensures { OnOk result (Refuses response.old.body.items response.new) }
     {
         self.refuse(response, refused)?;
         self.site.requests.count(None, response.status);
@@ -350,6 +351,7 @@ impl<'a, S: Sight> Desk<'a, S> {
     }
 
     fn answer(&self, request: &Request<Bytes>, response: &mut Response) -> Result<(), AllocError>
+        requires { response.old.body.items ≡ [] }
         ensures { OnOk result (IsAnswered self.now.site.now.gate request.now response.new) }
     {
         guard_headers(response)?;

@@ -1,6 +1,7 @@
 //! How answers are put into responses.
 
-ghost use Rattle.std.specs.Prelude.{◌≡◌, ◌≤◌, OnOk};
+ghost use Rattle.std.specs.Prelude.{◌≡◌, ◌++◌, OnOk};
+ghost use Rattle.dewfelt_http.specs.Problems.{Refuses};
 
 use crate::problem_text::problem_text;
 use bytes::Bytes;
@@ -14,6 +15,7 @@ use std::alloc::{AllocError, Global};
 /// Puts the headers that each answer has.
 pub fn guard_headers(response: &mut Response) -> Result<(), AllocError>
     ensures status { OnOk result (response.new.status ≡ response.old.status) }
+    ensures body { OnOk result (response.new.body.items ≡ response.old.body.items) }
 {
     response.add_header(
         HeaderName::from_static("content-security-policy"),
@@ -41,6 +43,7 @@ pub fn guard_headers(response: &mut Response) -> Result<(), AllocError>
 
 fn put_kind(response: &mut Response, kind: HeaderValue) -> Result<(), AllocError>
     ensures status { OnOk result (response.new.status ≡ response.old.status) }
+    ensures body { OnOk result (response.new.body.items ≡ response.old.body.items) }
 {
     response.add_header(HeaderName::from_static("content-type"), kind)
 }
@@ -48,6 +51,7 @@ fn put_kind(response: &mut Response, kind: HeaderValue) -> Result<(), AllocError
 // The answer is not kept by caches.
 fn put_no_store(response: &mut Response) -> Result<(), AllocError>
     ensures status { OnOk result (response.new.status ≡ response.old.status) }
+    ensures body { OnOk result (response.new.body.items ≡ response.old.body.items) }
 {
     response.add_header(
         HeaderName::from_static("cache-control"),
@@ -58,6 +62,7 @@ fn put_no_store(response: &mut Response) -> Result<(), AllocError>
 // The body, where memory for it is there.
 fn put_body(response: &mut Response, text: Vec<u8>) -> Result<(), AllocError>
     ensures status { OnOk result (response.new.status ≡ response.old.status) }
+    ensures body { OnOk result (response.new.body.items ≡ response.old.body.items ++ text.items) }
 {
     match Bytes::from_vec(text) {
         Ok(bytes) => response.body.push(bytes),
@@ -83,6 +88,7 @@ pub fn put_header(
 /// Answers with a text of this kind.
 pub fn send(response: &mut Response, kind: HeaderValue, text: Vec<u8>) -> Result<(), AllocError>
     ensures status { OnOk result (response.new.status ≡ response.old.status) }
+    ensures body { OnOk result (response.new.body.items ≡ response.old.body.items ++ text.items) }
 {
     put_kind(response, kind)?;
     put_no_store(response)?;
@@ -99,6 +105,7 @@ pub fn send_json(response: &mut Response, text: Vec<u8>) -> Result<(), AllocErro
 // Puts the header that a status wants.
 fn put_wanted(response: &mut Response, problem: &Problem) -> Result<(), AllocError>
     ensures status { OnOk result (response.new.status ≡ response.old.status) }
+    ensures body { OnOk result (response.new.body.items ≡ response.old.body.items) }
 {
     match problem.status {
         StatusCode::UNAUTHORIZED => response.add_header(
@@ -123,7 +130,7 @@ pub fn send_problem(
     response: &mut Response,
     problem: &Problem,
 ) -> Result<(), AllocError>
-    ensures status { OnOk result (response.new.status ≡ problem.now.status) }
+    ensures { OnOk result (Refuses response.old.body.items response.new) }
 {
     let text = problem_text(alloc, problem)?;
     response.status = problem.status;
@@ -132,7 +139,8 @@ pub fn send_problem(
         response,
         HeaderValue::from_static("application/problem+json"),
         text,
-    )
+    )?;
+    Ok(())
 }
 
 /// Answers with this text that links of terminals are not served.

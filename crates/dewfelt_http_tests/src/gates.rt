@@ -18,10 +18,21 @@ pub const LORRY: Phone = Phone {
     digits: [0, 0, 0, 0, 0x01, 0x39, 0x12, 0x34, 0x56, 0x78],
 };
 
+/// The gate of a listener at an address.
+pub fn gate_at(rt: &impl Abort, alloc: Global, address: &str) -> Gate {
+    let name = String::from_str(alloc, "fleet.example.org").expect(rt, "memory");
+    let address = address.parse().expect(rt, "an address");
+    Gate::new(alloc, address, &[name], b"operate", b"read").expect(rt, "memory")
+}
+
 pub fn site(rt: &impl Abort, alloc: Global) -> Site {
-    let address = "127.0.0.1:8080".parse().expect(rt, "an address");
+    site_at(rt, alloc, "127.0.0.1:8080")
+}
+
+/// What is served at an address.
+pub fn site_at(rt: &impl Abort, alloc: Global, address: &str) -> Site {
     Site {
-        gate: Gate::new(alloc, address, &[], b"operate", b"read").expect(rt, "memory"),
+        gate: gate_at(rt, alloc, address),
         started: 1_800_000_000,
         terminals: "0.0.0.0:9000".parse().expect(rt, "an address"),
         version: "test",
@@ -45,8 +56,19 @@ pub fn answer<R: Abort + Wait + Clock + RandomSource + AllocGlobal>(
     request: &[u8],
 ) -> String {
     let site = site(rt, rt.alloc());
+    answer_at(rt, &site, board, rows, request)
+}
+
+/// What is answered by a site.
+pub fn answer_at<R: Abort + Wait + Clock + RandomSource + AllocGlobal>(
+    rt: &R,
+    site: &Site,
+    board: &Mutex<Board>,
+    rows: &Kept,
+    request: &[u8],
+) -> String {
     let sight = Shared::new(rt, board, rows);
-    let mut desk = Desk::new(rt.alloc(), &site, &sight);
+    let mut desk = Desk::new(rt.alloc(), site, &sight);
     let keys = RandomState::new(rt).expect(rt, "keys");
     let mut connection = Connection::new(rt.alloc(), keys, Config::default());
     let mut octets = request;

@@ -6,6 +6,8 @@ mod boards;
 #[cfg(test)]
 mod gates;
 #[cfg(test)]
+mod hosts;
+#[cfg(test)]
 mod kept;
 #[cfg(test)]
 mod rows;
