@@ -41,6 +41,7 @@ MISTAKES = [
     ("package.py --to nowhere", "nowhere is no folder"),
     ("package_trial.py old.deb new.deb", "old.deb is not there: tools/package.py makes it"),
     ("positions.py nothing.db", "nothing.db"),
+    ("prose.py nowhere", "nowhere is no folder"),
     ("rows.py out.jsonl", "--dir"),
     ("rows.py out.jsonl --dir nowhere", "nowhere has neither http.read.token nor http.token"),
     ("store_share.py /bin/true /bin/true . --loads many", "many is no list of loads"),
