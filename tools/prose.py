@@ -80,7 +80,8 @@ class File:
 def sentences(paragraph):
     """The sentences of a paragraph. What stands in code has no end of a sentence."""
     masked = re.sub(r"`[^`]*`", lambda code: re.sub(r"[.!?]", "_", code.group()), paragraph)
-    return [found for found in (part.strip() for part in END.split(masked)) if found]
+    ends = [0, *(found.end() for found in END.finditer(masked)), len(masked)]
+    return [paragraph[start:end].strip() for start, end in zip(ends, ends[1:]) if paragraph[start:end].strip()]
 
 
 def documents(folder):
