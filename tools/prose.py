@@ -6,9 +6,10 @@
 
 A line a file: its words outside tables and code, in tables, in code, all of them, and its longest sentence and paragraph. Then each
 sentence and paragraph that is too long, with file and line; tables and code have none. A sentence ends at a full stop, an exclamation
-mark or a question mark before a space; an item of a list is a paragraph. Words are what stands between spaces, as wc -w counts
-them, but for the bars of tables.
-Texts in Chinese (*.zh-CN.md) are left out, and of docs/MANUAL.md the words under the heading 'The HTTP interface' do not count.
+mark or a question mark before a space; an item of a list is a paragraph. Words are what stands between spaces and has a letter or a
+digit, so that wc -w counts more in tables. Texts in Chinese (*.zh-CN.md) are left out, and of docs/MANUAL.md the words under the
+heading 'The HTTP interface' do not count.
+
 Status 1 where a sentence or paragraph is too long, or where all words are more than the limit. It runs behind `rt ci` in .ci/run.
 """
 import glob
@@ -34,8 +35,8 @@ END = re.compile(r"(?<=[^.\s][.!?])[*)'\"]*\s+|(?<=[^.\s][.!?])[*)'\"]+$")
 
 
 def count(text):
-    """The words of a text; the bars of a table are none."""
-    return sum(any(sign not in "|-:" for sign in word) for word in text.split())
+    """The words of a text; signs alone, as the bars of a table, are none."""
+    return sum(any(map(str.isalnum, word)) for word in text.split())
 
 
 class File:
