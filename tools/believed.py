@@ -46,7 +46,6 @@ CLAIMS = {
     "alarms": "jt_fence:law_alarms",
     "view, check": "jt_view:report",
     "rehearse": "jt_world:rehearse",
-    "make": "jt_world:make",
     "fence": "jt_fence_command:fence",
     "relay": "jt_relay_command:relay",
     "gateway": "jt_gateway_command:gateway",
