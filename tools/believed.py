@@ -202,7 +202,8 @@ def through(crate, name, types):
         found, crates = list(imported(model.uses, words)), model.crates
         words = re.findall(r"\w+", " ".join(kind for field, kind in model.fields.items() if field in words))
     for word in words:
-        found += through(crates.get(word, crate), word, types)
+        other = crates.get(word)
+        found += through(crate if other in (None, "crate", "self", "super") else other, word, types)
     return found
 
 
@@ -250,9 +251,12 @@ def definitions(word):
 
 
 def claimed(root):
-    """What a claim begins at: the definitions of its name, or what the clauses of its call use."""
-    found = {(path, root.rpartition(":")[2]) for path, _ in definitions(root)} if ":" in root else set()
-    return found or starts_of(root)
+    """What a claim begins at: what the clauses of its call use, or else the definitions of its name."""
+    crate, _, name = root.partition(":")
+    found = {(path, name) for path, _ in definitions(root)} if name else set()
+    if found and not any(name in (call.name, call.fn) for call in clauses.public_calls(crate)):
+        return found
+    return starts_of(root)
 
 
 def of_claim(starts):
