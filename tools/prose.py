@@ -23,10 +23,8 @@ sys.dont_write_bytecode = True
 import command_line  # noqa: E402
 
 SENTENCE, PARAGRAPH = 40, 120
-# The limit is to be 15,000. Until documents are as short, it is the figure that they have reached.
-WORDS = 15_000
-# Files whose sentences and paragraphs are listed and not yet held to the rule.
-LATER = set()
+# The limit is to be 15,000. Until documents are as short, it is the figure that they have reached: lower it with each that is cut.
+WORDS = 17_200
 ASIDE = ("docs/MANUAL.md", "The HTTP interface")
 HEADING = re.compile(r"(#+)\s+(.*?)\s*#*$")
 PICTURE = re.compile(r"\s*(!\[[^\]]*\]\([^)]*\)|<[^>]*>)\s*$")
@@ -123,7 +121,7 @@ def main(given):
               + (f" ({words['aside']} aside)" if words["aside"] else ""))
     for file in files:
         for line, length, what, text in too_long(file):
-            failed = failed or file.name not in LATER
+            failed = True
             print(f"{file.name}:{line}: a {what} of {length} words: {' '.join(text.split()[:6])} ..")
     total = sum(file.counted() for file in files)
     print(f"words={total} of {WORDS}")
