@@ -15,7 +15,9 @@ import clauses  # noqa: E402
 import command_line  # noqa: E402
 
 FILES = {
-    "low/src/lib.rt": "mod count;\n\npub use count::{Counter, Counts, length};\npub use lower::Other;\n",
+    "../crates.txt": "high: low hex\nlow: hex\nprogram: low high\n",
+    "program/src/main.rt": "//! Runs. And ends.\n",
+    "low/src/lib.rt": "//! Counts: what is seen, and\n//! how often. Nothing else.\n\nmod count;\n\npub use count::{Counter, Counts, length};\npub use lower::Other;\n",
     "low/src/count.rt": """//! Counts.
 
 ghost use Rattle.std.specs.Prelude.{◌≡◌, List};
@@ -101,7 +103,7 @@ length_of octets = base.base ▹ 1
 pub record Unasked : Type 0 where
   pub left : ℕ
 """,
-    "high/src/lib.rt": "mod parts;\nmod shown;\n\npub use shown::Shown;\n",
+    "high/src/lib.rt": "//! Shows.\nmod parts;\nmod shown;\n\npub use shown::Shown;\n",
     "high/src/parts.rt": """//! Parts.
 
 pub(crate) struct Inner {
@@ -210,6 +212,9 @@ class Clauses(Small):
     def test_all_calls_of_a_trait(self):
         self.assertEqual(self.printed(clauses, "--list", "low", "Counts"), (
             "low Counts::seen: (ghost member)\nlow Counts::see: seen\n"))
+
+    def test_layers(self):
+        self.assertEqual(self.printed(clauses, "--layers"), " 1 low: Counts: what is seen, and how often\n 2 high: Shows\n 3 program: Runs\n")
 
     def test_what_is_not_there(self):
         for words in (["low", "nothing"], ["nowhere"]):

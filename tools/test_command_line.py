@@ -22,6 +22,7 @@ MISTAKES = [
     ("believed.py --print", "say which name"),
     ("believed.py --print NothingOfThis", "specs/ defines no NothingOfThis"),
     ("build.py jt809", "jt809 is none of: jt808, dewfelt"),
+    ("clauses.py", "say which crate"),
     ("clauses.py nowhere", "crates/ has no crate nowhere"),
     ("clauses.py jt_view nothing", "jt_view has no public call nothing"),
     ("compare_fences.py --program nothing", "nothing is not there"),
