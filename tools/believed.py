@@ -4,6 +4,9 @@
     tools/believed.py                  of `run`, `serve`, the calls of jt_codec, and the law of the world of octets, each and together
     tools/believed.py CRATE:CALL ..    of these calls alone; CRATE alone stands for all public calls of the crate
     tools/believed.py --short ..       the sums alone
+    tools/believed.py --claim          a line for each claim, and for each command: the lines to read
+    tools/believed.py --claim CRATE:NAME ..   what these lead to, a call or a definition of specs/, as KeptWhole of jt_world
+    tools/believed.py --print NAME ..  the definitions of these names, as KeptWhole or jt_world:KeptWhole, with file and line
 
 It begins at the names that the clauses use and the file imports from specs/, and at what the `ghost view` of each type uses that a
 call's signature names, with the views of the fields that this view shows; and it follows the `use` lines of the files in specs/. A
@@ -11,7 +14,8 @@ line for each file, lowest first, so that a file stands behind all that it uses:
 comments) that are reached name by name, its lines in all, a mark, and its path. A name is reached where its text stands in what
 was reached before, so too much may be counted; 0 says that the file is imported for definitions that are not.
 Marks: 'steps' are files whose head says that they are for the proofs, 'partly' those that are so but for what the head names, and
-'?' those whose head says neither. Types (`declared`) are the program's own; they and the kit's definitions are not in the list.
+'?' those whose head says neither. Types (`declared`) are the program's own; they and the kit's definitions are not in the list. With `--claim` types and constants
+that definitions name are, marked 'type': the lines of the declaration and of the view, and what the view uses is followed too.
 """
 import functools
 import os
@@ -30,8 +34,30 @@ ROOTS = {
     "the codec": ["jt_codec"],
     "the world of octets": ["jt_octets:law_world"],
 }
+# Of each claim, and of each command, the definition or the call that says it.
+CLAIMS = {
+    "delivery, of messages": "jt_delivery:law_kept_delivery",
+    "delivery, of octets": "jt_octets:law_world",
+    "delivery, of a rehearsal": "jt_world:KeptWhole",
+    "a gateway's": "jt_gateway_command:PassedWhole",
+    "orders, of messages": "jt_obeying:law_obeyed",
+    "orders, of octets": "jt_order_octets:law_order_world",
+    "orders, of a script": "jt_order_command:ObeyedWhole",
+    "alarms": "jt_fence:law_alarms",
+    "view, check": "jt_view:report",
+    "rehearse": "jt_world:rehearse",
+    "fence": "jt_fence_command:fence",
+    "relay": "jt_relay_command:relay",
+    "gateway": "jt_gateway_command:gateway",
+    "orders": "jt_order_command:orders",
+    "report": "jt_report_command:report",
+    "platform": "jt_platform_command:platform",
+    "a session over a link": "jt_session:serve_link",
+}
 USE = re.compile(r"^\s*(?:pub |ghost )*use (Rattle\.[\w.]+?)(?:\.\{([^}]*)\}| as (\w+))?;?\s*$", re.M)
 DECLARED = re.compile(r"^(?:  )?(?:(?:abbrev|unfoldable)(?: pub)? |pub (?:record |data )?|record |data )(\S+)")
+TYPES = re.compile(r"^\s*use Rattle\.(\w+)\.specs\.declared\.([\w.]+?)(?:\.\{([^}]*)\}| as (\w+))?;?\s*$", re.M)
+DECLARATION = re.compile(r"((?:^ *(?:///|//|#\[).*\n)*)^ *(?:pub(?:\([a-z]+\))? )?(struct|enum|const|static) (\w+)", re.M)
 FIELD = re.compile(r"^ +pub \S+ :")
 MEMBER = re.compile(r"^ {2,}(?:pub )?((?:[^\s(){}=]+ )+):")
 MODEL = re.compile(r"^impl(?:<[^{]*>)? Model for (\w+)[^{]*\{", re.M)
@@ -74,6 +100,19 @@ def words_in(text):
     return found | {part for word in found for part in word.split(".")}
 
 
+def types_in(text):
+    """The types and constants of src/ that a text imports: (crate, name there, names here)."""
+    found = []
+    for crate, module, names, alias in TYPES.findall(text):
+        last = module.split(".")[-1]
+        for pair in (part.strip().split(" as ") for part in names.split(",") if part.strip()):
+            there, here = pair[0].strip(), pair[-1].strip()
+            found.append((crate, module.split(".")[-2] if last == "TheVariants" else there, {here}))
+        if alias:
+            found.append((crate, last, {alias}))
+    return found
+
+
 def stands_in(name, words):
     """Whether a name, or a part of an operator, is one of the words."""
     return any(part in words for part in name.split("◌") if part)
@@ -83,10 +122,10 @@ class Spec:
     """A file of specs/, cut into its definitions."""
 
     def __init__(self, path):
-        self.path, self.uses = path, uses(read(path))
-        self.chunks, self.names = [], []
+        self.path, self.uses, self.types = path, uses(read(path)), types_in(read(path))
+        self.chunks, self.names, self.at = [], [], []
         chunk, comments = [], []
-        for line in read(path).split("\n"):
+        for number, line in enumerate(read(path).split("\n"), 1):
             if USE.match(line) or re.match(r"\s*(module|infix)", line):
                 comments = []
                 continue
@@ -97,6 +136,7 @@ class Spec:
             if named:
                 chunk = [held for held in comments if held.strip()] + [line]
                 self.chunks.append(chunk)
+                self.at.append(number)
                 self.names.append({named.group(1)})
             elif self.chunks:
                 chunk += [held for held in comments if held.strip()] + [line]
@@ -128,8 +168,8 @@ def imported(listed, words):
             yield path, None
 
 
-def reach(starts):
-    """The definitions, as (file, number), to which these names lead."""
+def reach(starts, types=None):
+    """The definitions, as (file, number), to which these names lead; where a set of types is given, also through types, which are put there."""
     found, waiting = set(), list(starts)
     while waiting:
         path, name = waiting.pop()
@@ -141,7 +181,114 @@ def reach(starts):
             words = file.words[number]
             waiting += imported(file.uses, words)
             waiting += [(path, own) for all_names in file.names for own in all_names if stands_in(own, words)]
+            if types is not None:
+                for crate, there, here in file.types:
+                    if here & words:
+                        waiting += through(crate, there, types)
     return found
+
+
+def through(crate, name, types):
+    """What the view of a type uses, as (file, name), with those of the types in it; the types are put into the set."""
+    place = declared(clauses.ROOT).get((crate, name))
+    if place is None or (crate, name) in types:
+        return []
+    types.add((crate, name))
+    model = models(clauses.ROOT).get((crate, name))
+    if model is None:
+        words, found, crates = re.findall(r"\w+", place.text), [], place.crates
+    else:
+        words = words_in(model.shown)
+        found, crates = list(imported(model.uses, words)), model.crates
+        words = re.findall(r"\w+", " ".join(kind for field, kind in model.fields.items() if field in words))
+    for word in words:
+        other = crates.get(word)
+        found += through(crate if other in (None, "crate", "self", "super") else other, word, types)
+    return found
+
+
+class Declared:
+    """A type or a constant of src/: its file and line, its text, its lines with those of its view, and what its file imports."""
+
+    def __init__(self, path, text, head):
+        self.path, self.line = path, text.count("\n", 0, head.start(2)) + 1
+        ends = [place for place in (text.find(";", head.end()), text.find("{", head.end())) if place >= 0]
+        end = min(ends, default=len(text) - 1)
+        end = clauses.closing(text, end) if text[end] == "{" else end + 1
+        self.text = text[head.start(2):end]
+        self.lines = text[head.start():end].strip("\n").count("\n") + 1
+        for found in MODEL.finditer(text):
+            if found.group(1) == head.group(3):
+                self.lines += text[found.start():clauses.closing(text, found.end() - 1)].count("\n") + 1
+        self.crates = dict_of_names(text)
+
+
+@functools.lru_cache(None)
+def declared(root):
+    """The types and constants of src/, as a table of (crate, name)."""
+    found = {}
+    for crate in sorted(os.listdir(os.path.join(root, "crates"))):
+        for base, _, files in sorted(os.walk(os.path.join(root, "crates", crate, "src"))):
+            for file in sorted(name for name in files if name.endswith(".rt")):
+                path = os.path.relpath(os.path.join(base, file), root)
+                text = read(path)
+                for head in DECLARATION.finditer(text):
+                    found.setdefault((crate, head.group(3)), Declared(path, text, head))
+    return found
+
+
+def definitions(word):
+    """The definitions of a name, as (file, number)."""
+    crate, _, name = word.rpartition(":")
+    found = []
+    for place in [crate] if crate else sorted(os.listdir(os.path.join(clauses.ROOT, "crates"))):
+        for base, _, files in sorted(os.walk(os.path.join(clauses.ROOT, "crates", place, "specs"))):
+            for file in sorted(file for file in files if file.endswith(".antt")):
+                path = os.path.relpath(os.path.join(base, file), clauses.ROOT)
+                if name in read(path):
+                    found += [(path, number) for number, names in enumerate(spec(path).names) if name in names]
+    return found
+
+
+def claimed(root):
+    """What a claim begins at: what the clauses of its call use, or else the definitions of its name."""
+    crate, _, name = root.partition(":")
+    found = {(path, name) for path, _ in definitions(root)} if name else set()
+    if found and not any(name in (call.name, call.fn) for call in clauses.public_calls(crate)):
+        return found
+    return starts_of(root)
+
+
+def of_claim(starts):
+    """Of each file the lines that are reached, in the order in which to read them: files of specs/, then types of src/ by file."""
+    types, counts = set(), {}
+    for path, number in reach(starts, types):
+        counts[path] = counts.get(path, 0) + len(spec(path).chunks[number])
+    shown = {}
+    for key in types:
+        place = declared(clauses.ROOT)[key]
+        shown[place.path] = shown.get(place.path, 0) + place.lines
+    return [(path, counts[path], mark(path)) for path in order(counts) if path in counts], [(path, shown[path], "type") for path in sorted(shown)]
+
+
+def print_claims(words):
+    """The sums of the claims, or of these; with the files where some are named."""
+    for name, root in {word: word for word in words}.items() if words else CLAIMS.items():
+        specs, shown = of_claim(claimed(root))
+        for path, lines, marked in (specs + shown) if words else ():
+            print(f"{lines:5} {marked:7} {path}")
+        print(f"{name} ({root}): {len(specs)} files, {sum(lines for _, lines, _ in specs)} lines, "
+              f"and of types {len(shown)} files, {sum(lines for _, lines, _ in shown)} lines")
+
+
+def print_definitions(words):
+    """The definitions of these names, with file and line."""
+    for word in words:
+        found = definitions(word)
+        if not found:
+            raise command_line.Mistake(f"specs/ defines no {word}: rt lemma finds one by a part of its name")
+        for path, number in found:
+            print(f"{path}:{spec(path).at[number]}", *spec(path).chunks[number], "", sep="\n")
 
 
 class Model:
@@ -264,9 +411,15 @@ def sums(starts):
 def main(given):
     asked = command_line.Words(__doc__)
     asked.add_argument("--short", action="store_true", help="the sums alone")
-    asked.add_argument("words", metavar="CRATE:CALL", nargs="*")
+    asked.add_argument("--claim", action="store_true", help="what each claim and each command leads to, through types too")
+    asked.add_argument("--print", action="store_true", help="the definitions of these names")
+    asked.add_argument("words", metavar="CRATE:NAME", nargs="*")
     read = asked.parse_args(given)
     short, words = read.short, read.words
+    if read.print and not words:
+        asked.error("say which name")
+    if read.claim or read.print:
+        return (print_definitions if read.print else print_claims)(words)
     groups = {word: [word] for word in words} or ROOTS
     starts = {name: set().union(*map(starts_of, roots)) for name, roots in groups.items()}
     together = set().union(*starts.values())

@@ -4,10 +4,12 @@
     tools/clauses.py CRATE ..          every public call of these crates: its `///` lines, its signature and its clauses
     tools/clauses.py CRATE CALL ..     of one crate only these calls, as `run`, `Hub::act` or all of `Hub`
     tools/clauses.py --list CRATE ..   one line a call: its name, and the names of its clauses
+    tools/clauses.py --layers          each crate with its layer and its job, lowest first
 
 Public is what src/lib.rt passes on with `pub use`: functions, methods of types, methods and ghost members of traits, and what an
 impl of a trait says itself; where it says nothing, the trait's clauses hold as they are. A clause without a name is printed as
-'(one)'. What is passed on of another crate is named at the end.
+'(one)'. What is passed on of another crate is named at the end. A crate stands in the layer above the highest one that it uses, by crates.txt; its job is what its lib.rt, or its
+main.rt, says first.
 """
 import os
 import re
@@ -212,17 +214,47 @@ def show(call):
     return "\n".join(lines)
 
 
+def layers():
+    """Each crate with its layer, lowest first."""
+    with open(os.path.join(ROOT, "crates.txt"), encoding="utf-8") as file:
+        below = {name: used.split() for name, _, used in (line.partition(":") for line in file.read().splitlines()) if name}
+    known = {}
+
+    def layer(name):
+        if name not in known:
+            known[name] = 1 + max((layer(used) for used in below[name] if used in below), default=0)
+        return known[name]
+
+    return sorted(((layer(name), name) for name in below), key=lambda found: found[0])
+
+
+def job(crate):
+    """The first sentence of a crate's lib.rt, or main.rt."""
+    paths = [os.path.join(ROOT, "crates", crate, "src", name) for name in ("lib.rt", "main.rt")]
+    with open(next(path for path in paths if os.path.isfile(path)), encoding="utf-8") as file:
+        head = " ".join(line[3:].strip() for line in file.read().splitlines() if line.startswith("//!"))
+    return head.partition(". ")[0].rstrip(".")
+
+
 def read_words(given):
-    """The words after the program's name, and whether --list is among them."""
+    """What was asked for."""
     asked = command_line.Words(__doc__)
     asked.add_argument("--list", action="store_true", help="one line a call")
-    asked.add_argument("words", metavar="CRATE|CALL", nargs="+")
+    asked.add_argument("--layers", action="store_true", help="one line a crate: its layer and its job")
+    asked.add_argument("words", metavar="CRATE|CALL", nargs="*")
     read = asked.parse_args(given)
-    return read.words, read.list
+    if not read.words and not read.layers:
+        asked.error("say which crate")
+    return read
 
 
 def main(given):
-    words, brief = read_words(given)
+    read = read_words(given)
+    if read.layers:
+        for layer, name in layers():
+            print(f"{layer:2} {name}: {job(name)}")
+        return
+    words, brief = read.words, read.list
     crates = [word for word in words if os.path.isdir(os.path.join(ROOT, "crates", word))]
     names = [word for word in words if word not in crates]
     if not crates or (names and len(crates) > 1):

@@ -15,7 +15,9 @@ import clauses  # noqa: E402
 import command_line  # noqa: E402
 
 FILES = {
-    "low/src/lib.rt": "mod count;\n\npub use count::{Counter, Counts, length};\npub use lower::Other;\n",
+    "../crates.txt": "high: low hex\nlow: hex\nprogram: low high\n",
+    "program/src/main.rt": "//! Runs. And ends.\n",
+    "low/src/lib.rt": "//! Counts: what is seen, and\n//! how often. Nothing else.\n\nmod count;\n\npub use count::{Counter, Counts, length};\npub use lower::Other;\n",
     "low/src/count.rt": """//! Counts.
 
 ghost use Rattle.std.specs.Prelude.{◌≡◌, List};
@@ -101,7 +103,7 @@ length_of octets = base.base ▹ 1
 pub record Unasked : Type 0 where
   pub left : ℕ
 """,
-    "high/src/lib.rt": "mod parts;\nmod shown;\n\npub use shown::Shown;\n",
+    "high/src/lib.rt": "//! Shows.\nmod parts;\nmod shown;\n\npub use shown::Shown;\n",
     "high/src/parts.rt": """//! Parts.
 
 pub(crate) struct Inner {
@@ -149,6 +151,21 @@ shows n = n
 abbrev pub hides : ℕ → ℕ
 hides n = n
 """,
+    "high/specs/Claim.antt": """-- What is claimed. To be believed.
+use Rattle.low.specs.Base.{other}
+use Rattle.high.specs.declared.shown.Shown.{Shown}
+use Rattle.high.specs.declared.limits.TheConstants.{MOST, LEAST}
+
+-- what holds of what is shown
+pub record Claim (s : Shown) : Type 0 where
+  pub few : other ≤ MOST
+""",
+    "high/src/limits.rt": """//! Limits.
+
+/// The most.
+pub const MOST: usize = 4;
+pub const LEAST: usize = 1;
+""",
 }
 
 
@@ -163,7 +180,7 @@ class Small(unittest.TestCase):
                 file.write(text)
         root, clauses.ROOT = clauses.ROOT, folder.name
         self.addCleanup(setattr, clauses, "ROOT", root)
-        for cached in (believed.read, believed.spec, believed.models):
+        for cached in (believed.read, believed.spec, believed.models, believed.declared):
             cached.cache_clear()
 
     def printed(self, tool, *words):
@@ -196,6 +213,9 @@ class Clauses(Small):
         self.assertEqual(self.printed(clauses, "--list", "low", "Counts"), (
             "low Counts::seen: (ghost member)\nlow Counts::see: seen\n"))
 
+    def test_layers(self):
+        self.assertEqual(self.printed(clauses, "--layers"), " 1 low: Counts: what is seen, and how often\n 2 high: Shows\n 3 program: Runs\n")
+
     def test_what_is_not_there(self):
         for words in (["low", "nothing"], ["nowhere"]):
             with self.assertRaises(command_line.Mistake):
@@ -217,9 +237,31 @@ class Believed(Small):
         self.assertEqual(self.printed(believed, "high:get").split("\n")[:1], [
             "    2     7 partly  crates/high/specs/Shows.antt"])
 
-    def test_a_call_that_is_not_there(self):
+    def test_a_claim_leads_through_the_types_that_it_names(self):
+        self.assertEqual(self.printed(believed, "--claim", "high:Claim"), (
+            "    2         crates/low/specs/Base.antt\n"
+            "    3         crates/high/specs/Claim.antt\n"
+            "    2 partly  crates/high/specs/Shows.antt\n"
+            "    2 type    crates/high/src/limits.rt\n"
+            "   10 type    crates/high/src/parts.rt\n"
+            "   10 type    crates/high/src/shown.rt\n"
+            "high:Claim (high:Claim): 3 files, 7 lines, and of types 3 files, 22 lines\n"))
+
+    def test_a_claim_of_a_call(self):
+        self.assertEqual(self.printed(believed, "--claim", "low:length").split("\n")[-2],
+                         "low:length (low:length): 3 files, 7 lines, and of types 0 files, 0 lines")
+
+    def test_a_definition_by_its_name(self):
+        claim = "crates/high/specs/Claim.antt:7\n-- what holds of what is shown\npub record Claim (s : Shown) : Type 0 where\n  pub few : other ≤ MOST\n\n"
+        for name in ("Claim", "high:Claim"):
+            self.assertEqual(self.printed(believed, "--print", name), claim)
         with self.assertRaises(command_line.Mistake):
-            self.printed(believed, "low:not_passed_on")
+            self.printed(believed, "--print", "low:Claim")
+
+    def test_a_call_that_is_not_there(self):
+        for words in (["low:not_passed_on"], ["--claim", "low:not_passed_on"]):
+            with self.assertRaises(command_line.Mistake):
+                self.printed(believed, *words)
 
 
 if __name__ == "__main__":

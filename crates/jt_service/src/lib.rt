@@ -1,6 +1,7 @@
 //! A platform that runs on: so many links at once at most, one after another, for as long as they come.
 #![tactic(auto)]
 
+mod bench;
 mod door;
 mod hall;
 mod root;

@@ -138,8 +138,9 @@ fn work<N: Which, R: Wait + Clock, K: Link + Drop, P: Keeper + Drop, J: Journal,
 )
     requires turn { turn.now ≡ N.turn }
 {
+    let worker = hall.enter(rt);
     for _ in rt.forever() {
-        match hall.take(rt) {
+        match hall.take(rt, worker) {
             Some(arrival) => serve_arrival(rt, alloc, turn, hall, watch, limits, arrival),
             None => return,
         }
