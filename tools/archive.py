@@ -10,7 +10,45 @@ and then removes them from it. Of each phone the last rows stay. It reads a copy
 the removal alone none may: at a locked file it ends with nothing removed, or it waits with --wait. The second form copies and
 removes nothing. The third one puts all rows of a file into a database again: of the files by month after the database lost some.
 
-Each row goes exactly once, whatever is killed: run the tool again. One file, one name. docs/MANUAL.md has more.
+Each row goes exactly once, whatever is killed: run the tool again. What was copied is committed first. Then counts and sums of all
+that is to go are compared between the file and each target; only then it is removed, in one transaction. Where the database is away
+rows wait in the file, and terminals notice nothing. The copy of the file stands in TMPDIR (/tmp); the removal wants as much free
+disk as the file has, and as much memory, up to 1 GB. One file has one name.
+
+Which rows have to stay: a terminal gets the same octets in any case. A platform looks for a unit that comes again among the rows up
+to 32,768 below the last one's number, and at no other row (docs/WIRE.md): with --exact nothing changes at all. At a row each half
+minute these are 11 days. A terminal of this program has at most 16 units that are not accepted, so 16 rows are enough for it; what
+those of other makers have is not known. Where a unit comes again whose row has left the file, it is stored a second time, under a
+later number: jt808.twice names both. left808 in platform.db says of each phone up to which number rows left.
+
+The tables are made at the first run, in the schema jt808 of PostgreSQL 14 or later. A phone has no zeros at its front there:
+
+    position            each position, in a table a day: platform, phone, day, number of its row, place in it and their count, octets
+                        as they came; read of them time, latitude, longitude, altitude, speed, direction, alarm, status, mileage, items
+    platform            the name of each platform's number
+    last_position       the last stored position of each phone
+    track               positions that were located and have a moment, with that of the one before it that day, and the metres from
+                        there (time_before, metres_before)
+    mileage_a_day       of each phone and day: km by positions and by odometer, top speed
+    stay                where a vehicle was below 1 km/h for five minutes or more
+    twice               rows that stand twice
+    position_shape, track_shape     points and lines for QGIS, from the first run after CREATE EXTENSION postgis on
+
+A day is one of the terminal's clock, in China. A position without a moment stands under the day of the first of its row that has
+one, or 1970-01-01. Always ask for a day, and where you can for a phone: a lorry's day of 2,880 positions is one look-up. DROP TABLE
+jt808.position_20251130 takes a day away at once, when its rows have left the file. Readers want GRANT USAGE ON SCHEMA jt808 and
+GRANT SELECT ON ALL TABLES IN SCHEMA jt808. Beyond some 10,000 terminals and a year PostgreSQL is shared out by the phone, which
+stands first in the key (Citus), or by the day (Timescale); neither was tried.
+
+After a loss: a file that was put back from a backup goes under a new name, since its numbers go other ways from there on; the old
+one is refused. So is a database that was put back, with the phone named: rows have left the file that it lacks. Put them there again
+from the files by month (so have both targets), in any order; without those files go on under a new name with --from-here:
+
+    for month in old/a-[2n]*.db; do tools/archive.py "$month" --name a --database dbname=fleet --refill; done
+
+`jt808 relay` wants all rows of its phone: it counts fixes from the first row on, and once rows have left the file it ends with
+`store fault`. So where terminal.db stands beside the file nothing is removed, unless --no-relay says that nobody uses relay there.
+From then on tools/archive_fixes.py takes its place.
 
 The status is 0; 1 where something is in the way, which is told with what to do; 2 where the words are wrong.
 """
