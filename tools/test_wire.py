@@ -34,20 +34,24 @@ def number(value, octets=WORD):
     return value.to_bytes(octets, "big")
 
 
+def escaped(content):
+    """7D as 7D 01, then 7E as 7D 02, and a flag at both ends."""
+    return b"\x7e" + content.replace(b"\x7d", b"\x7d\x01").replace(b"\x7e", b"\x7d\x02") + b"\x7e"
+
+
 def framed(content):
-    """Behind the content the XOR of its octets; 7E and 7D escaped; 7E at both ends."""
+    """A content behind which the XOR of its octets is put."""
     check = 0
     for octet in content:
         check ^= octet
-    whole = content + bytes([check])
-    return b"\x7e" + whole.replace(b"\x7d", b"\x7d\x01").replace(b"\x7e", b"\x7d\x02") + b"\x7e"
+    return escaped(content + bytes([check]))
 
 
 def contents(stream):
     """The contents of the frames of a stream, without their check octets."""
     found = []
-    for escaped in re.findall(rb"\x7e([^\x7e]+)\x7e", stream):
-        whole = escaped.replace(b"\x7d\x02", b"\x7e").replace(b"\x7d\x01", b"\x7d")
+    for within in re.findall(rb"\x7e([^\x7e]+)\x7e", stream):
+        whole = within.replace(b"\x7d\x02", b"\x7e").replace(b"\x7d\x01", b"\x7d")
         found.append(whole[:-1])
     return found
 
@@ -120,7 +124,7 @@ def printed():
     """The lines that the document prints, by edition: a line that begins with `>` or `<`, and those indented behind it."""
     found, edition = {2013: [], 2019: []}, None
     for line in section("A terminal in ten lines").split("\n"):
-        if match := re.match(r"(?:In )?(2013|2019):$", line.strip()):
+        if match := re.search(r"In (2013|2019)\b[^.]*:$", line):
             edition = int(match[1])
         elif match := re.match(r"    ([<>]) +([0-9a-f ]+)$", line):
             found[edition].append((match[1], match[2]))
@@ -130,12 +134,22 @@ def printed():
     return found
 
 
+def lines(edition):
+    """The printed lines as octets, and behind them those that are not printed since they differ in the header alone."""
+    said = [(mark, bytes.fromhex(digits)) for mark, digits in printed()[edition]]
+    return said + ten(edition)[len(said) :]
+
+
 class Printed(unittest.TestCase):
     def test_ten_lines(self):
-        for edition in (2013, 2019):
+        for edition, count in ((2013, 10), (2019, 4)):
             with self.subTest(edition):
-                said = [(mark, digits.replace(" ", "")) for mark, digits in printed()[edition]]
-                self.assertEqual(said, [(mark, octets.hex()) for mark, octets in ten(edition)])
+                self.assertEqual(len(printed()[edition]), count)
+                self.assertEqual([(mark, octets.hex()) for mark, octets in lines(edition)], [(mark, octets.hex()) for mark, octets in ten(edition)])
+
+    def test_six_differ_in_header_and_check_octet_alone(self):
+        for (_, old), (_, new) in zip(ten(2013)[4:], ten(2019)[4:], strict=True):
+            self.assertEqual(contents(old)[0][12:], contents(new)[0][17:])
 
     def test_what_the_text_says_of_them(self):
         text = section("A terminal in ten lines")
@@ -147,12 +161,8 @@ class Printed(unittest.TestCase):
         self.assertIn("007d01", text)
 
     def test_the_examples_of_frames(self):
-        text = section("Frames")
-        self.assertIn("`30 7e 08 7d 55` is framed `7e 30 7d 02 08 7d 01 55 7e`", text)
-        self.assertEqual(framed(bytes.fromhex("307e087d")), bytes.fromhex("7e307d02087d01257e"))
-        for edition in (2013, 2019):
-            line = next(it for it in text.split("\n") if it.startswith(f"    {edition}  "))
-            self.assertEqual(bytes.fromhex(line[10:]), message(edition, 0x0002, 0))
+        self.assertIn("`30 7e 08 7d 55` becomes `7e 30 7d 02 08 7d 01 55 7e`", section("Frames"))
+        self.assertEqual(escaped(bytes.fromhex("307e087d55")), bytes.fromhex("7e307d02087d01557e"))
 
 
 @is_built
@@ -161,12 +171,12 @@ class Viewed(unittest.TestCase):
 
     def test_view(self):
         for edition in (2013, 2019):
-            digits = "".join(it for _, it in printed()[edition])
+            digits = "".join(it.hex() for _, it in lines(edition))
             ran = subprocess.run([PROGRAM, "view", "--hex"], input=digits.encode("ascii"), stdout=subprocess.PIPE)
-            lines = ran.stdout.decode("ascii").splitlines()
-            self.assertEqual((ran.returncode, lines[-1]), (0, "frames=10 refused=0"))
+            said = ran.stdout.decode("ascii").splitlines()
+            self.assertEqual((ran.returncode, said[-1]), (0, "frames=10 refused=0"))
             place = 0
-            for line, (_, octets) in zip(lines, ten(edition), strict=False):
+            for line, (_, octets) in zip(said[:-1], lines(edition), strict=True):
                 (whole,) = contents(octets)
                 identity, length = int.from_bytes(whole[:2], "big"), int.from_bytes(whole[2:4], "big") & 1023
                 serial = int.from_bytes(whole[len(whole) - length - 2 : len(whole) - length], "big")
@@ -174,8 +184,8 @@ class Viewed(unittest.TestCase):
                 head = f"{place} {edition} 0x{identity:04x} {self.NAMES[identity]}{version} phone={DIGITS[edition]} serial={serial} body={length}"
                 self.assertEqual(line[: len(head)], head)
                 place += len(octets)
-            self.assertIn("time=2026-11-28T06:30:00+08:00", lines[6])
-            self.assertIn("altitude=125 speed=605 direction=90", lines[6])
+            self.assertIn("time=2026-11-28T06:30:00+08:00", said[6])
+            self.assertIn("altitude=125 speed=605 direction=90", said[6])
 
 
 # ---- a terminal
@@ -303,8 +313,8 @@ class Platform:
 class Answered(unittest.TestCase):
     def talk(self, port_link, edition):
         """Says the printed lines of the terminal, and compares the answers with the printed ones."""
-        lines = [(mark, bytes.fromhex(digits.replace(" ", ""))) for mark, digits in printed()[edition]]
-        for (said, octets), (answered, expected) in zip(lines[::2], lines[1::2], strict=True):
+        every = lines(edition)
+        for (said, octets), (answered, expected) in zip(every[::2], every[1::2], strict=True):
             self.assertEqual((said, answered), (">", "<"))
             self.assertEqual(port_link.ask(octets).hex(), expected.hex())
 
