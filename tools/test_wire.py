@@ -124,7 +124,7 @@ def printed():
     """The lines that the document prints, by edition: a line that begins with `>` or `<`, and those indented behind it."""
     found, edition = {2013: [], 2019: []}, None
     for line in section("A terminal in ten lines").split("\n"):
-        if match := re.search(r"In (2013|2019)\b[^.]*:$", line):
+        if match := re.search(r"[Ii]n (2013|2019)\b.*:$", line):
             edition = int(match[1])
         elif match := re.match(r"    ([<>]) +([0-9a-f ]+)$", line):
             found[edition].append((match[1], match[2]))
