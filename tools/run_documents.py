@@ -18,8 +18,8 @@ there, until it ends or the document does. What it prints later is a block that 
 compared with all that the one of them that was started last has printed.
 
 Compared by pattern are the times of lines of events, tokens, ports of peers, and how long and how large something was (VARIES, below).
-Not run, with the reason, is what wants root, a network, a database, a kit or a browser (LEFT_OUT), and what wants a program that is not
-built. A line each; the last one is 'N ran, M differ'. Status 1 where one differs.
+Not run, with the reason, is what wants root, a network, a database, a kit or a browser (LEFT_OUT). What wants a program that is not built
+is not run either, and counts as differing. A line each; the last one is 'N ran, M differ'. Status 1 where one differs.
 """
 import os
 import pty
@@ -256,15 +256,14 @@ def furnish(folder, programs):
     os.chmod(f"{folder}/try", 0o755)
 
 
-def why_not(step, programs):
-    """Why a command is not run, or None."""
-    for pattern, why in LEFT_OUT:
-        if pattern.search(step.command):
-            return why
-    for name, pattern in NAMES_OF.items():
-        if name not in programs and pattern.search(step.command):
-            return f"{name} is not built"
-    return None
+def left_out(step):
+    """Why a command is never run, or None."""
+    return next((why for pattern, why in LEFT_OUT if pattern.search(step.command)), None)
+
+
+def not_built(step, programs):
+    """The program that a command wants and that is not built, or None."""
+    return next((name for name, pattern in NAMES_OF.items() if name not in programs and pattern.search(step.command)), None)
 
 
 class Run:
@@ -286,8 +285,8 @@ class Run:
     def later(self, step):
         """What the one that serves on and was started last printed since."""
         if not self.served:
-            # (what would have printed it was left out)
-            return self.say(step, "not run: what would print it was not run")
+            # (what would have printed it was not run)
+            return self.differs(step, [], "nothing serves on")
         self.ran += 1
         if self.served[-1].wait(step.lines):
             return self.say(step, "as printed, later")
@@ -325,8 +324,10 @@ class Run:
                 for step in found:
                     if step.command is None:
                         self.later(step)
-                    elif why := why_not(step, self.programs):
+                    elif why := left_out(step):
                         self.say(step, f"not run, {why}: {step.first()}")
+                    elif name := not_built(step, self.programs):
+                        self.differs(step, [], f"{name} is not built")
                     elif SERVES_ON.search(step.command):
                         self.serve(step, shell, words)
                     else:
@@ -367,7 +368,11 @@ def main():
     if given.list:
         for name, every in found:
             for step in every:
-                print(f"{name}:{step.line}: {(why_not(step, programs) or 'run') if step.command else 'compared, later'}: {step.first() if step.command else step.lines[-1]}")
+                if step.command is None:
+                    print(f"{name}:{step.line}: compared, later: {step.lines[-1]}")
+                else:
+                    why = left_out(step)
+                    print(f"{name}:{step.line}: {f'not run, {why}' if why else 'run'}: {step.first()}")
         return 0
     if not programs:
         raise command_line.Mistake("neither jt808 nor dewfelt is built: tools/build.py builds them, or name them by --jt808 and --dewfelt")
