@@ -309,6 +309,21 @@ class Platform:
             return [(int(n), bytes(body)) for n, body in base.execute("SELECT number, body FROM rows808 ORDER BY phone, number")]
 
 
+@contextlib.contextmanager
+def serving(fleet):
+    """The port of a `dewfelt serve` over this fleet, which is stopped in the end."""
+    with tempfile.TemporaryDirectory(prefix="test-wire-") as folder, contextlib.ExitStack() as end:
+        with open(f"{folder}/fleet", "w", encoding="ascii") as file:
+            file.write(f"secret {SECRET.hex()}\n{fleet}\n")
+        port = free_port()
+        words = [SERVICE, "serve", folder, "--listen", f"127.0.0.1:{port}", "--links", "10", "--http", "none"]
+        run = end.enter_context(subprocess.Popen(words, stdout=subprocess.DEVNULL))
+        end.callback(run.kill)
+        yield port
+        assert subprocess.run([SERVICE, "stop", folder], stdout=subprocess.DEVNULL).returncode == 0
+        assert run.wait() == 0
+
+
 @is_built
 class Answered(unittest.TestCase):
     def talk(self, port_link, edition):
@@ -332,18 +347,17 @@ class Answered(unittest.TestCase):
     @is_service
     def test_serve(self):
         for edition in (2013, 2019):
-            with self.subTest(edition), tempfile.TemporaryDirectory(prefix="test-wire-") as folder, contextlib.ExitStack() as end:
-                with open(f"{ROOT}/samples/fleet", "rb") as given, open(f"{folder}/fleet", "wb") as fleet:
-                    fleet.write(given.read())
-                port = free_port()
-                words = [SERVICE, "serve", folder, "--listen", f"127.0.0.1:{port}", "--links", "10", "--http", "none"]
-                run = end.enter_context(subprocess.Popen(words, stdout=subprocess.DEVNULL))
-                end.callback(run.kill)
-                link = Link(port)
+            with self.subTest(edition), serving(f"plate {PLATE.hex()}\nterminal {TERMINAL.hex()}") as port, contextlib.closing(Link(port)) as link:
                 self.talk(link, edition)
-                link.close()
-                self.assertEqual(subprocess.run([SERVICE, "stop", folder], stdout=subprocess.DEVNULL).returncode, 0)
-                self.assertEqual(run.wait(), 0)
+
+    @is_service
+    def test_a_line_vehicle_keeps_the_registration(self):
+        with serving(f"vehicle {PLATE.hex()} {TERMINAL.hex()} {DIGITS[2013]}") as port, contextlib.closing(Link(port)) as link:
+            lorry = Lorry(link)
+            said = authentication(2013, code(2013))
+            # registered from the start on, and behind a 0003
+            self.assertEqual([lorry.ack(0x0102, said), lorry.ack(0x0003), lorry.ack(0x0200, position(1))], [0, 0, 1])
+            self.assertEqual([lorry.ack(0x0102, said), lorry.ack(0x0200, position(1))], [0, 0])
 
 
 @is_built
