@@ -9,12 +9,14 @@ COMMAND = re.compile(r"^    (?:\$ )?(?:.*\| *)?(?:/\S+/)?(dewfelt|jt808|tools/\w
 LINK = re.compile(r"!?\[([^\]]*)\]\(([^)]*)\)")
 MARKED = re.compile(r"\*\*(.+?)\*\*|`([^`]+)`")
 ITEM = re.compile(r"(?:- |\d+\. )")
+# The line that leads to the manual in another language, which is no part of the page.
+OTHER_LANGUAGE = re.compile(r"^\[[^\]]*\]\(\S+\.zh-CN\.md\)\n+", re.M)
 
 
 def sections(manual):
     """What stands before the first section, and each section as (title, text)."""
     head, *found = re.split(r"^## ", manual, flags=re.M)
-    return head.partition("\n")[2].strip(), [tuple(it.split("\n", 1)) for it in found]
+    return OTHER_LANGUAGE.sub("", head.partition("\n")[2]).strip(), [tuple(it.split("\n", 1)) for it in found]
 
 
 def is_of(text, program):

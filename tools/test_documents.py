@@ -166,6 +166,10 @@ class Compare(unittest.TestCase):
             found.compare([compare_languages.read(name), compare_languages.read(name)])
             self.assertEqual(found.differ, 0)
 
+    def test_the_chinese_documents_have_what_the_english_ones_have(self):
+        ran = subprocess.run([sys.executable, f"{HERE}/compare_languages.py"], capture_output=True, text=True)
+        self.assertRegex(ran.stdout, r"^\d+ sections, \d+ tables, 0 differ\n$")
+
 
 if __name__ == "__main__":
     unittest.main()

@@ -13,6 +13,8 @@ import manual_pages  # noqa: E402
 
 MANUAL = """# Manual
 
+[In another language](MANUAL.zh-CN.md)
+
 For those who run it.
 
 ## serve
@@ -70,6 +72,7 @@ class Pages(unittest.TestCase):
                 self.assertIn(f'.SH "{title.upper()}"\n', page)
             for title in lacks:
                 self.assertNotIn(f'.SH "{title.upper()}"\n', page)
+            self.assertIn(".SH DESCRIPTION\n.PP\nFor those who run it.\n", page)
 
     def test_marks_and_links(self):
         self.assertEqual(manual_pages.inline("`a-b` is **so**, [there](x.md)"), "\\fBa\\-b\\fR is \\fBso\\fR, there")
