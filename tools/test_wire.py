@@ -412,7 +412,7 @@ class Doubled(unittest.TestCase):
         self.assertEqual(lorry.ack(0x0200, position(1), serial=2), 0)
         counts, rows = self.over(platform, lorry)
         self.assertEqual((counts["stored"], counts["repeat"], counts["renumbered"]), (1, 0, 2))
-        self.assertEqual(rows, [(2, position(1)), (131074, batch(position(1))), (262146, position(1))])
+        self.assertEqual(rows, [(2, position(1)), (65538, batch(position(1))), (131074, position(1))])
 
     def test_serials_that_begin_at_0_again(self):
         platform = self.tried(2)
