@@ -181,7 +181,7 @@ class Viewed(unittest.TestCase):
                 identity, length = int.from_bytes(whole[:2], "big"), int.from_bytes(whole[2:4], "big") & 1023
                 serial = int.from_bytes(whole[len(whole) - length - 2 : len(whole) - length], "big")
                 version = "" if edition == 2013 else " version=1"
-                head = f"{place} {edition} 0x{identity:04x} {self.NAMES[identity]}{version} phone={DIGITS[edition]} serial={serial} body={length}"
+                head = f"{place} {edition} 0x{identity:04x} {self.NAMES[identity]} phone={DIGITS[edition]} serial={serial}{version} body={length}"
                 self.assertEqual(line[: len(head)], head)
                 place += len(octets)
             self.assertIn("time=2026-11-28T06:30:00+08:00", said[6])
