@@ -181,7 +181,7 @@ class Viewed(unittest.TestCase):
                 identity, length = int.from_bytes(whole[:2], "big"), int.from_bytes(whole[2:4], "big") & 1023
                 serial = int.from_bytes(whole[len(whole) - length - 2 : len(whole) - length], "big")
                 version = "" if edition == 2013 else " version=1"
-                head = f"{place} {edition} 0x{identity:04x} {self.NAMES[identity]}{version} phone={DIGITS[edition]} serial={serial} body={length}"
+                head = f"{place} {edition} 0x{identity:04x} {self.NAMES[identity]} phone={DIGITS[edition]} serial={serial}{version} body={length}"
                 self.assertEqual(line[: len(head)], head)
                 place += len(octets)
             self.assertIn("time=2026-11-28T06:30:00+08:00", said[6])
@@ -412,7 +412,7 @@ class Doubled(unittest.TestCase):
         self.assertEqual(lorry.ack(0x0200, position(1), serial=2), 0)
         counts, rows = self.over(platform, lorry)
         self.assertEqual((counts["stored"], counts["repeat"], counts["renumbered"]), (1, 0, 2))
-        self.assertEqual(rows, [(2, position(1)), (131074, batch(position(1))), (262146, position(1))])
+        self.assertEqual(rows, [(2, position(1)), (65538, batch(position(1))), (131074, position(1))])
 
     def test_serials_that_begin_at_0_again(self):
         platform = self.tried(2)
@@ -422,12 +422,14 @@ class Doubled(unittest.TestCase):
         lorry.link.close()
         anew = Lorry(platform.link())
         anew.enter()
+        # a unit of before under its old serial is a repeat while no new one is stored
+        self.assertEqual(anew.ack(0x0200, position(3), serial=4), 0)
         # serial 2 with another fix, and 3 with another one: each is stored, the second is the next row behind the first
         self.assertEqual([anew.ack(0x0200, position(it)) for it in (11, 12)], [0, 0])
-        # a unit of before under its old serial: twice now
+        # the same unit now is stored twice
         self.assertEqual(anew.ack(0x0200, position(3), serial=4), 0)
         counts, rows = self.over(platform, anew)
-        self.assertEqual((counts["stored"], counts["repeat"], counts["renumbered"]), (5, 0, 1))
+        self.assertEqual((counts["stored"], counts["repeat"], counts["renumbered"]), (5, 1, 1))
         self.assertEqual([number for number, _ in rows], [2, 3, 4, 131074, 131075, 131076])
 
     def test_the_same_octets_under_the_same_serial_after_a_start_at_0(self):
