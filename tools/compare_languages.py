@@ -5,9 +5,10 @@
     tools/compare_languages.py ENGLISH CHINESE     two files, whole
 
 Compared are the headings (their levels, order and number), and in each section: the lines of its blocks of code but for their comments,
-the number of its tables and of their columns and rows, the words in `` of each cell of a table, those of the text, and where links and
-pictures lead. What one lacks is said with its file and line, a line each; the last line is 'N sections, N tables, N differ'. A link
-to a file in Chinese counts as one to the English file. Status 1 where one lacks something.
+the number of its tables and of their columns and rows, the words in `` and the figures of each cell of a table, those of the text, and
+where links and pictures lead. A figure is written in digits; those in `` and in links do not count. What one lacks is said with its file
+and line, a line each; the last line is 'N sections, N tables, N differ'. A link to a file in Chinese counts as one to the English file.
+Status 1 where one lacks something.
 """
 import difflib
 import os
@@ -22,6 +23,8 @@ import command_line  # noqa: E402
 PAIRS = [("README.md", "README.zh-CN.md", None), ("docs/MANUAL.md", "docs/MANUAL.zh-CN.md", "Run it")]
 CODE = re.compile(r"`([^`]+)`")
 LINK = re.compile(r"\]\(([^)\s]+)\)")
+WHOLE_LINK = re.compile(r"\[[^\]]*\]\([^)]*\)")
+FIGURE = re.compile(r"\d(?:[\d,.]*\d)?")
 HEADING = re.compile(r"(#+) +(.*?) *$")
 
 
@@ -38,7 +41,7 @@ class Section:
 
     def __init__(self, line, level, title):
         self.line, self.level, self.title = line, level, title
-        self.code, self.tables, self.words, self.links = [], [], set(), set()
+        self.code, self.tables, self.words, self.links, self.figures = [], [], set(), set(), set()
 
     def shape(self):
         """What of it is the same in each language: the level, the code, how large tables are."""
@@ -48,6 +51,11 @@ class Section:
 def cells(line):
     """The cells of a row. A `|` within `` ends none."""
     return [it.strip() for it in re.split(r"\|(?=(?:[^`]*`[^`]*`)*[^`]*$)", line.strip().removeprefix("|").removesuffix("|"))]
+
+
+def figures(text):
+    """The figures of a text, but for those in `` and in links."""
+    return set(FIGURE.findall(WHOLE_LINK.sub("", CODE.sub("", text))))
 
 
 def without_comment(line):
@@ -88,6 +96,7 @@ def sections(text):
             found.append(Section(number, len(heading[1]), heading[2]))
         else:
             now.words |= set(CODE.findall(line))
+            now.figures |= figures(line)
             now.links |= {leads(it) for it in LINK.findall(line)}
     return found
 
@@ -156,6 +165,8 @@ class Compared:
                 for side, have, other, line in ((0, cell, its, left.line), (1, its, cell, right.line)):
                     for word in sorted(set(CODE.findall(have)) - set(CODE.findall(other))):
                         self.lacks(side, line + at, f"`{word}` in column {column + 1}")
+                    for figure in sorted(figures(have) - figures(other)):
+                        self.lacks(side, line + at, f"{figure} in column {column + 1}")
 
     def section(self, both):
         self.sections += 1
@@ -167,6 +178,8 @@ class Compared:
         for side in (0, 1):
             for word in sorted(both[side].words - both[1 - side].words):
                 self.lacks(side, both[side].line, f"`{word}` in the section's text")
+            for figure in sorted(both[side].figures - both[1 - side].figures):
+                self.lacks(side, both[side].line, f"{figure} in the section's text")
             for link in sorted(both[side].links - both[1 - side].links):
                 self.lacks(side, both[side].line, f"a link to {link} in the section")
 

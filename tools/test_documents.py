@@ -108,7 +108,7 @@ class Run(unittest.TestCase):
 
 ENGLISH = """# Name
 
-Text with `one`.
+Text with `one`, of 1,024.
 
 ## Run
 
@@ -117,7 +117,7 @@ Text with `one`.
 
 | What | How |
 |---|---|
-| first | `--first` |
+| first | `--first`, 3 MB |
 | last | `--last`, `a|b` |
 
 ### Within
@@ -133,6 +133,8 @@ CHINESE = CHINESE.replace("OTHER.md#place", "OTHER.zh-CN.md#处")
 # A change of the Chinese text, and what is said of it.
 CHANGES = [
     ("`one`", "one", "`one` in the section's text: not in CHINESE"),
+    ("1,024", "1,025", "1,024 in the section's text: not in CHINESE"),
+    ("3 MB", "4 MB", "3 in column 2: not in CHINESE"),
     ("$ jt808 view ", "$ jt808 check ", "the line $ jt808 check: not in ENGLISH"),
     ("frames=1\n", "", "the line frames=1: not in CHINESE"),
     ("`--last`", "`--first`", "`--last` in column 2: not in CHINESE"),
