@@ -34,7 +34,7 @@ import unproved
 PROGRAMS = {"dewfelt": "a platform for JT/T 808 terminals", "jt808": "a viewer, terminal and platform for JT/T 808, for tests"}
 HOME, UNIT, WORDS_FILE = "/var/lib/dewfelt", "usr/lib/systemd/system/dewfelt.service", "etc/default/dewfelt"
 DOCUMENTS = "usr/share/doc/dewfelt"
-PACKED_DOCUMENTS = ("MANUAL", "WIRE", "PROMISES", "MEASURES")
+PACKED_DOCUMENTS = ("MANUAL", "MANUAL.zh-CN", "WIRE", "PROMISES", "MEASURES")
 # What the unit of samples/ says, and what that of the package says.
 CHANGES = (
     ("StateDirectory=dewfelt\n", "StateDirectory=dewfelt\nStateDirectoryMode=0750\nEnvironmentFile=-/etc/default/dewfelt\n"),
