@@ -6,7 +6,7 @@ use std::test::Fail;
 
 // One vehicle, one plate and one terminal id, in text and in digits, in all forms that lines have.
 const GOOD: &str =
-    "# a fleet\r\n\r\nsecret 3132\r\nplate d4c142313233343637\r\nterminal \"T 2\"\nvehicle \"粤B12345\" 31323334353637 013912345678\nvehicle 414203 \"T8\" 98765432109876543210\n  # the end";
+    "# a fleet\r\n\r\nsecret 3132\r\nplate d4c142313233343637\r\nterminal \"T 2\"\nvehicle \"粤B12345\" 31323334353637 013912345678\nvehicle 414203 \"K8\" 98765432109876543210\n  # the end";
 
 const FIRST: Phone = Phone {
     edition: Edition::E2019,
@@ -185,11 +185,11 @@ fn is_bound_to(fleet: &Fleet, phone: &Phone, plate: &[u8], terminal: &[u8]) -> b
 fn is_good(fleet: &Fleet) -> bool {
     fleet.secret() == b"12".as_slice()
         && is_bound_to(fleet, &FIRST, b"\xd4\xc1B12345", b"1234567")
-        && is_bound_to(fleet, &SECOND, b"AB\x03", b"T8")
+        && is_bound_to(fleet, &SECOND, b"AB\x03", b"K8")
         && fleet.has_plate(b"\xd4\xc1B123467")
         && !fleet.has_plate(b"\xd4\xc1B12345")
         && fleet.has_terminal(b"T 2")
-        && !fleet.has_terminal(b"T8")
+        && !fleet.has_terminal(b"K8")
         && fleet.counts() == (2, 1, 1)
 }
 
